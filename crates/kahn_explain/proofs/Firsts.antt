@@ -1,7 +1,6 @@
 -- The first value that needs one of an input.
-use Rattle.std.proofs.Common.{arith, ◌≡◌, ◌⊎◌, inl, inr, ℕ, ◌≤◌, ◌<◌, ◌+◌, subst, sym, ap, ◌∙◌, length, slice_get, slice_index_or, Some}
+use Rattle.std.proofs.Common.{arith, ◌≡◌, ◌⊎◌, inl, inr, ℕ, ◌≤◌, ◌<◌, ◌+◌, subst, ap, ◌∙◌, slice_index_or}
 use Rattle.std.proofs.lemmas.Bool.{cases_lt}
-use Rattle.std.proofs.lemmas.List.{length-map}
 use Rattle.std.proofs.lemmas.Option.{slice_get_within}
 use Rattle.kahn_streams.proofs.Proved.{prefix_get}
 use Rattle.kahn_streams.specs.Inputs.{Lists, inputs_of}
@@ -11,13 +10,14 @@ use Rattle.kahn_streams.specs.declared.tree.Program.{Program}
 use Rattle.kahn_streams.specs.declared.value.Line.{Line}
 use Rattle.kahn_streams.specs.declared.value.Line.TheVariants.{Channel, Print}
 use Rattle.kahn_streams.specs.declared.value.Value.{Value}
-use Rattle.kahn_needs.specs.Finding.{AreNeedsFound, IsSeeking, Seeking, cut_told, of_input}
-use Rattle.kahn_needs.specs.Needs.{AreNeeds, Cut}
+use Rattle.kahn_needs.specs.Finding.{AreNeedsFound, cut_told, of_input}
+use Rattle.kahn_needs.specs.Needs.{Cut}
 use Rattle.kahn_needs.specs.declared.needs.Found.{Found}
 use Rattle.kahn_needs.specs.declared.needs.Found.TheVariants as found
+use Rattle.kahn_needs.specs.declared.needs.Needs.{Needs}
 use Rattle.kahn_needs.proofs.Told.{one_cut, parts}
 use Rattle.kahn_needs.proofs.Ways.{get_there}
-use Rattle.kahn_explain.specs.Needing.{IsFirstNeeding, NeedsNot, values_on}
+use Rattle.kahn_explain.specs.Needing.{AreRows, IsFirstNeeding, NeedsNot}
 use Rattle.kahn_explain.specs.inner.Told.{EndsSearch}
 
 not_less : (a b : ℕ) → (a < b → ⊥) → b ≤ a
@@ -67,8 +67,14 @@ module _ (N : Network) (I : Inputs) (c : Line) (j k : ℕ) where
   first_is d found.Ring h ends before = none_behind d h before
   first_is d found.Bound h ends before = tt
 
--- what holds of a search holds of what it was begun with
-pub first_for : (t : Program) (i : Lists) (c d : Line) (j k : ℕ) (s : Seeking) (f : Found) → IsSeeking t i c 0 s
-    → IsFirstNeeding (network_of s.network) (inputs_of s.input) s.line d j k f → IsFirstNeeding (network_of t) (inputs_of i) c d j k f
-first_for t i c d j k s f (e, g, h, z) is =
-    subst (λ (x : Program × Lists × Line). IsFirstNeeding (network_of x.0) (inputs_of x.1) x.2 d j k f) (λ x. (e x, g x, h x)) is
+-- what holds for a network, an input and a line holds for the same ones
+pub same_search : {t s : Program} {i j : Lists} {c d : Line} (P : Network → Inputs → Line → Type 0) → s ≡ t → j ≡ i → d ≡ c → P (network_of s) (inputs_of j) d → P (network_of t) (inputs_of i) c
+same_search P e g h is = subst (λ (k : Program × Lists × Line). P (network_of k.0) (inputs_of k.1) k.2) (λ x. (e x, g x, h x)) is
+
+-- one place more with what is needed
+pub rows_more : (N : Network) (I : Inputs) (c : Line) (n : ℕ) (x : Needs) → AreRows N I c n → AreNeedsFound N I c n (found.Needs x) → AreRows N I c (n + 1)
+rows_more N I c n x rows is k l = by (cases_lt k n)
+  where
+    by : (k < n) ⊎ (n ≤ k) → (x : Needs) × AreNeedsFound N I c k (found.Needs x)
+    by (inl m) = rows k m
+    by (inr m) = (x, subst (λ i. AreNeedsFound N I c i (found.Needs x)) (omega (arith, l, m)) is)

@@ -23,15 +23,12 @@ use Rattle.kahn_explain.specs.declared.tracing.column.Column.{Column}
 use Rattle.kahn_explain.proofs.Begun.{history, kept_history}
 use Rattle.kahn_explain.proofs.Cells.{has_line, output_streamed}
 
--- the answer of such a run is right, and it has a stream and a count of each channel
+-- the answer of such a run is right, and it has a stream of each channel
 pub right_run : (t : Program) (lists : Lists) (config : Config) (x : Recorded) → IsRecordedRun t lists config x → IsRightRun t lists config x.answer
 right_run t lists config x (allowed, (w, watched, (right, counts, kept))) = (allowed, (w, watched, right))
 
 pub how_many : (t : Program) (x : Recorded) → IsRecord t x → length x.channels.items ≡ length (network_of t).channels
 how_many t x (lists, config, (allowed, (w, watched, (right, counts, kept)))) = kept.count
-
-pub how_many_counts : (t : Program) (x : Recorded) → IsRecord t x → length x.counts.items ≡ length (network_of t).channels
-how_many_counts t x (lists, config, (allowed, (w, watched, (right, counts, kept)))) = counts.count
 
 -- the column of an output
 pub output_line : (t : Program) (x : Recorded) (c : ℕ) → IsRecord t x → c < length (network_of t).channels → role_at (network_of t) c ≡ Output → HasLine x.answer (Channel c)

@@ -4,7 +4,6 @@ mod Firsts
 mod Kept_columns
 mod Most
 mod Parts
-mod Rowed
 mod Sheets
 mod Tables
 mod Worded

@@ -1,13 +1,9 @@
 -- Of which channel most values are left.
-use Rattle.std.proofs.Common.{arith, ◌≡◌, ◌⊎◌, inl, inr, ℕ, ◌+◌, ◌<◌, ◌≤◌, ◌==◌, false, List, Option, Some, None, refl, subst, sym}
+use Rattle.std.proofs.Common.{arith, ◌≡◌, ◌⊎◌, inl, inr, ℕ, ◌+◌, ◌<◌, ◌≤◌, List, Option, Some, None, subst}
 use Rattle.std.proofs.lemmas.Bool.{cases_lt}
-use Rattle.std.proofs.lemmas.Bool.Decides.{nat_tests}
 use Rattle.kahn_streams.specs.declared.tree.Program.{Program}
 use Rattle.kahn_sequential.specs.declared.counted.Count.{Count}
 use Rattle.kahn_explain.specs.Untaken.{HasLeft, IsFullest, left_of, most_left}
-
-pub not_one : (n : ℕ) → (n ≡ 1 → ⊥) → (n == 1) ≡ false
-not_one n h = grind (arith, nat_tests)
 
 module _ (t : Program) (ns : List Count) (n : ℕ) where
   -- all of n channels, and of one more

@@ -100,7 +100,7 @@ looked_out path program input strict it lists old new r on stands out =
 -- and which was run
 pub explained_out : (path program input : List ℕ) (config : Config) (strict : Bool) (it : Admitted) (lists : Lists) (x : Counted) (told : Finding) (words : List ℕ)
     (old mid new : Option (List ℕ)) (r : Result Came WorkFault) → IsAdmitted path program strict it → StandsFor it.network input lists → Appends old mid (string_bytes it.notes)
-    → IsCountedRun it.network lists config x → IsToldFor it.network x.answer x.counts.items told words → HasWritten words (Stopped told) mid new r
+    → IsCountedRun it.network lists config x → IsToldFor it.network x.answer told words → HasWritten words (Stopped told) mid new r
     → HasExplained path program input config strict old new r
 explained_out path program input config strict it lists x told words old mid new r on stands gone right is out =
     told_out path program input strict (IsToldOf path program input config strict) (AreNotesOfUnrun path program input config strict) (AreNotes path program input strict)

@@ -82,15 +82,15 @@ replies_of kind word path program input config strict notes x came =
 
 -- a table
 pub table_for : (counts : Bool) (word : List ℕ) (it : Admitted) (input : List ℕ) (config : Config) (r : Result Reply WorkFault)
-    → MatchResult r (IsTableMade counts it.network input config) (IsUntraced it.network input config)
+    → MatchResult r (IsTableMade it.network input config) (IsUntraced it.network input config)
     → MatchResult r (IsReplyFor (sheet.Table counts) word it input config) (IsUntraced it.network input config)
 unfolding replies_of
-table_for counts word it input config (Ok x) (run, told, said, (lists, stands, ran), is, why, came, words) = λ path program strict on.
+table_for counts word it input config (Ok x) (run, told, said, (lists, stands, ran), why, came, words) = λ path program strict on.
     subst (replies_of (sheet.Table counts) word path program input config strict (string_bytes it.notes) x) (sym came) (
       string_bytes it.notes,
       string_bytes x.words,
       are_allowed path program strict it on,
-      (it.network, lists, run, said, on.checked, stands, ran, is lists config ran, why, words),
+      (it.network, lists, run, said, on.checked, stands, ran, why, words),
       refl,
     )
 table_for counts word it input config (Err f) why = why

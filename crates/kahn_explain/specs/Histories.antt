@@ -1,12 +1,12 @@
--- Believed. The histories of all channels of a run: which columns there are, and what their values are; and how many values there were.
-use Rattle.std.specs.Prelude.{◌≡◌, ◌⊎◌, ℕ, Bool, true, false, zero, suc, List, [], ◌∷◌, ◌++◌, All, length, map}
+-- Believed. The histories of all channels of a run: which columns there are, and what their values are.
+use Rattle.std.specs.Prelude.{◌≡◌, ◌⊎◌, ℕ, zero, suc, List, [], ◌∷◌, ◌++◌, All, length, map}
 use Rattle.kahn_streams.specs.declared.config.Config.{Config}
 use Rattle.kahn_streams.specs.declared.tree.Program.{Program}
 use Rattle.kahn_streams.specs.declared.value.Line.{Line}
-use Rattle.kahn_streams.specs.Network.{Network, network_of}
+use Rattle.kahn_streams.specs.Network.{Network}
 use Rattle.kahn_streams.specs.declared.value.Line.TheVariants.{Channel}
 use Rattle.kahn_streams.specs.Solution.{Inputs, IsPrefix, IsWhole, iterate}
-use Rattle.kahn_streams.specs.Inputs.{Lists, inputs_of}
+use Rattle.kahn_streams.specs.Inputs.{Lists}
 use Rattle.kahn_streams.specs.Answers.{print_lines}
 use Rattle.kahn_streams.specs.declared.answer.Verdict.{Verdict}
 use Rattle.kahn_streams.specs.declared.answer.Verdict.TheVariants.{Finished}
@@ -17,7 +17,6 @@ use Rattle.kahn_texts.specs.Formats.{StandsFor}
 use Rattle.kahn_fault.specs.Work.{IsUnanswered}
 use Rattle.kahn_fault.specs.declared.work.WorkFault.{WorkFault}
 use Rattle.kahn_fault.specs.declared.work.WorkFault.TheVariants.{Run}
-use Rattle.kahn_explain.specs.Table.{AreCountRows, trace_text}
 use Rattle.kahn_explain.specs.declared.tracing.column.Column.{Column}
 
 abbrev pub column_line : Column → Line
@@ -44,11 +43,6 @@ pub record AreHistories (N : Network) (I : Inputs) (v : Verdict) (xs : List Colu
 -- the run of what a text stands for that keeps all that is sent
 abbrev pub IsRecordedFor : Program → List ℕ → Config → Recorded → Type 0
 IsRecordedFor t text config x = (lists : Lists) × StandsFor t text lists × IsRecordedRun t lists config x
-
--- the table of a run on these inputs: of the counts of its channels, or of the histories
-abbrev pub IsRunTable : Bool → Program → Lists → Recorded → List ℕ → Type 0
-IsRunTable true t lists x table = AreCountRows t x.counts.items (length x.counts.items) table
-IsRunTable false t lists x table = (xs : List Column) × AreHistories (network_of t) (inputs_of lists) x.answer.verdict xs × (table ≡ trace_text t xs)
 
 -- why there is no run: memory was wanted, or there is no answer
 abbrev pub IsUntraced : Program → List ℕ → Config → WorkFault → Type 0

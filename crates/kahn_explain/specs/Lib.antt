@@ -1,6 +1,5 @@
 pub mod Histories
 pub mod Needing
 pub mod Running
-pub mod Table
 pub mod Untaken
 pub mod inner

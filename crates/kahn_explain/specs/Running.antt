@@ -31,7 +31,6 @@ use Rattle.kahn_why.specs.declared.explaining.Came.{Came}
 use Rattle.kahn_why.specs.declared.explaining.Came.TheVariants.{Stopped, Refused}
 use Rattle.kahn_why.specs.declared.why.told.Finding.{Finding}
 use Rattle.kahn_why.specs.declared.why.told.Finding.TheVariants as told
-use Rattle.kahn_explain.specs.Histories.{IsRunTable}
 use Rattle.kahn_explain.specs.Needing.{AreNeedsTold, IsUnaskedOf}
 use Rattle.kahn_explain.specs.declared.pipe.Pipe.{Pipe}
 use Rattle.kahn_explain.specs.declared.replying.Sheet.{Sheet}
@@ -81,7 +80,7 @@ AreNotesOfUnrun path program input config strict f notes =
 -- why the run of these texts stopped, by its right answer and its counts
 abbrev pub IsExplanationOf : List ℕ → List ℕ → Config → Finding → List ℕ → Type 0
 IsExplanationOf program input config x text = (t : Program) × (lists : Lists) × (run : Counted) × IsChecked program t × StandsFor t input lists
-    × IsCountedRun t lists config run × IsToldFor t run.answer run.counts.items x text
+    × IsCountedRun t lists config run × IsToldFor t run.answer x text
 
 -- the notes and the explanation
 abbrev pub IsToldOf : List ℕ → List ℕ → List ℕ → Config → Bool → Finding → List ℕ → Type 0
@@ -112,16 +111,15 @@ beside (told.Stop Finished) text = []
 beside (told.Stop Bound) text = text
 beside (told.Stop Memory) text = text
 
--- the table of a run of these texts that keeps all that is sent, of the counts of its channels or of the histories, and why it stopped
-abbrev pub IsTableOf : Bool → List ℕ → List ℕ → Config → Finding → List ℕ → List ℕ → Type 0
-IsTableOf counts program input config x text more = (t : Program) × (lists : Lists) × (run : Recorded) × (words : List ℕ) × IsChecked program t
-    × StandsFor t input lists × IsRecordedRun t lists config run × IsRunTable counts t lists run text × IsToldFor t run.answer run.counts.items x words
-    × (more ≡ beside x words)
+-- beside the table of a run of these texts that keeps all that is sent: why it stopped
+abbrev pub IsTableOf : List ℕ → List ℕ → Config → Finding → List ℕ → Type 0
+IsTableOf program input config x more = (t : Program) × (lists : Lists) × (run : Recorded) × (words : List ℕ) × IsChecked program t
+    × StandsFor t input lists × IsRecordedRun t lists config run × IsToldFor t run.answer x words × (more ≡ beside x words)
 
--- what is told, and what beside it, of what is asked for
-abbrev pub IsSheet : Sheet → List ℕ → List ℕ → List ℕ → Config → Finding → List ℕ → List ℕ → Type 0
-IsSheet (sheet.Table counts) word program input config x text more = IsTableOf counts program input config x text more
-IsSheet (sheet.Needs wakes) word program input config x text more = AreNeedsTold wakes word program input config x text × (more ≡ [])
+-- what is told beside what is asked for
+abbrev pub IsSheet : Sheet → List ℕ → List ℕ → List ℕ → Config → Finding → List ℕ → Type 0
+IsSheet (sheet.Table counts) word program input config x more = IsTableOf program input config x more
+IsSheet (sheet.Needs wakes) word program input config x more = AreNeedsTold wakes word program input config x × (more ≡ [])
 
 -- or it asks for nothing
 abbrev pub IsNoSheet : Sheet → List ℕ → List ℕ → Type 0
@@ -131,7 +129,7 @@ IsNoSheet (sheet.Needs wakes) word program = IsUnaskedOf wakes word program
 -- what goes out, and beside it with the notes; or there why the program text or the word is refused
 abbrev pub Replies : Sheet → List ℕ → List ℕ → List ℕ → List ℕ → Config → Bool → Came → List ℕ → List ℕ → Type 0
 Replies kind word path program input config strict (Stopped x) text more =
-    (notes words : List ℕ) × AreAllowed path program strict notes × IsSheet kind word program input config x text words × (more ≡ notes ++ words)
+    (notes words : List ℕ) × AreAllowed path program strict notes × IsSheet kind word program input config x words × (more ≡ notes ++ words)
 Replies kind word path program input config strict Refused text more = (text ≡ []) × (IsRefusedFor path program strict more ⊎ IsNoSheet kind word program)
 
 -- one writer broke off in its text

@@ -54,7 +54,7 @@ pub(crate) fn told_of(
     all: bool,
 ) -> Result<(Finding, String), NoMemory>
     requires { AreStandings (network_of network.now) (standings_of answer.now) }
-    ensures { IfOk result (λ r. IsToldFor network.now answer.now counts.now r.0 (string_bytes r.1)) }
+    ensures { IfOk result (λ r. IsToldFor network.now answer.now r.0 (string_bytes r.1)) }
 {
     let explanation = explanation_of(alloc, path, program, network, input, answer, all)?;
     let line = untaken_line(alloc, network, answer.verdict, counts)?;

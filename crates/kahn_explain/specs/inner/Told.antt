@@ -1,28 +1,22 @@
 -- Inner. What the parts of explaining, of a sheet and of a reply do.
-use Rattle.std.specs.Prelude.{◌≡◌, ◌⊎◌, ◌<◌, ◌++◌, ⊤, ℕ, Bool, false, List, [], Option, Some, None, Result, Ok, Err, slice_index_or, string_bytes}
+use Rattle.std.specs.Prelude.{◌≡◌, ◌⊎◌, ◌<◌, ◌++◌, ⊤, ℕ, Bool, List, [], Option, Some, None, Result, Ok, Err, slice_index_or, string_bytes}
 use Rattle.std.specs.Io.KnownBytes.{Appends}
-use Rattle.std.specs.declared.alloc.Global.{Global}
-use Rattle.std.specs.declared.string.String.{String}
 use Rattle.kahn_fault.specs.declared.work.WorkFault.{WorkFault}
 use Rattle.kahn_fault.specs.declared.work.WorkFault.TheVariants.{Write}
-use Rattle.kahn_streams.specs.Inputs.{Lists}
-use Rattle.kahn_streams.specs.Solution.{Inputs}
 use Rattle.kahn_streams.specs.declared.value.Line.{Line}
-use Rattle.kahn_streams.specs.declared.answer.Verdict.{Verdict}
 use Rattle.kahn_streams.specs.declared.config.Config.{Config}
 use Rattle.kahn_streams.specs.declared.tree.Program.{Program}
 use Rattle.kahn_texts.specs.declared.bytes.WriteFault.{WriteFault}
 use Rattle.kahn_needs.specs.declared.needs.Found.{Found}
 use Rattle.kahn_needs.specs.declared.needs.Found.TheVariants as found
-use Rattle.kahn_sequential.specs.Recordings.{IsRecordedRun}
 use Rattle.kahn_sequential.specs.declared.recorded.Recorded.{Recorded}
 use Rattle.kahn_why.specs.inner.Told.{IsAdmitted}
 use Rattle.kahn_why.specs.declared.explaining.Admitted.{Admitted}
 use Rattle.kahn_why.specs.declared.explaining.Came.{Came}
 use Rattle.kahn_why.specs.declared.explaining.Came.TheVariants.{Stopped, Refused}
 use Rattle.kahn_why.specs.declared.why.told.Finding.{Finding}
-use Rattle.kahn_explain.specs.Histories.{IsRecordedFor, IsRunTable}
-use Rattle.kahn_explain.specs.Needing.{IsAskable, IsFirstTold, IsPlaceGiven, values_on}
+use Rattle.kahn_explain.specs.Histories.{IsRecordedFor}
+use Rattle.kahn_explain.specs.Needing.{IsPlaceGiven, values_on}
 use Rattle.kahn_explain.specs.Running.{BreaksOff, HasExplained, HasLooked, Replies, beside}
 use Rattle.kahn_explain.specs.Untaken.{IsToldFor}
 use Rattle.kahn_explain.specs.declared.replying.Reply.{Reply}
@@ -37,14 +31,10 @@ HasLookedOn x input old new r = (path program : List ℕ) (strict : Bool) → Is
 
 -- ---- sheets
 
--- the table of a run, whatever it was run on
-abbrev pub IsTableFor : Bool → Program → Recorded → List ℕ → Type 0
-IsTableFor counts t run table = (lists : Lists) (config : Config) → IsRecordedRun t lists config run → IsRunTable counts t lists run table
-
 -- a table, and why its run stopped
-abbrev pub IsTableMade : Bool → Program → List ℕ → Config → Reply → Type 0
-IsTableMade counts t text config x = (run : Recorded) × (told : Finding) × (words : List ℕ) × IsRecordedFor t text config run
-    × IsTableFor counts t run (string_bytes x.text) × IsToldFor t run.answer run.counts.items told words × (x.came ≡ Stopped told) × (string_bytes x.words ≡ beside told words)
+abbrev pub IsTableMade : Program → List ℕ → Config → Reply → Type 0
+IsTableMade t text config x = (run : Recorded) × (told : Finding) × (words : List ℕ) × IsRecordedFor t text config run
+    × IsToldFor t run.answer told words × (x.came ≡ Stopped told) × (string_bytes x.words ≡ beside told words)
 
 -- why a word asks for nothing
 abbrev pub IsNoReply : Reply → Type 0
@@ -70,22 +60,10 @@ HasPut notes x out made old new r = ((r ≡ Ok x.came) × Appends out made (stri
 
 -- ---- what values need
 
--- what is told, and how its search ended
-abbrev pub IsReplyIn : (List ℕ → Verdict → Type 0) → String Global × Verdict → Type 0
-IsReplyIn P r = P (string_bytes r.0) r.1
-
 -- the place that a word gives, or that it gives none
 abbrev pub IsGivenAs : Option (List ℕ) → Option (Option ℕ) → Type 0
 IsGivenAs word None = (k : Option ℕ) → IsPlaceGiven word k → ⊥
 IsGivenAs word (Some k) = IsPlaceGiven word k
-
--- a text of which that is true came behind another one
-abbrev pub IsAdded : (List ℕ → Type 0) → List ℕ → List ℕ → Type 0
-IsAdded P old new = (more : List ℕ) × P more × (new ≡ old ++ more)
-
--- what is told of a line that an instance sends came behind
-abbrev pub IsFirstAdded : Program → Recorded → Inputs → Line → ℕ → Line → List ℕ → List ℕ → Verdict → Type 0
-IsFirstAdded t x I d j c old new v = IsAdded (λ more. IsAskable false t c → IsFirstTold t x I d j c more v) old new
 
 -- the search for the first value that needs that at place j of line d ends with what was found
 abbrev pub EndsSearch : Line → ℕ → Found → Type 0

@@ -7,11 +7,10 @@ ghost use Rattle.kahn_streams.specs.Solution.{source};
 ghost use Rattle.kahn_needs.specs.Finding.{AreNeedsFound, IsNetworkLine};
 ghost use Rattle.kahn_explain.specs.Histories.{IsUntraced};
 ghost use Rattle.kahn_explain.specs.Needing.{IsAskable, IsPlaceTold, IsReply, IsTableTold};
-ghost use Rattle.kahn_explain.specs.inner.Told.{IsReplyIn};
 
 use crate::needing::asked::Question;
 use crate::needing::rows::table_of;
-use crate::needing::texts::{found_end, found_text};
+use crate::needing::texts::{add_found, found_end};
 use crate::needing::waking::firsts;
 use crate::tracing::recorded;
 use kahn_code::CodeFault;
@@ -49,7 +48,7 @@ fn place_told(
 ) -> Result<(String, Verdict), WorkFault>
     requires line { IsNetworkLine (network_of network.now) line }
     requires written { source (network_of network.now) line ≡ Given → ⊥ }
-    ensures { MatchResult result (IsReplyIn (IsPlaceTold network.now text.now config line place)) (IsUntraced network.now text.now config) }
+    ensures { MatchResult result (λ r. IsPlaceTold network.now text.now line place r.1) (IsUntraced network.now text.now config) }
 {
     let bound = config.bound;
     let kept = recorded(alloc, network, text, config)?;
@@ -57,11 +56,11 @@ fn place_told(
     let Ok(found) = found_at(alloc, network, &input, line, place, bound) else {
         return Err(WorkFault::Run(RunFault::NoMemory));
     };
-    let Ok(text) = found_text(alloc, network, &kept, line, place, &found) else {
-        return Err(WorkFault::Run(RunFault::NoMemory));
-    };
-    let end = found_end(&found);
-    Ok((text, end))
+    let mut words = String::new(alloc);
+    match add_found(alloc, &mut words, network, &kept, line, place, &found) {
+        Ok(_) => Ok((words, found_end(&found))),
+        Err(_) => Err(WorkFault::Run(RunFault::NoMemory)),
+    }
 }
 
 /// The table of a line.
@@ -74,7 +73,7 @@ fn table_told(
 ) -> Result<(String, Verdict), WorkFault>
     requires line { IsNetworkLine (network_of network.now) line }
     requires written { source (network_of network.now) line ≡ Given → ⊥ }
-    ensures { MatchResult result (IsReplyIn (IsTableTold network.now text.now line)) (IsUntraced network.now text.now config) }
+    ensures { MatchResult result (λ r. IsTableTold network.now text.now line r.1) (IsUntraced network.now text.now config) }
 {
     let input = read_input(alloc, text, network)?;
     match table_of(alloc, network, &input, line, config.bound) {
@@ -93,7 +92,7 @@ fn needs_told(
 ) -> Result<(String, Verdict), WorkFault>
     requires line { IsNetworkLine (network_of network.now) question.line }
     requires written { source (network_of network.now) question.line ≡ Given → ⊥ }
-    ensures { MatchResult result (IsReplyIn (IsReply false network.now text.now config question.line question.place)) (IsUntraced network.now text.now config) }
+    ensures { MatchResult result (λ r. IsReply false network.now text.now config question.line question.place r.1) (IsUntraced network.now text.now config) }
 {
     match question.place {
         Some(place) => place_told(alloc, network, text, config, question.line, place),
@@ -110,7 +109,7 @@ fn firsts_told(
     question: Question,
 ) -> Result<(String, Verdict), WorkFault>
     requires { source (network_of network.now) question.line ≡ Given }
-    ensures { MatchResult result (IsReplyIn (IsReply true network.now text.now config question.line question.place)) (IsUntraced network.now text.now config) }
+    ensures { MatchResult result (λ r. IsReply true network.now text.now config question.line question.place r.1) (IsUntraced network.now text.now config) }
 {
     let bound = config.bound;
     let kept = recorded(alloc, network, text, config)?;
@@ -133,7 +132,7 @@ pub(crate) fn replied(
 ) -> Result<(String, Verdict), WorkFault>
     requires line { IsNetworkLine (network_of network.now) question.line }
     requires askable { IsAskable wakes network.now question.line }
-    ensures { MatchResult result (IsReplyIn (IsReply wakes network.now text.now config question.line question.place)) (IsUntraced network.now text.now config) }
+    ensures { MatchResult result (λ r. IsReply wakes network.now text.now config question.line question.place r.1) (IsUntraced network.now text.now config) }
 {
     if wakes {
         return firsts_told(alloc, network, text, config, question);

@@ -1,10 +1,11 @@
 //! The table of what the values of a line need: a row for each place.
 
-ghost use Rattle.std.specs.Prelude.{◌≡◌, ◌++◌, IfOk, string_bytes};
+ghost use Rattle.std.specs.Prelude.{◌≡◌, IfOk};
+ghost use Rattle.kahn_streams.specs.Inputs.{inputs_of};
 ghost use Rattle.kahn_streams.specs.Network.{Given, network_of};
 ghost use Rattle.kahn_streams.specs.Solution.{source};
 ghost use Rattle.kahn_needs.specs.Finding.{IsNetworkLine};
-ghost use Rattle.kahn_explain.specs.Needing.{IsNeedsTable, name_heads, needs_head, needs_row};
+ghost use Rattle.kahn_explain.specs.Needing.{AreAllNeeds};
 
 use crate::tracing::{add_name, add_numbers, add_value};
 use itoa::Buffer;
@@ -19,9 +20,7 @@ fn add_heads(
     network: &Network,
     channels: bool,
     count: usize,
-) -> Result<(), AllocError>
-    ensures { IfOk result (λ _. string_bytes text.new ≡ string_bytes text.old ++ name_heads network.now channels count) }
-{
+) -> Result<(), AllocError> {
     for number in 0..count {
         text.push_str(",")?;
         add_name(text, network, channels, number)?;
@@ -30,9 +29,7 @@ fn add_heads(
 }
 
 /// The row that heads the columns.
-fn needs_head(alloc: Global, network: &Network) -> Result<String, AllocError>
-    ensures { IfOk result (λ text. string_bytes text ≡ needs_head network.now) }
-{
+fn needs_head(alloc: Global, network: &Network) -> Result<String, AllocError> {
     let mut text = String::from_str(alloc, "place,value")?;
     add_heads(&mut text, network, true, network.channels())?;
     add_heads(&mut text, network, false, network.instances())?;
@@ -41,9 +38,7 @@ fn needs_head(alloc: Global, network: &Network) -> Result<String, AllocError>
 }
 
 /// Adds the row of a place.
-fn add_row(text: &mut String, place: u64, needs: &Needs) -> Result<(), AllocError>
-    ensures { IfOk result (λ _. string_bytes text.new ≡ string_bytes text.old ++ needs_row place needs.now) }
-{
+fn add_row(text: &mut String, place: u64, needs: &Needs) -> Result<(), AllocError> {
     let mut digits = Buffer::new();
     text.push_str(digits.format(place as u128 + 1))?;
     text.push_str(",")?;
@@ -55,9 +50,8 @@ fn add_row(text: &mut String, place: u64, needs: &Needs) -> Result<(), AllocErro
 
 /// Adds the rows of a line up to its end or to the bound, and tells which.
 fn add_rows(alloc: Global, text: &mut String, seeker: &mut Seeker<'_>) -> Result<Found, CodeFault>
-    requires first { seeker.old.next ≡ 0 }
-    requires head { string_bytes text.old ≡ needs_head seeker.old.network }
-    ensures { IfOk result (IsNeedsTable seeker.old.network seeker.old.input seeker.old.line (string_bytes text.new)) }
+    requires { seeker.old.next ≡ 0 }
+    ensures { IfOk result (AreAllNeeds (network_of seeker.old.network) (inputs_of seeker.old.input) seeker.old.line) }
 {
     for place in 0..u64::MAX {
         let found = seeker.find(alloc, place)?;
@@ -81,7 +75,7 @@ pub(crate) fn table_of(
 ) -> Result<(String, Found), CodeFault>
     requires line { IsNetworkLine (network_of network.now) line }
     requires written { source (network_of network.now) line ≡ Given → ⊥ }
-    ensures { IfOk result (λ r. IsNeedsTable network.now input.now line (string_bytes r.0) r.1) }
+    ensures { IfOk result (λ r. AreAllNeeds (network_of network.now) (inputs_of input.now) line r.1) }
 {
     let mut text = needs_head(alloc, network)?;
     let mut seeker = Seeker::new(alloc, network, input, line, bound)?;

@@ -1,13 +1,13 @@
 //! The first value of each stream that needs a value of an input.
 
-ghost use Rattle.std.specs.Prelude.{◌≡◌, ◌↔◌, true, IfOk, length, slice_index_or, string_bytes};
+ghost use Rattle.std.specs.Prelude.{◌≡◌, ◌↔◌, true, IfOk, length, slice_index_or};
 ghost use Rattle.kahn_streams.specs.Inputs.{inputs_of};
 ghost use Rattle.kahn_streams.specs.Network.{Given, network_of};
 ghost use Rattle.kahn_streams.specs.Solution.{source};
 ghost use Rattle.kahn_needs.specs.Finding.{IsNetworkLine};
-ghost use Rattle.kahn_explain.specs.Needing.{AreFirstsTold, IsFirstNeeding, values_on, worse};
+ghost use Rattle.kahn_explain.specs.Needing.{AreFirstEnds, IsFirstEnd, IsFirstNeeding, values_on, worse};
 ghost use Rattle.kahn_explain.specs.inner.Columns.{IsRecord};
-ghost use Rattle.kahn_explain.specs.inner.Told.{EndsSearch, IsFirstAdded};
+ghost use Rattle.kahn_explain.specs.inner.Told.{EndsSearch};
 
 use crate::needing::asked::is_given;
 use crate::needing::texts::{add_first, found_end};
@@ -87,7 +87,7 @@ fn add_line(
 ) -> Result<Verdict, CodeFault>
     requires line { IsNetworkLine (network_of network.now) line }
     requires given { source (network_of network.now) input ≡ Given }
-    ensures { IfOk result (IsFirstAdded network.now run.now (inputs_of lists.now) input place line (string_bytes text.old) (string_bytes text.new)) }
+    ensures { IfOk result (IsFirstEnd (network_of network.now) (inputs_of lists.now) input place line) }
 {
     if is_given(network, line) {
         return Ok(Verdict::Finished);
@@ -110,7 +110,7 @@ pub(crate) fn firsts(
 ) -> Result<(String, Verdict), CodeFault>
     requires run { IsRecord network.now run.now }
     requires given { source (network_of network.now) input ≡ Given }
-    ensures { IfOk result (λ r. AreFirstsTold network.now run.now (inputs_of lists.now) input place (length run.now.answer.streams.items) (string_bytes r.0) r.1) }
+    ensures { IfOk result (λ r. AreFirstEnds (network_of network.now) run.now (inputs_of lists.now) input place (length run.now.answer.streams.items) r.1) }
 {
     let mut text = String::new(alloc);
     let mut verdict = Verdict::Finished;

@@ -1,9 +1,5 @@
 //! The text of a table of histories: a column for each line, and a row for each place.
 
-ghost use Rattle.std.specs.Prelude.{◌≡◌, ◌++◌, IfOk, string_bytes};
-ghost use Rattle.kahn_streams.specs.Written.{value_text};
-ghost use Rattle.kahn_explain.specs.Table.{cell, cell_text, cells, cells_text, head_text, heads_text, longest, name_at, row_text, place_rows, trace_text};
-
 use crate::tracing::column::Column;
 use itoa::Buffer;
 use kahn_marks::add;
@@ -12,17 +8,13 @@ use kahn_texts::{channel_name, process_name};
 use std::alloc::{AllocError, Global};
 
 /// Adds a number behind a comma.
-fn add_number(text: &mut String, number: u64) -> Result<(), AllocError>
-    ensures { IfOk result (λ _. string_bytes text.new ≡ string_bytes text.old ++ cell number) }
-{
+fn add_number(text: &mut String, number: u64) -> Result<(), AllocError> {
     let mut digits = Buffer::new();
     add(text, &[",", digits.format(number)])
 }
 
 /// Adds numbers, each behind a comma.
-pub(crate) fn add_numbers(text: &mut String, numbers: &[u64]) -> Result<(), AllocError>
-    ensures { IfOk result (λ _. string_bytes text.new ≡ string_bytes text.old ++ cells numbers.now) }
-{
+pub(crate) fn add_numbers(text: &mut String, numbers: &[u64]) -> Result<(), AllocError> {
     for number in numbers {
         add_number(text, *number)?;
     }
@@ -35,9 +27,7 @@ pub(crate) fn add_name(
     network: &Network,
     channels: bool,
     number: usize,
-) -> Result<(), AllocError>
-    ensures { IfOk result (λ _. string_bytes text.new ≡ string_bytes text.old ++ name_at network.now channels number) }
-{
+) -> Result<(), AllocError> {
     if channels {
         return text.push_str(channel_name(network, number));
     }
@@ -53,9 +43,7 @@ pub(crate) fn add_name(
 }
 
 /// Adds what heads the column of a line.
-fn add_head(text: &mut String, network: &Network, line: Line) -> Result<(), AllocError>
-    ensures { IfOk result (λ _. string_bytes text.new ≡ string_bytes text.old ++ head_text network.now line) }
-{
+fn add_head(text: &mut String, network: &Network, line: Line) -> Result<(), AllocError> {
     match line {
         Line::Channel(channel) => {
             text.push_str(",")?;
@@ -69,9 +57,7 @@ fn add_head(text: &mut String, network: &Network, line: Line) -> Result<(), Allo
 }
 
 /// Adds what heads the columns.
-fn add_heads(text: &mut String, network: &Network, columns: &[Column]) -> Result<(), AllocError>
-    ensures { IfOk result (λ _. string_bytes text.new ≡ string_bytes text.old ++ heads_text network.now columns.now) }
-{
+fn add_heads(text: &mut String, network: &Network, columns: &[Column]) -> Result<(), AllocError> {
     for column in columns {
         add_head(text, network, column.line)?;
     }
@@ -79,9 +65,7 @@ fn add_heads(text: &mut String, network: &Network, columns: &[Column]) -> Result
 }
 
 /// Adds a value as it is printed.
-pub(crate) fn add_value(text: &mut String, value: Value) -> Result<(), AllocError>
-    ensures { IfOk result (λ _. string_bytes text.new ≡ string_bytes text.old ++ value_text value) }
-{
+pub(crate) fn add_value(text: &mut String, value: Value) -> Result<(), AllocError> {
     let mut buffer = Buffer::new();
     match value {
         Value::Integer(number) => text.push_str(buffer.format(number)),
@@ -91,9 +75,7 @@ pub(crate) fn add_value(text: &mut String, value: Value) -> Result<(), AllocErro
 }
 
 /// Adds the value of a column at a place, or nothing past its last.
-fn add_cell(text: &mut String, column: &Column, place: usize) -> Result<(), AllocError>
-    ensures { IfOk result (λ _. string_bytes text.new ≡ string_bytes text.old ++ cell_text place column.now) }
-{
+fn add_cell(text: &mut String, column: &Column, place: usize) -> Result<(), AllocError> {
     text.push_str(",")?;
     match column.values.get(place) {
         Some(value) => add_value(text, *value),
@@ -102,9 +84,7 @@ fn add_cell(text: &mut String, column: &Column, place: usize) -> Result<(), Allo
 }
 
 /// Adds the values of the columns at a place.
-fn add_cells(text: &mut String, columns: &[Column], place: usize) -> Result<(), AllocError>
-    ensures { IfOk result (λ _. string_bytes text.new ≡ string_bytes text.old ++ cells_text place columns.now) }
-{
+fn add_cells(text: &mut String, columns: &[Column], place: usize) -> Result<(), AllocError> {
     for column in columns {
         add_cell(text, column, place)?;
     }
@@ -112,9 +92,7 @@ fn add_cells(text: &mut String, columns: &[Column], place: usize) -> Result<(), 
 }
 
 /// Adds the row of a place, which is counted from 1.
-fn add_row(text: &mut String, columns: &[Column], place: usize) -> Result<(), AllocError>
-    ensures { IfOk result (λ _. string_bytes text.new ≡ string_bytes text.old ++ row_text columns.now place) }
-{
+fn add_row(text: &mut String, columns: &[Column], place: usize) -> Result<(), AllocError> {
     let mut buffer = Buffer::new();
     text.push_str(buffer.format(place as u128 + 1))?;
     add_cells(text, columns, place)?;
@@ -122,9 +100,7 @@ fn add_row(text: &mut String, columns: &[Column], place: usize) -> Result<(), Al
 }
 
 /// Adds the rows of the first so many places.
-fn add_rows(text: &mut String, columns: &[Column], places: usize) -> Result<(), AllocError>
-    ensures { IfOk result (λ _. string_bytes text.new ≡ string_bytes text.old ++ place_rows columns.now places) }
-{
+fn add_rows(text: &mut String, columns: &[Column], places: usize) -> Result<(), AllocError> {
     for place in 0..places {
         add_row(text, columns, place)?;
     }
@@ -132,9 +108,7 @@ fn add_rows(text: &mut String, columns: &[Column], places: usize) -> Result<(), 
 }
 
 /// How many values the longest column has.
-fn longest(columns: &[Column]) -> usize
-    ensures { result ≡ longest columns.now }
-{
+fn longest(columns: &[Column]) -> usize {
     let mut most = 0;
     for column in columns {
         most = most.max(column.values.len());
@@ -149,9 +123,7 @@ pub fn trace_text(
     alloc: Global,
     network: &Network,
     columns: &[Column],
-) -> Result<String, AllocError>
-    ensures { IfOk result (λ text. string_bytes text ≡ trace_text network.now columns.now) }
-{
+) -> Result<String, AllocError> {
     let mut text = String::from_str(alloc, "place")?;
     add_heads(&mut text, network, columns)?;
     text.push_str("\n")?;

@@ -1,7 +1,6 @@
-use Rattle.std.proofs.Common.{[], inr, refl, string_bytes, subst}
+use Rattle.std.proofs.Common.{[], inr, refl, string_bytes}
 use Rattle.kahn_why.proofs.Parts.{broke_off, went_out}
 use Rattle.kahn_explain.proofs.Parts.{counted_right, explained_out, notes_before, unexplained, unfed, unrun}
-use Rattle.kahn_explain.specs.Untaken.{IsToldFor}
 use Rattle.kahn_why.proofs.Right_ends.{answered}
 use Rattle.kahn_explain.proofs.explaining.explain_run.Goals as goal
 
@@ -39,4 +38,4 @@ pub returns : goal.returns
 returns g c strict on =
     explained_out c.args.path.now c.args.program.now c.args.input.now c.args.config strict c.args.it.now c.in-Ok.lists c.in-Ok-run_counted.run' c.in-Ok-told_of.told (string_bytes c.in-Ok-told_of.text)
     _ _ _ _ on c.in-Ok.ensures.read (went_out _ _ [] (string_bytes c.args.it.now.notes) (rw c.as_bytes.ensures.value at c.in_default.ensures)) c.in-Ok-run_counted.ensures.told
-    (subst (λ ns. IsToldFor c.args.it.now.network c.in-Ok-run_counted.run'.answer ns c.in-Ok-told_of.told (string_bytes c.in-Ok-told_of.text)) c.deref.ensures.value c.in-Ok-told_of.ensures) (rw c.as_str.ensures.value at c.write_both.ensures)
+    c.in-Ok-told_of.ensures (rw c.as_str.ensures.value at c.write_both.ensures)

@@ -9,6 +9,5 @@ returns c = (
   string_bytes c.in_ok-line.line,
   c.in_ok-explanation.ensures,
   refl,
-  c.in_ok-line.ensures,
   c.in_ok-text.ensures ∙ ap₂ (λ line text. put_line line (parted 10 text)) c.as_str-2.ensures.value c.as_str.ensures.value,
 )

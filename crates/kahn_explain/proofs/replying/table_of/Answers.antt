@@ -1,6 +1,5 @@
-use Rattle.std.proofs.Common.{refl, string_bytes, subst}
+use Rattle.std.proofs.Common.{refl, string_bytes}
 use Rattle.kahn_explain.proofs.Kept_columns.{right_run}
-use Rattle.kahn_explain.specs.Untaken.{IsToldFor}
 use Rattle.kahn_why.proofs.Right_ends.{answered}
 use Rattle.kahn_explain.proofs.replying.table_of.Goals as goal
 
@@ -19,8 +18,7 @@ returns c = (
   c.in-Ok-told_of.told,
   string_bytes c.in-Ok-told_of.words,
   c.in_ok-kept.ensures,
-  c.in-Ok.ensures,
-  subst (λ ns. IsToldFor c.args.network.now c.in_ok-kept.kept.answer ns c.in-Ok-told_of.told (string_bytes c.in-Ok-told_of.words)) c.deref.ensures.value c.in-Ok-told_of.ensures,
+  c.in-Ok-told_of.ensures,
   refl,
   c.beside.ensures,
 )

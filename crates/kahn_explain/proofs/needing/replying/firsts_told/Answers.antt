@@ -1,6 +1,7 @@
-use Rattle.std.proofs.Common.{length, string_bytes, subst}
+use Rattle.std.proofs.Common.{length, subst}
 use Rattle.kahn_streams.specs.Inputs.{inputs_of}
-use Rattle.kahn_explain.specs.Needing.{AreFirstsTold}
+use Rattle.kahn_streams.specs.Network.{network_of}
+use Rattle.kahn_explain.specs.Needing.{AreFirstEnds}
 use Rattle.kahn_explain.proofs.needing.replying.firsts_told.Goals as goal
 
 pub firsts-requires-clause-run : goal.firsts-requires-clause-run
@@ -9,11 +10,10 @@ firsts-requires-clause-run c = let ran = c.in_ok-kept.ensures in (ran.0, c.args.
 pub returns-in-Ok : goal.returns-in-Ok
 returns-in-Ok c =
     let run = c.in_ok-kept.kept in
-    let told = c.in-Ok.told in (
+    let lists = c.in_ok-lists.lists in (
       run,
-      c.in_ok-lists.lists,
+      lists,
       c.in_ok-kept.ensures,
       c.in_ok-lists.ensures.read,
-      subst (λ j. AreFirstsTold c.args.network.now run (inputs_of c.in_ok-lists.lists) c.args.question.line j (length run.answer.streams.items) (string_bytes told.0) told.1)
-          c.unwrap_or-place.ensures c.in-Ok.ensures,
+      subst (λ j. AreFirstEnds (network_of c.args.network.now) run (inputs_of lists) c.args.question.line j (length run.answer.streams.items) c.in-Ok.told.1) c.unwrap_or-place.ensures c.in-Ok.ensures,
     )

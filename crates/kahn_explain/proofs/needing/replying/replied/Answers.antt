@@ -2,7 +2,6 @@ use Rattle.std.specs.Prelude.{MatchResult}
 use Rattle.std.proofs.Common.{subst, sym}
 use Rattle.kahn_explain.specs.Histories.{IsUntraced}
 use Rattle.kahn_explain.specs.Needing.{IsAskable, IsReply}
-use Rattle.kahn_explain.specs.inner.Told.{IsReplyIn}
 use Rattle.kahn_explain.proofs.needing.replying.replied.Goals as goal
 
 pub firsts_told-requires : goal.firsts_told-requires
@@ -14,11 +13,11 @@ needs_told-requires-clause-written c = subst (λ b. IsAskable b c.args.network.n
 pub returns-then-wakes : goal.returns-then-wakes
 returns-then-wakes c =
     let a = c.args in
-    subst (λ b. MatchResult c.firsts_told.result (IsReplyIn (IsReply b a.network.now a.text.now a.config a.question.line a.question.place)) (IsUntraced a.network.now a.text.now a.config))
+    subst (λ b. MatchResult c.firsts_told.result (λ r. IsReply b a.network.now a.text.now a.config a.question.line a.question.place r.1) (IsUntraced a.network.now a.text.now a.config))
     (sym c.if-wakes.true) c.firsts_told.ensures
 
 pub returns : goal.returns
 returns c =
     let a = c.args in
-    subst (λ b. MatchResult c.needs_told.result (IsReplyIn (IsReply b a.network.now a.text.now a.config a.question.line a.question.place)) (IsUntraced a.network.now a.text.now a.config))
+    subst (λ b. MatchResult c.needs_told.result (λ r. IsReply b a.network.now a.text.now a.config a.question.line a.question.place r.1) (IsUntraced a.network.now a.text.now a.config))
     (sym c.if-wakes.false) c.needs_told.ensures

@@ -1,6 +1,7 @@
--- Each place so far has its row.
-use Rattle.std.proofs.Common.{◌≡◌, ◌≤◌, string_bytes}
+-- Each place so far has a value.
+use Rattle.std.proofs.Common.{◌≡◌, ◌≤◌}
 use Rattle.kahn_streams.specs.Inputs.{inputs_of}
+use Rattle.kahn_streams.specs.Network.{network_of}
 use Rattle.kahn_explain.specs.Needing.{AreRows}
 use Rattle.kahn_explain.proofs.needing.rows.add_rows.Given as goal
 
@@ -10,5 +11,5 @@ invariant-loop-place l = record {
   input : l.seeker.input ≡ l.fn.seeker.input;
   line : l.seeker.line ≡ l.fn.seeker.line;
   next : l.seeker.next ≤ l.place;
-  rows : AreRows l.fn.seeker.network (inputs_of l.fn.seeker.input) l.fn.seeker.line l.place (string_bytes l.text);
+  rows : AreRows (network_of l.fn.seeker.network) (inputs_of l.fn.seeker.input) l.fn.seeker.line l.place;
 }

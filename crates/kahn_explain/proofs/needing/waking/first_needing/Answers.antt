@@ -2,8 +2,8 @@ use Rattle.std.proofs.Common.{arith, refl, ◌∙◌}
 use Rattle.std.proofs.lemmas.Bool.{iff_false}
 use Rattle.kahn_streams.specs.Inputs.{inputs_of}
 use Rattle.kahn_streams.specs.Network.{network_of}
-use Rattle.kahn_explain.proofs.Firsts.{first_is, not_more}
-use Rattle.kahn_explain.proofs.Rowed.{found_on}
+use Rattle.kahn_needs.specs.Finding.{AreNeedsFound}
+use Rattle.kahn_explain.proofs.Firsts.{first_is, not_more, same_search}
 use Rattle.kahn_explain.proofs.needing.waking.first_needing.Goals as goal
 
 pub loop-place-init : goal.loop-place-init
@@ -14,7 +14,6 @@ loop-place-preserved c =
     let i = c.loop-place.invariant in
     let s = c.in_ok-found.ensures.same in
     let o = c.args.seeker.now in
-    let l = c.loop-place.seeker in
     let k = c.loop-place.place in
     let f = c.in_ok-found.found in
     let e = s.3 in
@@ -24,7 +23,7 @@ loop-place-preserved c =
       line = s.2 ∙ i.line;
       next = omega (arith, e);
       before = not_more (network_of o.network) (inputs_of o.input) o.line c.args.wanted k c.args.input f c.requires.given
-          (found_on o.network l.network o.input l.input o.line l.line k f i.network i.input i.line c.in_ok-found.ensures.found)
+          (same_search (λ N I d. AreNeedsFound N I d k f) i.network i.input i.line c.in_ok-found.ensures.found)
           (iff_false c.ends_search.ensures c.if-ends_search.false) i.before;
     }
 
@@ -32,8 +31,7 @@ pub returns-then-ends_search : goal.returns-then-ends_search
 returns-then-ends_search c =
     let i = c.loop-place.invariant in
     let o = c.args.seeker.now in
-    let l = c.loop-place.seeker in
     let k = c.loop-place.place in
     let f = c.in_ok-found.found in
     first_is (network_of o.network) (inputs_of o.input) o.line c.args.wanted k c.args.input f
-    (found_on o.network l.network o.input l.input o.line l.line k f i.network i.input i.line c.in_ok-found.ensures.found) (c.ends_search.ensures.0 c.if-ends_search.true) i.before
+    (same_search (λ N I d. AreNeedsFound N I d k f) i.network i.input i.line c.in_ok-found.ensures.found) (c.ends_search.ensures.0 c.if-ends_search.true) i.before

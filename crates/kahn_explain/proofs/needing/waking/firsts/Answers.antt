@@ -1,12 +1,10 @@
-use Rattle.std.proofs.Common.{rules, length, refl, string_bytes, subst, sym, add-one}
+use Rattle.std.proofs.Common.{rules, length, refl, subst, sym, add-one}
 use Rattle.std.proofs.lemmas.Option.{slice_get_read}
 use Rattle.kahn_streams.specs.Inputs.{inputs_of}
-use Rattle.kahn_explain.specs.Needing.{AreFirstsTold}
+use Rattle.kahn_streams.specs.Network.{network_of}
+use Rattle.kahn_explain.specs.Needing.{AreFirstEnds}
 use Rattle.kahn_explain.proofs.Kept_columns.{stream_listed}
 use Rattle.kahn_explain.proofs.needing.waking.firsts.Goals as goal
-
-pub loop-number-init : goal.loop-number-init
-loop-number-init c = (c.new-text.ensures.bytes, refl)
 
 pub add_line-requires-clause-line : goal.add_line-requires-clause-line
 add_line-requires-clause-line c =
@@ -18,10 +16,9 @@ add_line-requires-clause-line c =
 pub loop-number-preserved : goal.loop-number-preserved
 loop-number-preserved c =
     let a = c.args in
-    let (more, told, new) = c.in_ok-end.ensures in
     let ss = a.run.now.answer.streams.items in
     let k = c.loop-number.number in
     let s = c.index-stream.result.now in
     let at = slice_get_read ss (length ss) k s refl (search rules) c.index-stream.ensures in
-    subst (λ m. AreFirstsTold a.network.now a.run.now (inputs_of a.lists.now) a.input a.place m (string_bytes c.add_line.new.text) c.worse-verdict.result) (sym (add-one k))
-    (s, string_bytes c.loop-number.text, more, c.loop-number.verdict, c.in_ok-end.end, at, c.loop-number.invariant, told, new, c.worse-verdict.ensures)
+    subst (λ m. AreFirstEnds (network_of a.network.now) a.run.now (inputs_of a.lists.now) a.input a.place m c.worse-verdict.result) (sym (add-one k))
+    (s, c.loop-number.verdict, c.in_ok-end.end, at, c.loop-number.invariant, c.in_ok-end.ensures, c.worse-verdict.ensures)

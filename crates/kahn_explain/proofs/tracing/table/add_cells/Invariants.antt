@@ -1,7 +1,0 @@
--- The values so far were added.
-use Rattle.std.proofs.Common.{◌≡◌, ◌++◌, take, string_bytes}
-use Rattle.kahn_explain.specs.Table.{cells_text}
-use Rattle.kahn_explain.proofs.tracing.table.add_cells.Given as goal
-
-abbrev pub invariant-loop-column : goal.invariant-loop-column
-invariant-loop-column l = string_bytes l.text ≡ string_bytes l.initial.text ++ cells_text l.place (take l.column-index l.columns)
