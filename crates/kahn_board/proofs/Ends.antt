@@ -1,10 +1,7 @@
 -- What the rule says once all seats are one.
-use Rattle.kahn_board.proofs.Common.{length-map, map, ◌≡◌, ◌≢◌, ℕ, zero, suc, ◌+◌, ◌*◌, ◌<◌, ◌⊎◌, inl, inr, ⊎_elim, List, [], ◌∷◌, length, get_or, sym, refl, ap, ◌∙◌, subst, arith, true, Option, Some, dite, ℕ_discrete, some, some-injective, some-ne-none, get_elem?, Summary, second_of, Wires, is_up, below, Whereabouts, ready, held, parked, over, total, St, Deal, spent, all_parts, published, budget, halt_word, IsHome, Whole, AllLeft, IsFree, SeatView, same_Some}
-use Rattle.kahn_board.specs.Opening.{IsCell, IsQuietCell, ClosesBoard}
+use Rattle.kahn_board.proofs.Common.{length-map, map, ◌≡◌, ◌≢◌, ℕ, zero, suc, ◌+◌, ◌*◌, ◌<◌, ◌⊎◌, inl, inr, ⊎_elim, List, [], ◌∷◌, length, get_or, sym, refl, ap, ◌∙◌, subst, arith, true, Option, Some, dite, ℕ_discrete, some, some-injective, some-ne-none, get_elem?, Summary, second_of, Wires, is_up, below, Whereabouts, ready, held, parked, over, total, St, Deal, spent, all_parts, published, budget, halt_word, IsHome, Whole, AllLeft, IsFree, SeatView, same_Some, IsCell, IsQuietCell, ClosesBoard}
 use Rattle.kahn_board.specs.declared.closing.Closed.{Closed}
-use Rattle.kahn_board.proofs.Sums.{terms_le, all_none}
-use Rattle.kahn_board.proofs.Keeps.{one_at}
-use Rattle.kahn_board.proofs.Reseats.{all_home}
+use Rattle.kahn_board.proofs.{Sums.terms_le, Sums.all_none, Keeps.one_at, Reseats.all_home}
 
 -- a sum of one term, the others being 0
 one_term : (f : SeatView → ℕ) (vs : List SeatView) (id : ℕ) (v : SeatView) → get_elem? vs id ≡ some v → ((j : ℕ) (u : SeatView) → j ≢ id → get_elem? vs j ≡ some u → f u ≡ 0) → total f vs ≡ f v

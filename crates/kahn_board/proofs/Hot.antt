@@ -1,11 +1,6 @@
 -- The steps on the words budget, count and halted.
 use Rattle.kahn_board.proofs.Common.{◌≡◌, ℕ, ◌+◌, ◌-◌, ◌*◌, ◌%◌, ◌^◌, ◌<◌, ◌≤◌, ◌≢◌, ◌⊎◌, inl, inr, eqb, List, drop, length, get_or, set, sym, refl, ap, ◌∙◌, subst, arith, Option, length-set, get_or-set_same, get_or-set_other, dite, ℕ_discrete, some, none, get_elem?, set-get_or, either, step, keeps, stepped, Allows, exchanged, Summary, Wires, Owed, Owes, is_up, Whereabouts, ready, held, parked, over, St, Deal, Whole, budget, up_count, halt_word, Sat, after_step, after_looking, after_reporting, after_giving_back, after_counting_up, after_counting_down, after_halting, drew, sees_halted, sees_count, sees_budget, SeatView, becomes}
-use Rattle.kahn_board.proofs.Sums.{term_le}
-use Rattle.kahn_board.proofs.Counting.{below-le, below-term}
-use Rattle.kahn_board.proofs.Quiet.{owed_less, downs_few}
-use Rattle.kahn_board.proofs.Seconds.{Fit, Idle, idles, still}
-use Rattle.kahn_board.proofs.Changes.{one_less, owes_paid, leaves_free}
-use Rattle.kahn_board.proofs.Steps.{Goes, unchanged}
+use Rattle.kahn_board.proofs.{Sums.term_le, Counting.below-le, Counting.below-term, Quiet.owed_less, Quiet.downs_few, Seconds.Fit, Seconds.Idle, Seconds.idles, Seconds.still, Changes.one_less, Changes.owes_paid, Changes.leaves_free, Steps.Goes, Steps.unchanged}
 
 up_small : (x : Whereabouts) → is_up x ≤ 1
 up_small ready = omega arith

@@ -1,10 +1,7 @@
 -- Seats that are made one, and one that is made several.
-use Rattle.kahn_board.proofs.Common.{◌≡◌, ◌+◌, ◌≤◌, ◌<◌, List, [], ◌∷◌, ◌++◌, length, All, sym, refl, ap, ◌∙◌, arith, subst, get_or_append_left, get_or_push, TableId, AreCut, after_joining, Sat, Seat, RestsWith}
-use Rattle.std.proofs.lemmas.List.Sums.{sum_by_push}
-use Rattle.std.proofs.lemmas.List.{length-append}
-use Rattle.std.proofs.lemmas.List.Elements.{All-push}
+use Rattle.kahn_board.proofs.Common.{◌≡◌, ◌+◌, ◌≤◌, ◌<◌, List, [], ◌∷◌, ◌++◌, length, All, sym, refl, ap, ◌∙◌, arith, subst, get_or_append_left, get_or_push, TableId, AreCut, after_joining, Sat, Seat, RestsWith, sum_by_push, SitsAt, parts_of, done_of, raised_of}
+use Rattle.std.proofs.{lemmas.List.length-append, lemmas.List.Elements.All-push}
 use Rattle.kahn_board.proofs.Seats.{zeros}
-use Rattle.kahn_board.specs.inner.Turn.{SitsAt, parts_of, done_of, raised_of}
 
 pub all_but_last : {A : Type 0} (P : A → Type 0) (xs : List A) (x : A) → All P (xs ++ x ∷ []) → All P xs × P x
 all_but_last P xs x all = (

@@ -1,8 +1,6 @@
 -- Each step keeps the rule.
 use Rattle.kahn_board.proofs.Common.{◌≡◌, ℕ, ◌+◌, ◌*◌, ◌%◌, ◌<◌, ◌≤◌, ◌≢◌, ◌⊎◌, inl, inr, ⊎_elim, List, length, get_or, set, sym, ap, ◌∙◌, subst, arith, Option, Some, None, length-set, dite, ℕ_discrete, some, none, some-injective, some-ne-none, get_elem?, at_set, set_here, set_else, Summary, TellsWait, TellsEvents, Wires, is_up, below, Whereabouts, held, parked, word_code, held_by, mark_of, total, St, Deal, published, budget, up_count, halt_word, IsHome, HasSlot, PlaceIs, HomeIs, SeatIs, Ruled, Whole, IsHalter, WordWas, SeatView}
-use Rattle.kahn_board.proofs.Moved.{is_held, held_apart}
-use Rattle.kahn_board.proofs.Sums.{total-set, there, all_none}
-use Rattle.kahn_board.proofs.Quiet.{whole}
+use Rattle.kahn_board.proofs.{Moved.is_held, Moved.held_apart, Sums.total-set, Sums.there, Sums.all_none, Quiet.whole}
 use mathlib.Core.Option as maybe
 
 pub here : {A : Type 0} (l : List A) (i : ℕ) (a b : A) → get_elem? l i ≡ some a → get_elem? (set l i b) i ≡ some b

@@ -1,10 +1,7 @@
 -- A quiet run stays quiet.
-use Rattle.kahn_board.proofs.Common.{◌≡◌, ◌⊎◌, inl, inr, ℕ, ◌<◌, length, get_or-set_other, ap, refl, sym, ◌∙◌, arith, Option, Summary, SeatView, Wires, Deal, St, Whole, IsIn, Whereabouts, held, is_up, ready, up_count, get_elem?, some}
-use Rattle.kahn_board.proofs.Moved.{code_ready}
-use Rattle.kahn_board.proofs.Steps.{mine_is}
-use Rattle.kahn_board.proofs.Sums.{term_le}
+use Rattle.kahn_board.proofs.Common.{◌≡◌, ◌⊎◌, inl, inr, ℕ, ◌<◌, length, get_or-set_other, ap, refl, sym, ◌∙◌, arith, Option, Summary, SeatView, Wires, Deal, St, Whole, IsIn, Whereabouts, held, is_up, ready, up_count, get_elem?, some, budget_at, halted_at}
+use Rattle.kahn_board.proofs.{Moved.code_ready, Steps.mine_is, Sums.term_le}
 use Rattle.kahn_board.specs.Final.{MayMake, StaysQuiet, StepKind, claims, draws, halts, loads, pays, sets, tells, words_after}
-use Rattle.kahn_board.specs.Rule.{budget_at, halted_at}
 
 module _ {T : Type 0} (told : T → Option Summary) (belongs : ℕ → T → Type 0) (w : Wires) (d : Deal) (s : St T) (a : Whole told belongs w d s) (zero_now : up_count w s.words ≡ 0)
     (j : ℕ) (v : SeatView) (me : get_elem? s.views j ≡ some v) where

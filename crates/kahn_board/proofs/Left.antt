@@ -1,7 +1,6 @@
 -- A seat that looks, and leaves.
 use Rattle.kahn_board.proofs.Common.{◌≡◌, ◌≢◌, ℕ, suc, cond, List, [], ◌∷◌, Option, length, get_or, ap, sym, refl, ◌∙◌, arith, eq-eqb, subst, Summary, Terms, total, burden, after_looking, Looks, SeatView, Seat, RestsWith, IsBetweenTurns, IsSeatOf, ◌+◌, Sat, after_step, ◌*◌, Some, None, is_some, true≢false, false, Wires, Carries, Was, Claims, InTurn, Fits, IsBetween}
-use Rattle.kahn_board.specs.declared.seat.Look.{Look}
-use Rattle.kahn_board.specs.declared.seat.Look.TheVariants.{Halted, Quiet, NoBudget, Go}
+use Rattle.kahn_board.specs.{declared.seat.Look.Look, declared.seat.Look.TheVariants.Halted, declared.seat.Look.TheVariants.Quiet, declared.seat.Look.TheVariants.NoBudget, declared.seat.Look.TheVariants.Go}
 
 module _ {T : Type 0} where
   -- it has what it had

@@ -1,11 +1,6 @@
 -- A checked network is within its limits.
-use Rattle.kahn_board.proofs.Common.{◌≡◌, ℕ, ◌≤◌, List, [], ◌∷◌, map, length, length-append, refl, arith, length-map, Program, channels_of, network_of, wires}
-use Rattle.kahn_streams.specs.View.{bytes_of}
-use Rattle.kahn_streams.specs.declared.tree.Name.{Name}
-use Rattle.kahn_streams.specs.declared.tree.Kind.{Kind}
-use Rattle.kahn_streams.specs.declared.tree.Role.{Role}
-use Rattle.kahn_streams.specs.declared.tree.Declaration.{Declaration}
-use Rattle.kahn_streams.specs.Wiring.{IsWellWired, declared_channels}
+use Rattle.kahn_board.proofs.Common.{◌≡◌, ℕ, ◌≤◌, List, [], ◌∷◌, map, length, length-append, refl, arith, length-map, Program, channels_of, network_of, wires, IsWellWired, declared_channels}
+use Rattle.kahn_streams.specs.{View.bytes_of, declared.tree.Name.Name, declared.tree.Kind.Kind, declared.tree.Role.Role, declared.tree.Declaration.Declaration}
 use Rattle.kahn_streams.specs.declared.tree.Declaration.TheVariants as D
 
 abbrev with_bytes : Kind → Role → Name → List ℕ × (Kind × Role)

@@ -1,11 +1,6 @@
 -- The rule holds of a new board.
-use Rattle.kahn_board.proofs.Common.{◌≡◌, ℕ, zero, suc, ◌+◌, ◌*◌, ◌%◌, subst, List, [], ◌∷◌, map, drop, length, get_or, sym, refl, ap, ◌∙◌, arith, Option, Some, None, some, some-injective, some-ne-none, get_elem?, length-map, opening, at_map, Summary, TellsEvents, events_past, Wires, ready, mark_of, St, all_parts, opening_view, published, SeatIs, Whole, events_told, below, AreFirstWords, SeatView, same_Some}
-use Rattle.kahn_board.proofs.Changes.{tells_past}
-use Rattle.kahn_board.specs.Opening.{Opens}
-use Rattle.kahn_board.proofs.Moved.{is_ready}
-use Rattle.kahn_board.proofs.Quiet.{whole}
-use Rattle.kahn_board.proofs.Sums.{is_there}
-use Rattle.kahn_board.proofs.Reseats.{bare}
+use Rattle.kahn_board.proofs.Common.{◌≡◌, ℕ, zero, suc, ◌+◌, ◌*◌, ◌%◌, subst, List, [], ◌∷◌, map, drop, length, get_or, sym, refl, ap, ◌∙◌, arith, Option, Some, None, some, some-injective, some-ne-none, get_elem?, length-map, opening, at_map, Summary, TellsEvents, events_past, Wires, ready, mark_of, St, all_parts, opening_view, published, SeatIs, Whole, events_told, below, AreFirstWords, SeatView, same_Some, Opens}
+use Rattle.kahn_board.proofs.{Changes.tells_past, Moved.is_ready, Quiet.whole, Sums.is_there, Reseats.bare}
 
 at_first : {A : Type 0} (a b : A) (j : ℕ) → get_elem? (a ∷ []) j ≡ some b → (j ≡ 0) × (a ≡ b)
 at_first a b zero e = (refl, some-injective a b e)

@@ -1,11 +1,6 @@
 -- The steps that give an instance up, as a seat's call owes them.
-use Rattle.kahn_board.proofs.Common.{◌≡◌, ℕ, ◌+◌, ◌*◌, ◌^◌, ◌<◌, eqb, ◌∷◌, arith, sym, refl, ap, ◌∙◌, subst, Option, Some, none, either, rest, step, Allows, Summary, TellsWait, TellsEnd, Wires, Deal, Whole, ready, over, word_code, Sat, IsIn, set_down, parked_or_not, first_of, publishes, IsFirstSlot, IsSameSeat, KeepsAll, Leaves, MayLeave, OwesFew, wired, Board, Seat}
-use Rattle.kahn_board.proofs.Steps.{sets_down, parks, publishing}
-use Rattle.kahn_board.proofs.Seconds.{Fit}
-use Rattle.kahn_board.specs.Rule.{belongs as belong}
-use Rattle.kahn_board.proofs.Counting.{inside_of}
-use Rattle.kahn_board.proofs.Placed.{placed}
-use Rattle.kahn_board.proofs.Seats.{at_front}
+use Rattle.kahn_board.proofs.Common.{◌≡◌, ℕ, ◌+◌, ◌*◌, ◌^◌, ◌<◌, eqb, ◌∷◌, arith, sym, refl, ap, ◌∙◌, subst, Option, Some, none, either, rest, step, Allows, Summary, TellsWait, TellsEnd, Wires, Deal, Whole, ready, over, word_code, Sat, IsIn, set_down, parked_or_not, first_of, publishes, IsFirstSlot, IsSameSeat, KeepsAll, Leaves, MayLeave, OwesFew, wired, Board, Seat, belongs as belong}
+use Rattle.kahn_board.proofs.{Steps.sets_down, Steps.parks, Steps.publishing, Seconds.Fit, Counting.inside_of, Placed.placed, Seats.at_front}
 use mathlib.Core.Option as maybe
 
 module _ {T : Type 0} (told : T → Option Summary) (belongs : ℕ → T → Type 0) (w : Wires) where

@@ -1,7 +1,6 @@
 -- A seat that told a number and set down the reader that it woke.
 use Rattle.kahn_board.proofs.Common.{◌≡◌, ◌≢◌, ℕ, ◌-◌, ◌<◌, [], ◌∷◌, ◌++◌, drop, get_or, set, inl, inr, sym, refl, ap, ◌∙◌, subst, arith, Option, Some, None, get_or-set_same, get_or-set_other, Summary, TellsEvents, events_past, Wires, Owed, Carries, Sat, IsIn, Got, after_taking, after_giving_up, after_waking, after_counting_up, SeatView, InTurn, HasPublished}
-use Rattle.kahn_board.proofs.Seconds.{Fit}
-use Rattle.kahn_board.proofs.Woken.{hand_again}
+use Rattle.kahn_board.proofs.{Seconds.Fit, Woken.hand_again}
 
 no_more : (t : Option Summary) (e k : ℕ) → TellsEvents t e → k ≡ e → events_past t k - k ≡ 0
 no_more None e k tells is = omega arith

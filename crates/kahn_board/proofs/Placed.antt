@@ -1,7 +1,6 @@
 -- A seat at its board.
 use Rattle.kahn_board.proofs.Common.{◌≡◌, sym, subst, Wires, wired, Sat, after_step, Board, Seat}
-use Rattle.kahn_board.proofs.Seats.{fit}
-use Rattle.kahn_board.proofs.Seconds.{Fit}
+use Rattle.kahn_board.proofs.{Seats.fit, Seconds.Fit}
 
 module _ {T : Type 0} where
   pub placed : (b : Board T) (s : Seat T) → s.seat.table_id ≡ b.table.shared.table_id → Fit (wired b.table.shared.key) s.seat.me

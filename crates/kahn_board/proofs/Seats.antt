@@ -1,9 +1,6 @@
 -- What a seat's own facts give to its steps, and how each step keeps them.
-use Rattle.kahn_board.proofs.Common.{◌≡◌, ℕ, zero, suc, replicate, ◌+◌, ◌*◌, ◌<◌, ◌≤◌, List, [], ◌∷◌, ◌++◌, ◌≢◌, inl, inr, map, drop, length, get_or, length-set, arith, sym, refl, ap, ◌∙◌, subst, Option, Some, TableId, rest, Summary, Wires, ListsHands, Facts, Carries, total, only, Sat, after_step, after_taking, after_waking, Got, HoldsNothing}
-use Rattle.atomic_table.specs.Table.{turned as shifted}
-use Rattle.kahn_board.proofs.Moved.{only_yes}
-use Rattle.kahn_board.proofs.Seconds.{Fit}
-use Rattle.kahn_board.proofs.Counting.{has_room, took_one, put_once, turned_one}
+use Rattle.kahn_board.proofs.Common.{◌≡◌, ℕ, zero, suc, replicate, ◌+◌, ◌*◌, ◌<◌, ◌≤◌, List, [], ◌∷◌, ◌++◌, ◌≢◌, inl, inr, map, drop, length, get_or, length-set, arith, sym, refl, ap, ◌∙◌, subst, Option, Some, TableId, rest, Summary, Wires, ListsHands, Facts, Carries, total, only, Sat, after_step, after_taking, after_waking, Got, HoldsNothing, turned as shifted}
+use Rattle.kahn_board.proofs.{Moved.only_yes, Seconds.Fit, Counting.has_room, Counting.took_one, Counting.put_once, Counting.turned_one}
 
 lists_turned : (items hands : List ℕ) → 0 < length items → ListsHands items hands → ListsHands (drop 1 items ++ get_or items 0 0 ∷ []) hands
 lists_turned [] hands h l = absurd (omega arith)

@@ -1,10 +1,6 @@
 -- The steps that move no instance, that take one, and that give one up.
 use Rattle.kahn_board.proofs.Common.{◌≡◌, ℕ, zero, suc, ◌+◌, ◌*◌, ◌/◌, ◌%◌, ◌^◌, ◌<◌, ◌≤◌, ◌≢◌, ◌⊎◌, inl, ⊎_elim, List, [], ◌∷◌, length, get_or, set, sym, refl, ap, ◌∙◌, subst, arith, Option, Some, length-set, get_or-set_same, get_or-set_other, some, none, some-injective, some-ne-none, get_elem?, takes, gives, stepped, set_here, set_else, same_Some, Summary, TellsWait, TellsEnd, TellsEvents, events_past, Wires, Owed, Owes, is_up, Leaves, Whereabouts, held, parked, over, word_code, held_by, parked_on, mark_of, Sat, IsIn, SeesMore, after_step, after_taking, after_giving_up, St, Deal, published, budget, up_count, halt_word, HasSlot, IsHome, HomeIs, Ruled, Whole, SeatView}
-use Rattle.kahn_board.proofs.Moved.{moved, at_moved, moved_here, moved_else, only_yes, only_no, held_apart}
-use Rattle.kahn_board.proofs.Counting.{inside_of}
-use Rattle.kahn_board.proofs.Sums.{there}
-use Rattle.kahn_board.proofs.Keeps.{Stays, at_one, kept}
-use Rattle.kahn_board.proofs.Changes.{ups_moved, sum_put, owes_less, tells_past, accounted}
+use Rattle.kahn_board.proofs.{Moved.moved, Moved.at_moved, Moved.moved_here, Moved.moved_else, Moved.only_yes, Moved.only_no, Moved.held_apart, Counting.inside_of, Sums.there, Keeps.Stays, Keeps.at_one, Keeps.kept, Changes.ups_moved, Changes.sum_put, Changes.owes_less, Changes.tells_past, Changes.accounted}
 use mathlib.Core.Option as maybe
 
 abbrev pub half : ℕ → ℕ

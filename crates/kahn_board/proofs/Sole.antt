@@ -1,13 +1,8 @@
 -- The one instance to which a channel is handed to be read, or to be written, is the first one.
-use Rattle.kahn_board.proofs.Common.{◌≡◌, ℕ, ◌<◌, List, cond, length, get_or, position, list_any, ap, sym, refl, ◌∙◌, arith, eq-eqb, Bool, true, false, true≢false, Some, None, Program, Network, Instance, Actual, Reads, Writes, Hands, idle, is_written, network_of, wires, is_read}
-use Rattle.std.specs.List.{position_or_len}
-use Rattle.std.specs.Prelude.{slice_index_or, pos, nat_lt}
-use Rattle.std.proofs.lemmas.Bool.{eqb-true, lt-ltb, le-ltb}
-use Rattle.std.proofs.lemmas.List.{get_or_default}
-use Rattle.std.proofs.lemmas.List.Folds.{Any-from_list_any, list_any_at}
-use Rattle.std.proofs.lemmas.List.Sums.{position_or_len_is}
+use Rattle.kahn_board.proofs.Common.{◌≡◌, ℕ, ◌<◌, List, cond, length, get_or, position, list_any, ap, sym, refl, ◌∙◌, arith, eq-eqb, Bool, true, false, true≢false, Some, None, Program, Network, Instance, Actual, Reads, Writes, Hands, idle, is_written, network_of, wires, is_read, position_or_len, pos, nat_lt, get_or_default, position_or_len_is}
+use Rattle.std.specs.Prelude.{slice_index_or}
+use Rattle.std.proofs.{lemmas.Bool.eqb-true, lemmas.Bool.lt-ltb, lemmas.Bool.le-ltb, lemmas.List.Folds.Any-from_list_any, lemmas.List.Folds.list_any_at, lemmas.List.Quantifiers.position-Some}
 use Rattle.kahn_streams.specs.Syntax as S
-use Rattle.std.proofs.lemmas.List.Quantifiers.{position-Some}
 
 pub reader_in : (program : Program) (c p : ℕ) → (wires program).reader c ≡ Some p → p < (wires program).instances
 unfolding wires

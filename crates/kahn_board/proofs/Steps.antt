@@ -1,10 +1,7 @@
 -- What a call owes at each step on a word.
 use Rattle.kahn_board.proofs.Common.{◌≡◌, ℕ, ◌+◌, ◌*◌, ◌/◌, ◌%◌, ◌^◌, ◌<◌, ◌≢◌, ◌⊎◌, inl, inr, List, [], ◌∷◌, ◌++◌, length, get_or, set, sym, refl, ap, ◌∙◌, subst, arith, Option, Some, None, length-set, get_or-set_same, get_or-set_other, eqb, dite, ℕ_discrete, some, none, get_elem?, set-get_or, either, none-some, same_Some, step, Act, keeps, takes, gives, Valid, carried_after, stepped, Allows, exchanged, Summary, TellsWait, TellsEnd, FlushedAll, Wires, is_up, Leaves, Whereabouts, ready, held, parked, over, word_code, held_by, parked_on, mark_of, Sat, SeesMore, IsIn, Got, after_step, after_taking, after_giving_up, with_published, after_waking, claimed, set_down, parked_or_not, publishes, St, Deal, Whole, IsHome, HasSlot, published, halt_word, SeatView}
 use Rattle.kahn_board.proofs.Moved.{moved, at_moved, moved_here, is_held, only_yes, only_no, is_parked, parked_apart, code_ready}
-use Rattle.kahn_board.proofs.Sums.{term_le}
-use Rattle.kahn_board.proofs.Counting.{below-term}
-use Rattle.kahn_board.proofs.Changes.{owes_more, owes_woken, one_longer}
-use Rattle.kahn_board.proofs.Keeps.{Stays, at_one, kept}
+use Rattle.kahn_board.proofs.{Sums.term_le, Counting.below-term, Changes.owes_more, Changes.owes_woken, Changes.one_longer, Keeps.Stays, Keeps.at_one, Keeps.kept}
 use Rattle.kahn_board.proofs.Seconds.{Fit, half, halves, half_at, halves_long, hot, idles, still, take_step, give_step}
 use mathlib.Core.Option as maybe
 

@@ -1,8 +1,7 @@
 -- What the single steps of a seat tell it, where they speak of cells, of the network or of a draw.
 use Rattle.std.specs.Prelude.{◌≡◌, ◌≢◌, ℕ, ◌+◌, ◌-◌, ◌/◌, ◌%◌, ◌^◌, ◌<◌, List, [], ◌∷◌, slice_index, Option, Some}
 use Rattle.atomic_table.specs.Table.{rest}
-use Rattle.kahn_board.specs.Wires.{Summary, TellsWait, Wires}
-use Rattle.kahn_board.specs.Plays.{Got, IsIn, Play, Sat, after_step, after_giving_up, with_published, after_waking}
+use Rattle.kahn_board.specs.{Wires.Summary, Wires.TellsWait, Wires.Wires, Plays.Got, Plays.IsIn, Plays.Play, Plays.Sat, Plays.after_step, Plays.after_giving_up, Plays.with_published, Plays.after_waking}
 
 module _ {T : Type 0} (told : T → Option Summary) (w : Wires) where
   -- the seat gave up the instance p with the cell y, whose slot it took last

@@ -1,12 +1,9 @@
 -- Believed. What a seat knows of its own view and slots, and what each step tells it: of the step, the seat before, the number found and the seat after.
 use Rattle.std.specs.Prelude.{◌≡◌, ◌≢◌, ◌⊎◌, ℕ, ◌+◌, ◌-◌, ◌*◌, ◌^◌, ◌<◌, ◌≤◌, ◌==◌, cond, List, [], ◌∷◌, ◌++◌, map, drop, length, slice_index, slice_set, Option, Some}
 use mathlib.Core.Option.{none}
-use Rattle.atomic_table.specs.Seated.{TableId}
-use Rattle.atomic_table.specs.Table.{Allows, Me, Step, step}
+use Rattle.atomic_table.specs.{Seated.TableId, Table.Allows, Table.Me, Table.Step, Table.step}
 use Rattle.atomic_table.specs.declared.shared.Seat as shared
-use Rattle.kahn_board.specs.Wires.{Summary, TellsEvents, FlushedAll, flushed_of, events_past, Wires}
-use Rattle.kahn_board.specs.Rule.{KnowsHalted, KnowsQuiet, St, WordWas, total, only}
-use Rattle.kahn_board.specs.declared.view.SeatView.{SeatView}
+use Rattle.kahn_board.specs.{Wires.Summary, Wires.TellsEvents, Wires.FlushedAll, Wires.flushed_of, Wires.events_past, Wires.Wires, Rule.KnowsHalted, Rule.KnowsQuiet, Rule.St, Rule.WordWas, Rule.total, Rule.only, declared.view.SeatView.SeatView}
 
 -- each instance that the seat has is in the list, once
 abbrev pub ListsHands : List ℕ → List ℕ → Type 0

@@ -1,8 +1,7 @@
 -- Believed. What the rule reads of a network, and what a cell reports of itself, for contracts alone.
 use Rattle.std.specs.List.{list_any}
 use Rattle.std.specs.Prelude.{ℕ, length, position, Bool, false, ◌==◌, Option, ◌≡◌, ◌+◌, ◌≤◌, true, Some, None, IfSome}
-use Rattle.kahn_streams.specs.declared.tree.Program.{Program}
-use Rattle.kahn_streams.specs.Network.{Actual, Reads, Writes, Hands, is_written, network_of}
+use Rattle.kahn_streams.specs.{declared.tree.Program.Program, Network.Actual, Network.Reads, Network.Writes, Network.Hands, Network.is_written, Network.network_of}
 
 -- how many instances and channels there are, and who reads and who writes each channel
 pub record Wires : Type 0 where

@@ -1,8 +1,7 @@
 //! Splits and joins the seats of a crew.
 
 ghost use Rattle.std.specs.Prelude.{◌≡◌, ◌<◌, ◌≤◌, length, All, IfOk, IfErr};
-ghost use Rattle.kahn_board.specs.Rule.{all_parts};
-ghost use Rattle.kahn_board.specs.inner.Turn.{AddUp, IsDoneAt, IsLoneSeat, SitsAt, parts_of, done_of, raised_of};
+ghost use Rattle.kahn_board.specs.{Rule.all_parts, inner.Turn.AddUp, inner.Turn.IsDoneAt, inner.Turn.IsLoneSeat, inner.Turn.SitsAt, inner.Turn.parts_of, inner.Turn.done_of, inner.Turn.raised_of};
 
 use crate::board::Board;
 use crate::rule::Reports;

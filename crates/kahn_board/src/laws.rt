@@ -1,9 +1,7 @@
 //! A law of the board. The function does nothing: its contract is the law.
 
 ghost use Rattle.std.specs.Prelude.{◌≡◌};
-ghost use Rattle.kahn_board.specs.Final.{StepsQuietly};
-ghost use Rattle.kahn_board.specs.Rule.{St, holds, up_count, wired};
-ghost use Rattle.kahn_board.specs.declared.rule.Terms.{Terms};
+ghost use Rattle.kahn_board.specs.{Final.StepsQuietly, Rule.St, Rule.holds, Rule.up_count, Rule.wired, declared.rule.Terms.Terms};
 
 use crate::rule::Reports;
 

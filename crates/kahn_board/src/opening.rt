@@ -1,10 +1,8 @@
 //! How a board is made.
 
 ghost use Rattle.std.specs.Prelude.{◌≡◌, ℕ, ◌+◌, ◌*◌, ◌^◌, ◌<◌, ◌≤◌, List, length, slice_index, [], IfOk, Some, map};
-ghost use Rattle.std.specs.Vec.{vec_capacity};
-ghost use Rattle.std.specs.VecDeque.{deque_capacity};
-ghost use Rattle.kahn_board.specs.inner.Turn.{AreFirstWords, IsWiringOf};
-ghost use Rattle.kahn_board.specs.Wires.{wires};
+ghost use Rattle.std.specs.{Vec.vec_capacity, VecDeque.deque_capacity};
+ghost use Rattle.kahn_board.specs.{inner.Turn.AreFirstWords, inner.Turn.IsWiringOf, Wires.wires};
 
 use crate::wiring::Wiring;
 use kahn_streams::{Network, NoMemory};

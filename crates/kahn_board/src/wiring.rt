@@ -1,8 +1,7 @@
 //! What a board keeps of its network.
 
 ghost use Rattle.std.specs.Prelude.{◌≡◌, ◌≤◌, ◌<◌, ℕ, IfOk, length, slice_index_or, None};
-ghost use Rattle.kahn_board.specs.Wires.{wires};
-ghost use Rattle.kahn_board.specs.inner.Turn.{IsWiringOf};
+ghost use Rattle.kahn_board.specs.{Wires.wires, inner.Turn.IsWiringOf};
 
 use kahn_streams::{Network, NoMemory};
 use std::alloc::Global;

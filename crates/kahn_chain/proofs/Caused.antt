@@ -1,6 +1,5 @@
 -- What is found for one instance after another.
-use Rattle.std.proofs.Common.{◌≡◌, ℕ, zero, suc, ◌+◌, ◌⊎◌, inl, inr, List, [], ◌∷◌, ◌++◌, length, Some, ap, subst, sym, ◌∙◌, arith, length-append}
-use Rattle.std.specs.List.{slice_get}
+use Rattle.kahn_chain.proofs.Common.{◌≡◌, ℕ, zero, suc, ◌+◌, ◌⊎◌, inl, inr, List, [], ◌∷◌, ◌++◌, length, Some, ap, subst, sym, ◌∙◌, arith, length-append, slice_get}
 
 -- it holds of what was found for the first n
 pub record AreFirst {A : Type 0} (P : ℕ → A → Type 0) (n : ℕ) (ys : List A) : Type 0 where

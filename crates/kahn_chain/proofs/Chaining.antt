@@ -1,16 +1,7 @@
 -- The chain of an instance: what is marked is on it, and in the end all of it is marked.
-use Rattle.std.proofs.Common.{◌≡◌, ℕ, ◌<◌, ◌⊎◌, inl, inr, ⊎_elim, List, length, Bool, true, false, get_or, set, replicate, length-set, refl, sym, subst, ◌∙◌, arith, get_or-set_same, get_or-set_other}
-use Rattle.std.proofs.lemmas.Bool.{cases_eq}
-use Rattle.std.proofs.lemmas.List.{length-replicate}
-use Rattle.kahn_streams.specs.Network.{Network}
-use Rattle.kahn_chain.specs.Chain.{Awaits, Leads, stays, onward, IsRingMark}
-use Rattle.kahn_chain.specs.inner.Walk.{IsHere, IsStepFrom, AreOnChain}
-use Rattle.kahn_chain.specs.declared.standing.Standing.{Standing}
-use Rattle.kahn_chain.specs.declared.standing.Cause.{Cause}
-use Rattle.kahn_chain.specs.declared.standing.Cause.TheVariants.{Input, Stopped, Ring}
+use Rattle.kahn_chain.proofs.Common.{◌≡◌, ℕ, ◌<◌, ◌⊎◌, inl, inr, ⊎_elim, List, length, Bool, true, false, get_or, set, replicate, length-set, refl, sym, subst, ◌∙◌, arith, get_or-set_same, get_or-set_other, cases_eq, length-replicate, Network, Awaits, Leads, stays, onward, IsRingMark, IsHere, IsStepFrom, AreOnChain, Standing, Cause, Input, Stopped, Ring}
 use Rattle.kahn_chain.specs.declared.walk.WalkStep.TheVariants.{On}
-use Rattle.kahn_chain.proofs.Leading.{Halts, then, one_next, input_halts, stopped_halts}
-use Rattle.kahn_chain.proofs.Walking.{IsMarked, no_mark}
+use Rattle.kahn_chain.proofs.{Leading.Halts, Leading.then, Leading.one_next, Leading.input_halts, Leading.stopped_halts, Walking.IsMarked, Walking.no_mark}
 
 -- what is marked is on the chain, and nothing leads out of it but to where the walk is
 pub record Follows (N : Network) (ss : List Standing) (first : ℕ) (marks : List Bool) (at : ℕ) : Type 0 where

@@ -1,16 +1,6 @@
 -- A walk of so many steps as there are instances: it came back to an instance, or that isn't on its way.
-use Rattle.std.proofs.Common.{◌≡◌, ℕ, zero, suc, ◌+◌, ◌<◌, ◌≤◌, ◌⊎◌, inl, inr, List, [], ◌∷◌, length, map, Bool, true, false, get_or, set, replicate, refl, sym, subst, ◌∙◌, ap, arith, get_or-set_other, Some}
-use Rattle.std.proofs.lemmas.Option.{slice_get-get_or, slice_get-map}
-use Rattle.std.specs.List.{slice_get}
-use Rattle.std.specs.Prelude.{option_map, slice_index_or}
-use Rattle.kahn_streams.specs.declared.answer.End.{End}
-use Rattle.kahn_streams.specs.Network.{Network}
-use Rattle.kahn_chain.specs.Chain.{Awaits, Leads, IsRingMark, onward, standing_of, stands, stays}
-use Rattle.kahn_chain.specs.inner.Walk.{AreOnChain}
-use Rattle.kahn_chain.specs.declared.standing.Standing.{Standing}
-use Rattle.kahn_chain.proofs.Leading.{Halts, then}
-use Rattle.kahn_chain.proofs.Walking.{one_less, unmarked}
-use Rattle.kahn_chain.proofs.Chaining.{Follows, comes_back, comes_to_end, follows_first, follows_on, ring_mark}
+use Rattle.kahn_chain.proofs.Common.{◌≡◌, ℕ, zero, suc, ◌+◌, ◌<◌, ◌≤◌, ◌⊎◌, inl, inr, List, [], ◌∷◌, length, map, Bool, true, false, get_or, set, replicate, refl, sym, subst, ◌∙◌, ap, arith, get_or-set_other, Some, slice_get-get_or, slice_get-map, slice_get, option_map, slice_index_or, End, Network, Awaits, Leads, IsRingMark, onward, standing_of, stands, stays, AreOnChain, Standing}
+use Rattle.kahn_chain.proofs.{Leading.Halts, Leading.then, Walking.one_less, Walking.unmarked, Chaining.Follows, Chaining.comes_back, Chaining.comes_to_end, Chaining.follows_first, Chaining.follows_on, Chaining.ring_mark}
 
 all_false : (n : ℕ) → unmarked (replicate n false) ≡ n
 all_false zero = refl

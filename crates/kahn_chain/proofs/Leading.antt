@@ -1,12 +1,6 @@
 -- Chains of waits: each has one end.
-use Rattle.std.proofs.Common.{◌≡◌, ℕ, ◌⊎◌, inl, inr, ⊎_elim, List, Some, refl, sym, subst, ◌∙◌, ap, ap₂, arith}
-use Rattle.std.specs.List.{slice_get}
-use Rattle.kahn_streams.specs.Network.{Network, Given, Written, channel_source}
-use Rattle.kahn_chain.specs.Chain.{Awaits, Leads, stays, onward, LeadsOn, IsLeastOfRing, IsNoWait, IsCause}
-use Rattle.kahn_chain.specs.declared.standing.Standing.{Standing}
+use Rattle.kahn_chain.proofs.Common.{◌≡◌, ℕ, ◌⊎◌, inl, inr, ⊎_elim, List, Some, refl, sym, subst, ◌∙◌, ap, ap₂, arith, slice_get, Network, Given, Written, channel_source, Awaits, Leads, stays, onward, LeadsOn, IsLeastOfRing, IsNoWait, IsCause, Standing, Cause, Input, Stopped, Ring}
 use Rattle.kahn_chain.specs.declared.standing.Standing.TheVariants.{Ended, Waits, Faulted, More}
-use Rattle.kahn_chain.specs.declared.standing.Cause.{Cause}
-use Rattle.kahn_chain.specs.declared.standing.Cause.TheVariants.{Input, Stopped, Ring}
 
 same_wait : (c d : ℕ) → Some (Waits c) ≡ Some (Waits d) → c ≡ d
 same_wait c d e = cc

@@ -5,3 +5,4 @@ mod Leading
 mod Reasoned
 pub mod Standing_ends
 mod Walking
+pub mod Common

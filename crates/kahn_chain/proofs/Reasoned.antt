@@ -1,18 +1,8 @@
 -- The reasons so far, one after another.
-use Rattle.std.proofs.Common.{◌≡◌, ◌∙◌, ℕ, ◌+◌, ◌<◌, List, [], ◌++◌, All, Bool, Some, ap, append_assoc, drop, get_or, length, map, refl, slice_get, subst, sym}
-use Rattle.std.proofs.lemmas.List.{at_drop_more, map-append}
+use Rattle.std.proofs.Common.{slice_get}
+use Rattle.kahn_chain.proofs.Common.{◌≡◌, ◌∙◌, ℕ, ◌+◌, ◌<◌, List, [], ◌++◌, All, Bool, Some, ap, append_assoc, drop, get_or, length, map, refl, subst, sym, at_drop_more, map-append, slice_get-get_or, Network, End, Outcome, Ended, Waits, Faulted, More, Verdict, IsCause, IsRingMark, stands, AreSoFar, reasons_at, told_at, Cause}
 use Rattle.std.proofs.lemmas.List.Elements.{All-append, All-from_recursion}
-use Rattle.std.proofs.lemmas.Option.{slice_get-get_or}
-use Rattle.kahn_streams.specs.Network.{Network}
-use Rattle.kahn_streams.specs.declared.answer.End.{End}
-use Rattle.kahn_streams.specs.declared.answer.Outcome.{Outcome}
-use Rattle.kahn_streams.specs.declared.answer.Outcome.TheVariants.{Ended, Waits, Faulted, More}
-use Rattle.kahn_streams.specs.declared.answer.Verdict.{Verdict}
-use Rattle.kahn_chain.specs.Chain.{IsCause, IsRingMark, stands}
-use Rattle.kahn_chain.specs.Reasons.{IsReasonFor, not_ended, told_instance, unless_ended}
-use Rattle.kahn_chain.specs.inner.Reasoned.{AreSoFar, reasons_at, told_at}
-use Rattle.kahn_chain.specs.declared.standing.Cause.{Cause}
-use Rattle.kahn_chain.specs.declared.reason.Reason.{Reason}
+use Rattle.kahn_chain.specs.{Reasons.IsReasonFor, Reasons.not_ended, Reasons.told_instance, Reasons.unless_ended, declared.reason.Reason.Reason}
 
 numbers : (v : Verdict) (p : ℕ) (x : End) (y : Cause) (mark : Bool) (o : Outcome) → map told_instance (told_at v p x y mark o) ≡ unless_ended p o
 numbers v p x y mark Ended = refl

@@ -1,23 +1,8 @@
 -- The ends of a right answer wait on channels of the network.
-use Rattle.std.proofs.Common.{◌≡◌, ℕ, ◌<◌, List, length, map, Option, None, Some, refl, sym, ap, subst, ◌∙◌}
-use Rattle.std.specs.Prelude.{option_map}
-use Rattle.std.proofs.lemmas.List.{length-map}
-use Rattle.std.specs.List.{slice_get}
-use Rattle.std.proofs.lemmas.Option.{slice_get-map}
-use Rattle.kahn_streams.specs.declared.tree.Program.{Program}
-use Rattle.kahn_streams.specs.Network.{Network, network_of, Reads, instance_at, actual_at}
-use Rattle.kahn_streams.specs.Wiring.{IsWellWired}
+use Rattle.kahn_chain.proofs.Common.{◌≡◌, ℕ, ◌<◌, List, length, map, Option, None, Some, refl, sym, ap, subst, ◌∙◌, option_map, length-map, slice_get, slice_get-map, Network, network_of, Reads, instance_at, actual_at, AreStandings, standing_of, stands, Standing, End, Outcome, Ended, Waits, Faulted, More, Verdict}
+use Rattle.kahn_streams.specs.{declared.tree.Program.Program, Wiring.IsWellWired, Solution.Histories, Solution.Inputs, Answers.AreRight, Answers.IsOutcome, Answers.IsWaiting, declared.answer.Verdict.TheVariants.Finished, declared.answer.Verdict.TheVariants.Bound, declared.answer.Verdict.TheVariants.Memory}
 use Rattle.kahn_streams.proofs.Sourced.{reads_listed}
-use Rattle.kahn_streams.specs.Solution.{Histories, Inputs}
-use Rattle.kahn_chain.specs.Chain.{AreStandings, standing_of, stands}
-use Rattle.kahn_chain.specs.declared.standing.Standing.{Standing}
 use Rattle.kahn_chain.specs.declared.standing.Standing.TheVariants as S
-use Rattle.kahn_streams.specs.Answers.{AreRight, IsOutcome, IsWaiting}
-use Rattle.kahn_streams.specs.declared.answer.End.{End}
-use Rattle.kahn_streams.specs.declared.answer.Outcome.{Outcome}
-use Rattle.kahn_streams.specs.declared.answer.Outcome.TheVariants.{Ended, Waits, Faulted, More}
-use Rattle.kahn_streams.specs.declared.answer.Verdict.{Verdict}
-use Rattle.kahn_streams.specs.declared.answer.Verdict.TheVariants.{Finished, Bound, Memory}
 
 pub end_of : (xs : List End) (q : ℕ) (s : Standing) (o : Option End) → slice_get xs q ≡ o → option_map stands o ≡ Some s
     → (x : End) × (slice_get xs q ≡ Some x) × (stands x ≡ s)

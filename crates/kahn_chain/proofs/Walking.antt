@@ -1,14 +1,5 @@
 -- The walk: what is marked leads to where it is.
-use Rattle.std.proofs.Common.{◌≡◌, ℕ, zero, suc, ◌+◌, ◌<◌, ◌≤◌, min, ◌⊎◌, inl, inr, ⊎_elim, List, [], ◌∷◌, length, Bool, true, false, get_or, set, replicate, length-set, refl, sym, subst, ◌∙◌, ap, arith, get_or-set_same, get_or-set_other}
-use Rattle.std.proofs.lemmas.Bool.{cases_eq, cases_lt}
-use Rattle.std.proofs.lemmas.List.{length-replicate}
-use Rattle.std.specs.List.{slice_get}
-use Rattle.kahn_streams.specs.Network.{Network}
-use Rattle.kahn_chain.specs.Chain.{Awaits, Leads, stays, onward, LeadsOn, IsLeastOfRing}
-use Rattle.kahn_chain.specs.inner.Walk.{IsHere, IsStop, IsWalked}
-use Rattle.kahn_chain.specs.declared.standing.Standing.{Standing}
-use Rattle.kahn_chain.specs.declared.standing.Cause.{Cause}
-use Rattle.kahn_chain.specs.declared.standing.Cause.TheVariants.{Input, Stopped, Ring}
+use Rattle.kahn_chain.proofs.Common.{◌≡◌, ℕ, zero, suc, ◌+◌, ◌<◌, ◌≤◌, min, ◌⊎◌, inl, inr, ⊎_elim, List, [], ◌∷◌, length, Bool, true, false, get_or, set, replicate, length-set, refl, sym, subst, ◌∙◌, ap, arith, get_or-set_same, get_or-set_other, cases_eq, cases_lt, length-replicate, slice_get, Network, Awaits, Leads, stays, onward, LeadsOn, IsLeastOfRing, IsHere, IsStop, IsWalked, Standing, Cause, Input, Stopped, Ring}
 use Rattle.kahn_chain.specs.declared.walk.Walked.{Walked}
 use Rattle.kahn_chain.proofs.Leading.{Halts, then, one_on, on_ring, one_next, input_halts, stopped_halts}
 

@@ -1,14 +1,9 @@
 -- Believed. Why an instance of a network goes no further. Each instance waits on at most one channel, which has at most one writer, so
 -- its waits are one chain.
 use Rattle.std.specs.Prelude.{◌≡◌, ℕ, ◌<◌, ◌≤◌, List, Bool, true, false, length, Some, slice_get}
-use Rattle.kahn_streams.specs.Network.{Network, Given, Written, channel_source}
-use Rattle.kahn_streams.specs.declared.answer.End.{End}
-use Rattle.kahn_streams.specs.declared.answer.Outcome.{Outcome}
+use Rattle.kahn_streams.specs.{Network.Network, Network.Given, Network.Written, Network.channel_source, declared.answer.End.End, declared.answer.Outcome.Outcome}
 use Rattle.kahn_streams.specs.declared.answer.Outcome.TheVariants as outcome
-use Rattle.kahn_chain.specs.declared.standing.Standing.{Standing}
-use Rattle.kahn_chain.specs.declared.standing.Standing.TheVariants.{Ended, Waits, Faulted, More}
-use Rattle.kahn_chain.specs.declared.standing.Cause.{Cause}
-use Rattle.kahn_chain.specs.declared.standing.Cause.TheVariants.{Input, Stopped, Ring}
+use Rattle.kahn_chain.specs.{declared.standing.Standing.Standing, declared.standing.Standing.TheVariants.Ended, declared.standing.Standing.TheVariants.Waits, declared.standing.Standing.TheVariants.Faulted, declared.standing.Standing.TheVariants.More, declared.standing.Cause.Cause, declared.standing.Cause.TheVariants.Input, declared.standing.Cause.TheVariants.Stopped, declared.standing.Cause.TheVariants.Ring}
 
 -- the standing of an instance with this outcome, or this end
 abbrev pub standing_of : Outcome → Standing

@@ -2,9 +2,7 @@
 
 ghost use Rattle.std.specs.Prelude.{◌≡◌, ℕ, List};
 ghost use Rattle.kahn_streams.specs.Network.{Network};
-ghost use Rattle.kahn_chain.specs.Chain.{IsCause};
-ghost use Rattle.kahn_chain.specs.declared.standing.Cause.{Cause};
-ghost use Rattle.kahn_chain.specs.declared.standing.Standing.{Standing};
+ghost use Rattle.kahn_chain.specs.{Chain.IsCause, declared.standing.Cause.Cause, declared.standing.Standing.Standing};
 
 /// An instance has one cause; so a ring is reported exactly if there is one.
 pub fn one_cause()

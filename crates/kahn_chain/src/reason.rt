@@ -2,9 +2,7 @@
 
 ghost use Rattle.std.specs.Prelude.{◌≡◌, ◌<◌, ◌++◌, IfOk, length, map, slice_get, slice_index_or};
 ghost use Rattle.kahn_streams.specs.Network.{network_of};
-ghost use Rattle.kahn_chain.specs.Chain.{AreStandings, IsCause, IsRingMark, stands};
-ghost use Rattle.kahn_chain.specs.Reasons.{AreReasons, lasts};
-ghost use Rattle.kahn_chain.specs.inner.Reasoned.{reasons_at};
+ghost use Rattle.kahn_chain.specs.{Chain.AreStandings, Chain.IsCause, Chain.IsRingMark, Chain.stands, Reasons.AreReasons, Reasons.lasts, inner.Reasoned.reasons_at};
 
 use crate::cause::cause;
 use crate::ring::is_on_ring;

@@ -2,8 +2,7 @@
 
 ghost use Rattle.std.specs.Prelude.{◌<◌, ℕ, IfOk, length, map};
 ghost use Rattle.kahn_streams.specs.Network.{network_of};
-ghost use Rattle.kahn_chain.specs.Chain.{AreRings, AreStandings, Awaits, HasRing, IsRingMark, stands};
-ghost use Rattle.kahn_chain.specs.inner.Walk.{AreOnChain, IsNextAwaited};
+ghost use Rattle.kahn_chain.specs.{Chain.AreRings, Chain.AreStandings, Chain.Awaits, Chain.HasRing, Chain.IsRingMark, Chain.stands, inner.Walk.AreOnChain, inner.Walk.IsNextAwaited};
 
 use crate::standing::{Standing, standing_of};
 use crate::walk::{WalkStep, next};

@@ -2,8 +2,7 @@
 
 ghost use Rattle.std.specs.Prelude.{◌≡◌, ◌<◌, IfOk, length};
 ghost use Rattle.kahn_streams.specs.Network.{network_of};
-ghost use Rattle.kahn_chain.specs.Chain.{AreStandings};
-ghost use Rattle.kahn_chain.specs.inner.Walk.{IsStepFrom, IsWalked};
+ghost use Rattle.kahn_chain.specs.{Chain.AreStandings, inner.Walk.IsStepFrom, inner.Walk.IsWalked};
 
 use crate::standing::{Cause, Standing};
 use kahn_streams::Network;

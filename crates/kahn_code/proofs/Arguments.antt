@@ -1,9 +1,9 @@
 -- The arguments of an instance and the names of channels, one by one.
-use Rattle.std.proofs.Common.{◌≡◌, ℕ, zero, suc, ◌+◌, List, [], ◌∷◌, ◌++◌, map, drop, Some, None, refl, sym, ap, ◌∙◌, slice_get, append_assoc, append-nil, add-one}
+use Rattle.std.proofs.Common.{slice_get, append_assoc, append-nil}
 use Rattle.kahn_streams.specs.declared.tree.Parameter.{Parameter}
 pub use Rattle.kahn_streams.proofs.Entered.{names_count}
 use Rattle.kahn_streams.proofs.Entered.{drop_some}
-use Rattle.kahn_code.proofs.Common.{Argument, Scope, Actual, actual_of, actuals_of}
+use Rattle.kahn_code.proofs.Common.{◌≡◌, ℕ, zero, suc, ◌+◌, List, [], ◌∷◌, ◌++◌, map, drop, Some, None, refl, sym, ap, ◌∙◌, add-one, Argument, Scope, Actual, actual_of, actuals_of}
 
 drop_none : {A : Type 0} (xs : List A) (k : ℕ) → slice_get xs k ≡ None → drop k xs ≡ []
 drop_none [] zero e = refl

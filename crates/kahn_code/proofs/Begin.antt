@@ -1,7 +1,7 @@
 -- Tokens of inputs that begin another one.
-use Rattle.std.proofs.Common.{arith, ◌≡◌, ℕ, zero, suc, ◌+◌, Some, slice_get, List, [], ◌∷◌, ◌++◌, sym, ◌∙◌, subst, add-zero}
+use Rattle.std.proofs.Common.{slice_get}
 use Rattle.kahn_streams.specs.Tokens.{Follow}
-use Rattle.kahn_code.proofs.Common.{same_Some, Line, Program, Token, Lists, inputs_of, AreInputsExtended, IsOf, prefix_refl, prefix_trans, AllBegin}
+use Rattle.kahn_code.proofs.Common.{arith, ◌≡◌, ℕ, zero, suc, ◌+◌, Some, List, [], ◌∷◌, ◌++◌, sym, ◌∙◌, subst, add-zero, same_Some, Line, Program, Token, Lists, inputs_of, AreInputsExtended, IsOf, prefix_refl, prefix_trans, AllBegin}
 
 pub all_longer : (t : Program) (before after : Lists) (ts : List Token) → AreInputsExtended (inputs_of before) (inputs_of after) → AllBegin t before ts → AllBegin t after ts
 all_longer t before after [] grown h = tt

@@ -1,7 +1,6 @@
 -- Lists whose values stand.
-use Rattle.std.proofs.Common.{arith, ◌≡◌, ◌⊎◌, inl, inr, ℕ, zero, suc, ◌<◌, ◌≤◌, max, List, [], ◌∷◌, length, map, refl, sym, ap, ◌∙◌, subst, Some, None, slice_get, le_refl, eq-or-lt_of_le, le_of_suc-le-suc, ◌+◌, ◌++◌, length-append, pos, drop, take, slice_index_or}
-use Rattle.kahn_code.proofs.Common.{cases_lt, handed_within, slice_get-get_or, slice_get_within, map-append, length-map, Network, Actual, Reads, Writes, Hands, network_of, instance_at, actual_at, Written, Value, Integer, Line, Channel, Token, Tapes, Inputs, iterate, IsPrefix, Stands, tapes_of, goes_to, values_at, source, out, exec_at, some_same, prefix_get, prefix_refl, prefix_trans, iterates_rise, feeds, solves, script_at, values_append, AreInputsExtended, IsOf, Lists, inputs_of, Program, AllStand, AreKeptTokens, exec_on, sent_on, IsOwn, token_value}
-use mathlib.Core.Path.{fun_ext}
+use Rattle.std.proofs.Common.{slice_get, length-append}
+use Rattle.kahn_code.proofs.Common.{arith, ◌≡◌, ◌⊎◌, inl, inr, ℕ, zero, suc, ◌<◌, ◌≤◌, max, List, [], ◌∷◌, length, map, refl, sym, ap, ◌∙◌, subst, Some, None, le_refl, eq-or-lt_of_le, le_of_suc-le-suc, ◌+◌, ◌++◌, pos, drop, take, slice_index_or, cases_lt, handed_within, slice_get-get_or, slice_get_within, map-append, length-map, Network, Actual, Reads, Writes, Hands, network_of, instance_at, actual_at, Written, Value, Integer, Line, Channel, Token, Tapes, Inputs, iterate, IsPrefix, Stands, tapes_of, goes_to, values_at, source, out, exec_at, some_same, prefix_get, prefix_refl, prefix_trans, iterates_rise, feeds, solves, script_at, values_append, AreInputsExtended, IsOf, Lists, inputs_of, Program, AllStand, AreKeptTokens, exec_on, sent_on, IsOwn, token_value, fun_ext}
 use Rattle.kahn_streams.proofs.Framed.{Begins, and_more, grows_play}
 
 -- a list all of whose values stand in another begins it

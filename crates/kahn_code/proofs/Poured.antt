@@ -1,7 +1,6 @@
 -- Plain queues that go on for a longer input.
-use Rattle.std.proofs.Common.{arith, ◌≡◌, ℕ, zero, suc, ◌+◌, ◌<◌, ◌≤◌, ◌==◌, Bool, true, false, List, [], ◌∷◌, ◌++◌, drop, length, map, refl, sym, ap, ◌∙◌, subst, eqb-true, eq-eqb, length-set, Option, option_map, Some, slice_get, slice_set, slice_index_or, if◌then◌else◌}
-use Rattle.std.proofs.lemmas.Option.{slice_get-map}
-use Rattle.kahn_code.proofs.Common.{HasMore, drop-append_seam, ne_eqb, append-nil, length-map, length-append, same_Some, slice_get_read, Input, network_of, role_at, Lists, Value, inputs_of, AreInputsExtended, Waiting, Lines, AreQueued, HasPoured, IsPoured, IsQueue, taken_of, waiting_of, regrown}
+use Rattle.std.proofs.Common.{slice_get, slice_set}
+use Rattle.kahn_code.proofs.Common.{arith, ◌≡◌, ℕ, zero, suc, ◌+◌, ◌<◌, ◌≤◌, ◌==◌, Bool, true, false, List, [], ◌∷◌, ◌++◌, drop, length, map, refl, sym, ap, ◌∙◌, subst, eqb-true, eq-eqb, length-set, Option, option_map, Some, slice_index_or, if◌then◌else◌, slice_get-map, HasMore, drop-append_seam, ne_eqb, append-nil, length-map, length-append, same_Some, slice_get_read, Input, network_of, role_at, Lists, Value, inputs_of, AreInputsExtended, Waiting, Lines, AreQueued, HasPoured, IsPoured, IsQueue, taken_of, waiting_of, regrown}
 use Rattle.kahn_streams.proofs.Given_values.{no_channel}
 use Rattle.kahn_code.proofs.Queued.{queue_at, set_each, set_get, set_here, still_queued}
 

@@ -1,6 +1,6 @@
 -- The plain queues of all channels, one of which changes.
-use Rattle.std.proofs.Common.{arith, ◌≡◌, ◌≢◌, ℕ, zero, suc, ◌+◌, ◌<◌, ◌≤◌, List, [], ◌∷◌, ◌++◌, length, refl, sym, ap, ◌∙◌, length-set, subst, Option, Some, None, IfSome, IfNone, IsSome, true, false, slice_get, slice_set, slice_index_or}
-use Rattle.kahn_code.proofs.Common.{HasMore, get_or-set_same, same_Some, slice_get_read, Program, Input, Actual, Reads, Writes, Hands, network_of, instance_at, actual_at, role_at, IsWellWired, reads_listed, writes_listed, writes, Token, Channel, IsOf, Lists, Value, inputs_of, Inner, Output, is_output, Waiting, Lines, AreFirst, AreQueued, IsFirst, IsQueue, Joins, actual_here, at_first, next_at, place_at, queue_of, taken_of, given_of, waiting_of, spare_of, Site, IsNext, Stays, StaySo, Moved, LeavesOthers}
+use Rattle.std.proofs.Common.{slice_get, slice_set}
+use Rattle.kahn_code.proofs.Common.{arith, ◌≡◌, ◌≢◌, ℕ, zero, suc, ◌+◌, ◌<◌, ◌≤◌, List, [], ◌∷◌, ◌++◌, length, refl, sym, ap, ◌∙◌, length-set, subst, Option, Some, None, IfSome, IfNone, IsSome, true, false, slice_index_or, HasMore, get_or-set_same, same_Some, slice_get_read, Program, Input, Actual, Reads, Writes, Hands, network_of, instance_at, actual_at, role_at, IsWellWired, reads_listed, writes_listed, writes, Token, Channel, IsOf, Lists, Value, inputs_of, Inner, Output, is_output, Waiting, Lines, AreFirst, AreQueued, IsFirst, IsQueue, Joins, actual_here, at_first, next_at, place_at, queue_of, taken_of, given_of, waiting_of, spare_of, Site, IsNext, Stays, StaySo, Moved, LeavesOthers}
 use Rattle.kahn_streams.specs.declared.tree.Role.{Role}
 use Rattle.kahn_code.proofs.Lists as First
 use Rattle.kahn_code.proofs.Readers.{reads_once, writes_once}

@@ -1,6 +1,5 @@
 -- In a well wired program each channel is read at one side at most, and written at one at most.
-use Rattle.std.proofs.Common.{◌≡◌, ℕ, ◌<◌, length, Option, Some, None, refl, sym, ap, ◌∙◌, subst}
-use Rattle.kahn_code.proofs.Common.{Program, Network, Actual, Reads, Writes, network_of, instance_at, actual_at, IsWithin, IsOnly, handed_at, IsWellWired, handed_within, reads_listed, writes_listed, writes, AreDriven, Joins}
+use Rattle.kahn_code.proofs.Common.{◌≡◌, ℕ, ◌<◌, length, Option, Some, None, refl, sym, ap, ◌∙◌, subst, Program, Network, Actual, Reads, Writes, network_of, instance_at, actual_at, IsWithin, IsOnly, handed_at, IsWellWired, handed_within, reads_listed, writes_listed, writes, AreDriven, Joins}
 use Rattle.kahn_streams.specs.declared.sides.Side.{Side}
 use Rattle.kahn_streams.proofs.Sided.{one_reader, one_writer, declared_there}
 

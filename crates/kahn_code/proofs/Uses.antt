@@ -1,8 +1,7 @@
 -- What the parameters of an instance are for.
-use Rattle.std.proofs.Common.{◌≡◌, ℕ, List, map, refl, ap, ◌∙◌, slice_get, slice_index_or, pos, Option, option_map, Some, None, Bool, sym, subst}
+use Rattle.std.proofs.Common.{slice_get}
 use Rattle.std.proofs.Math.ListN.{get_or-map}
-use Rattle.std.proofs.lemmas.Option.{get_or_from_slice_get, slice_get-map}
-use Rattle.kahn_code.proofs.Common.{handed_within, slice_get-get_or, Number, Network, Actual, Reads, Writes, Hands, instance_at, actual_at, role_at, ParameterUse, is_output, Direction, Joins, route_of, to_read, to_write, to_have, use_of, AreUses}
+use Rattle.kahn_code.proofs.Common.{◌≡◌, ℕ, List, map, refl, ap, ◌∙◌, slice_index_or, pos, Option, option_map, Some, None, Bool, sym, subst, get_or_from_slice_get, slice_get-map, handed_within, slice_get-get_or, Number, Network, Actual, Reads, Writes, Hands, instance_at, actual_at, role_at, ParameterUse, is_output, Direction, Joins, route_of, to_read, to_write, to_have, use_of, AreUses}
 
 pub use_at : (N : Network) (p : ℕ) (uses : List ParameterUse) (q : ℕ) → AreUses N p uses → slice_index_or uses q to_have ≡ use_of N (actual_at (instance_at N p) q)
 use_at N p uses q h = ap (λ l. slice_index_or l q to_have) h ∙ get_or-map (use_of N) (instance_at N p).actuals q (Hands (Number (pos 0)))

@@ -1,10 +1,7 @@
 //! A cell: one process of a network on its way.
 
 ghost use Rattle.std.specs.Prelude.{◌≡◌, ◌+◌, ◌^◌, ◌<◌, length, [], map, slice_index_or, IfOk};
-ghost use Rattle.kahn_code.specs.Common.{network_of, instance_at, Lists, inputs_of, AreInputsExtended, action_row, form_row, codes};
-ghost use Rattle.kahn_code.specs.inner.Gone.{nothing_gone};
-ghost use Rattle.kahn_code.specs.Standing.{Serve};
-ghost use Rattle.kahn_code.specs.Progress.{AreCounts, AreUnused, site_of, HasRunFor, IsAt, CellView};
+ghost use Rattle.kahn_code.specs.{Common.network_of, Common.instance_at, Common.Lists, Common.inputs_of, Common.AreInputsExtended, Common.action_row, Common.form_row, Common.codes, inner.Gone.nothing_gone, Standing.Serve, Progress.AreCounts, Progress.AreUnused, Progress.site_of, Progress.HasRunFor, Progress.IsAt, Progress.CellView};
 
 use crate::code::{Code, CodeFault};
 use crate::ports::Ports;

@@ -1,8 +1,7 @@
 //! What flat code means. The function does nothing: its contract is the law.
 
 ghost use Rattle.std.specs.Prelude.{◌≡◌, ℕ};
-ghost use Rattle.kahn_code.specs.Common.{Store, exec, Tapes, play, Stmt};
-ghost use Rattle.kahn_code.specs.Flat.{stmt_code, depth, code_script, opened};
+ghost use Rattle.kahn_code.specs.{Common.Store, Common.exec, Common.Tapes, Common.play, Common.Stmt, Flat.stmt_code, Flat.depth, Flat.code_script, Flat.opened};
 
 /// With any number of events and on any tapes, the flat code of a statement does what the statement does, where it
 /// has as many registers for parts of expressions as the deepest of its expressions wants.

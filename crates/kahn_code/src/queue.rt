@@ -2,9 +2,8 @@
 
 ghost use Rattle.std.specs.Prelude.{◌≡◌, ◌<◌, ◌≤◌, ◌+◌, ◌-◌, ◌^◌, length, slice_get, IfSome, IfNone, OnOk, OnErr, IsOk, Some, map, IfOk, ℕ, drop};
 ghost use Rattle.kahn_code.specs.Common.{network_of, role_at, Input as InputRole, Channel, AreInputsExtended, IsOf, Holds, Names, Lists, inputs_of, Follow, action_row, form_row, codes};
-ghost use Rattle.kahn_code.specs.Lines.{AreFirst, IsFirst, HasMore, Waiting, waiting_in};
+ghost use Rattle.kahn_code.specs.{Lines.AreFirst, Lines.IsFirst, Lines.HasMore, Lines.Waiting, Lines.waiting_in, inner.Gone.AllBegin, inner.Gone.regrown};
 ghost use Rattle.std.specs.VecDeque.{deque_len, deque_capacity};
-ghost use Rattle.kahn_code.specs.inner.Gone.{AllBegin, regrown};
 
 use kahn_streams::{About, Input, Line, Network, NoMemory, Queued, Token, Value, Word};
 use std::alloc::Allocator;

@@ -2,11 +2,7 @@
 
 ghost use Rattle.std.specs.Prelude.{◌≡◌, ℕ, ◌+◌, ◌^◌, ◌<◌, length, [], map, ◌++◌, slice_get, slice_index_or, IfOk, Some};
 ghost use Rattle.kahn_code.specs.Common.{network_of, instance_at, Lists, inputs_of, Names, AreInputsExtended, action_row, form_row, codes};
-ghost use Rattle.kahn_code.specs.Cells.{StoodBy};
-ghost use Rattle.kahn_code.specs.inner.Gone.{kept_behind, nothing_gone};
-ghost use Rattle.kahn_code.specs.Standing.{Serve, tokens};
-ghost use Rattle.kahn_code.specs.Progress.{AreCounts, AreUnused, site_of, told_view, HasRunFor, IsAt, IsStanding};
-ghost use Rattle.kahn_code.specs.inner.Tapped.{HasForgotten, Tapped, regrown_tap, tapped_of};
+ghost use Rattle.kahn_code.specs.{Cells.StoodBy, inner.Gone.kept_behind, inner.Gone.nothing_gone, Standing.Serve, Standing.tokens, Progress.AreCounts, Progress.AreUnused, Progress.site_of, Progress.told_view, Progress.HasRunFor, Progress.IsAt, Progress.IsStanding, inner.Tapped.HasForgotten, inner.Tapped.Tapped, inner.Tapped.regrown_tap, inner.Tapped.tapped_of};
 
 use crate::cell::{Cell, Kept};
 use crate::code::{Code, CodeFault};

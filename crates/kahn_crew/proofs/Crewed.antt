@@ -1,10 +1,6 @@
 -- Workers with their seats.
-use Rattle.kahn_crew.proofs.Common.{arith, ◌≡◌, ◌↔◌, ◌⊎◌, inl, inr, ⊎_elim, ℕ, suc, ◌+◌, ◌<◌, ◌≤◌, Bool, true, false, true≢false, ◌||◌, List, [], ◌∷◌, ◌++◌, length, All, sum_by, slice_index_or, refl, sym, ap, ◌∙◌, subst, map, length-map, map-append, get_or-map, dite, ℕ_discrete, sum_by_push, sum_by-cons, Seat, Heeds, Run, Tasked, get_or_append_left, length-append}
-use Rattle.kahn_board.specs.inner.Turn.{SitsAt, parts_of, raised_of}
-use Rattle.kahn_crew.specs.inner.Turns.{HasCause, HasGone, HasSeat, WantsNone, seat_of, table_id_of}
-use Rattle.kahn_crew.specs.declared.worker.Worker.{Worker}
+use Rattle.kahn_crew.proofs.Common.{arith, ◌≡◌, ◌↔◌, ◌⊎◌, inl, inr, ⊎_elim, ℕ, suc, ◌+◌, ◌<◌, ◌≤◌, Bool, true, false, true≢false, ◌||◌, List, [], ◌∷◌, ◌++◌, length, All, sum_by, slice_index_or, refl, sym, ap, ◌∙◌, subst, map, length-map, map-append, get_or-map, dite, ℕ_discrete, sum_by_push, sum_by-cons, Seat, Heeds, Run, Tasked, get_or_append_left, length-append, SitsAt, parts_of, raised_of, HasCause, HasGone, HasSeat, WantsNone, seat_of, table_id_of, Worker, get_or-le-sum_by}
 use Rattle.kahn_board.proofs.Joined.{all_but_last}
-use Rattle.std.proofs.lemmas.List.Sums.{get_or-le-sum_by}
 
 -- how often they halted the run
 abbrev pub crew_raised : List Worker → ℕ

@@ -1,17 +1,11 @@
 -- What a closed board says of a run.
-use Rattle.kahn_crew.proofs.Common.{append-nil, ◌++◌, reverse, arith, ◌≡◌, ◌⊎◌, inl, inr, ⊎_elim, ℕ, zero, suc, ◌+◌, ◌<◌, ◌≤◌, true, false, List, [], ◌∷◌, length, sum_by, refl, sym, ap, ◌∙◌, subst, Option, Some, slice_get, some, get_elem?, sum_by-cons, slice_get_within, Program, Network, Reads, Writes, Given, channel_source, network_of, instance_at, actual_at, role_at, IsWellWired, Lists, is_output, count, end_at, Work, belongs, dealt, wired, events_told, wires, Terms, SeatView, AreReadyTasks, HasBegun, IsTaskOf, Tasked, Continues, IsLater, count_on, handed_to_task, read_by, reads_at, told_tale, waits_on, writes_at, wrote_by, no_writer}
+use Rattle.kahn_crew.proofs.Common.{append-nil, ◌++◌, reverse, arith, ◌≡◌, ◌⊎◌, inl, inr, ⊎_elim, ℕ, zero, suc, ◌+◌, ◌<◌, ◌≤◌, true, false, List, [], ◌∷◌, length, sum_by, refl, sym, ap, ◌∙◌, subst, Option, Some, slice_get, some, get_elem?, sum_by-cons, slice_get_within, Program, Network, Reads, Writes, Given, channel_source, network_of, instance_at, actual_at, role_at, IsWellWired, Lists, is_output, count, end_at, Work, belongs, dealt, wired, events_told, wires, Terms, SeatView, AreReadyTasks, HasBegun, IsTaskOf, Tasked, Continues, IsLater, count_on, handed_to_task, read_by, reads_at, told_tale, waits_on, writes_at, wrote_by, no_writer, ClosesBoard, below}
 use Rattle.kahn_streams.specs.declared.tree.Role.{Role}
-use Rattle.kahn_board.specs.Opening.{ClosesBoard}
-use Rattle.kahn_board.specs.Rule.{below}
 use Rattle.kahn_board.specs.declared.closing.Closed.{Closed}
 use Rattle.kahn_crew.specs.inner.Left.{AreAll, AreUntouched, HaveGone, IsQuietTask, IsOver, task_events}
 use Rattle.kahn_job.specs.declared.standing.TaskStanding.{TaskStanding}
 use Rattle.kahn_board.proofs.Opens.{below_first}
-use Rattle.kahn_crew.proofs.Found.{none_some, some_same}
-use Rattle.kahn_crew.proofs.Publishing.{handed_is}
-use Rattle.kahn_crew.proofs.Resting.{continues_here, task_of}
-use Rattle.kahn_crew.proofs.Started.{both_at, fits_of}
-use Rattle.kahn_crew.proofs.Wirings.{instances_are, read_so, reads_first, writes_first, writer_is}
+use Rattle.kahn_crew.proofs.{Found.none_some, Found.some_same, Publishing.handed_is, Resting.continues_here, Resting.task_of, Started.both_at, Started.fits_of, Wirings.instances_are, Wirings.read_so, Wirings.reads_first, Wirings.writes_first, Wirings.writer_is}
 use Rattle.kahn_streams.specs.declared.tree.Role.TheVariants as role
 use Rattle.kahn_streams.proofs.Sourced
 use Rattle.kahn_board.specs.Opening as closed

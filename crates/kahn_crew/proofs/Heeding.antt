@@ -1,6 +1,5 @@
 -- A worker that halts the run where memory is wanted, and nowhere else.
-use Rattle.kahn_crew.proofs.Common.{arith, inl, inr, ℕ, Bool, ◌∙◌, Heeds, IsSameWorker, RaisesAsWanted}
-use Rattle.kahn_crew.specs.declared.worker.Worker.{Worker}
+use Rattle.kahn_crew.proofs.Common.{arith, inl, inr, ℕ, Bool, ◌∙◌, Heeds, IsSameWorker, RaisesAsWanted, Worker}
 
 raises_then : (a b c : Bool) (i j k : ℕ) → RaisesAsWanted a i b j → RaisesAsWanted b j c k → RaisesAsWanted a i c k
 raises_then a b c i j k (inl x) (inl y) = inl (y.0 ∙ x.0, y.1 ∙ x.1)

@@ -1,7 +1,6 @@
 -- What is published agrees with what the seat knows.
 use Rattle.kahn_crew.proofs.Common.{arith, ◌≡◌, ◌≢◌, inl, inr, ℕ, ◌+◌, ◌<◌, ◌^◌, false, length, sym, ap, ◌∙◌, subst, Some, None, slice_set, dite, ℕ_discrete, get_or-set_same, get_or-set_other, Program, Actual, Writes, network_of, instance_at, actual_at, role_at, IsWellWired, is_output, count, driven, wires, SeatView, end_at, Work, HasPublished, SeesMore, IsJob, AreCounts, IsTaskOf, Tasked, AgreesWith, IsPublished, handed_to_task, written_by}
-use Rattle.kahn_crew.proofs.Wirings.{so_written, writer_is, written_inside, written_so}
-use Rattle.kahn_crew.proofs.Found.{none_some}
+use Rattle.kahn_crew.proofs.{Wirings.so_written, Wirings.writer_is, Wirings.written_inside, Wirings.written_so, Found.none_some}
 
 writes_same : {c d : ℕ} → Writes d ≡ Writes c → d ≡ c
 writes_same e = cc

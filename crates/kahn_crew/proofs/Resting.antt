@@ -1,11 +1,8 @@
 -- A task that is set down.
-use Rattle.kahn_crew.proofs.Common.{arith, ◌≡◌, ◌⊎◌, inl, inr, ⊎_elim, ℕ, ◌+◌, ◌<◌, ◌^◌, List, refl, sym, ap, ◌∙◌, subst, Option, Some, None, slice_index, Program, Lists, Reads, Writes, network_of, instance_at, actual_at, role_at, IsWellWired, is_output, route_of, count, AreCounts, belongs, wired, wires, SeesMore, Terms, SeatView, Fits, Knows, end_at, Work, IsDelivered, FitTogether, IsTaskOf, IsDue, Tasked, Continues, HasStanding, AgreesWith, IsLater, IsPublished, count_on, handed_to_task, read_by, reads_at, told_tale, waits_on, writes_at, wrote_by, is_there}
+use Rattle.kahn_crew.proofs.Common.{arith, ◌≡◌, ◌⊎◌, inl, inr, ⊎_elim, ℕ, ◌+◌, ◌<◌, ◌^◌, List, refl, sym, ap, ◌∙◌, subst, Option, Some, None, slice_index, Program, Lists, Reads, Writes, network_of, instance_at, actual_at, role_at, IsWellWired, is_output, route_of, count, AreCounts, belongs, wired, wires, SeesMore, Terms, SeatView, Fits, Knows, end_at, Work, IsDelivered, FitTogether, IsTaskOf, IsDue, Tasked, Continues, HasStanding, AgreesWith, IsLater, IsPublished, count_on, handed_to_task, read_by, reads_at, told_tale, waits_on, writes_at, wrote_by, is_there, FlushedAll, flushed_of, second_of}
 use Rattle.kahn_streams.proofs.Dry.{dry_reads}
-use Rattle.kahn_board.specs.Wires.{FlushedAll, flushed_of, second_of}
-use Rattle.kahn_crew.proofs.Wirings.{reads_first, writes_first, first_writes, reader_is, writer_is, read_inside, written_inside}
-use Rattle.kahn_crew.proofs.Publishing.{handed_is}
+use Rattle.kahn_crew.proofs.{Wirings.reads_first, Wirings.writes_first, Wirings.first_writes, Wirings.reader_is, Wirings.writer_is, Wirings.read_inside, Wirings.written_inside, Publishing.handed_is, Found.none_some, Found.some_same}
 use Rattle.kahn_job.proofs.Berthed.{same_self, same_then}
-use Rattle.kahn_crew.proofs.Found.{none_some, some_same}
 use Rattle.kahn_job.specs.declared.standing.TaskStanding.TheVariants as standing
 use Rattle.kahn_crew.specs.declared.turn.Due.TheVariants as due
 

@@ -1,7 +1,6 @@
 -- A worker that goes round all instances, and finds none that is ready.
-use Rattle.kahn_crew.proofs.Common.{Option, Some, None, arith, ◌≡◌, ℕ, ◌+◌, ◌-◌, ◌*◌, ◌%◌, ◌<◌, refl, ap, ◌∙◌, subst, dite, ℕ_discrete, add-mod_left, mod-eq_of_lt, mod-lt, holds, Seat, Run, HasPicked, IsSameWorker, WasNotReady, terms_of, Tasked, IsLater, told_tale, Bool, Sat, sym, LooksAt, RestsWith, SitsWith}
+use Rattle.kahn_crew.proofs.Common.{Option, Some, None, arith, ◌≡◌, ℕ, ◌+◌, ◌-◌, ◌*◌, ◌%◌, ◌<◌, refl, ap, ◌∙◌, subst, dite, ℕ_discrete, add-mod_left, mod-eq_of_lt, mod-lt, holds, Seat, Run, HasPicked, IsSameWorker, WasNotReady, terms_of, Tasked, IsLater, told_tale, Bool, Sat, sym, LooksAt, RestsWith, SitsWith, Worker}
 use Rattle.kahn_board.proofs.Keeps.{was_at}
-use Rattle.kahn_crew.specs.declared.worker.Worker.{Worker}
 
 -- each is met once
 met : (n a p : ℕ) → a < n → p < n → (k : ℕ) × (k < n) × ((a + k) % n ≡ p)

@@ -1,16 +1,9 @@
 -- The first tasks, and the board that is made of them.
-use Rattle.kahn_crew.proofs.Common.{arith, ◌≡◌, ℕ, zero, suc, ◌+◌, ◌<◌, ◌≤◌, ◌^◌, List, [], ◌∷◌, ◌++◌, length, map, refl, sym, ap, ◌∙◌, subst, true, false, Option, Some, None, slice_get, slice_index, slice_index_or, some, some-injective, some-ne-none, get_elem?, length-map, option_map, slice_get-map, slice_get_read, Program, Side, Writes, network_of, instance_at, actual_at, role_at, IsOnly, IsWriter, IsWellWired, side_at, Lists, inputs_of, is_output, Joins, count, AreCounts, Serves, end_at, IsDelivered, Work, events_told, Opens, wires, Terms, SeatView, woken_task, Tasked, AreReadyTasks, HasBegun, IsNumber, IsReadyTask, FitTogether, AgreesWith, IsLater, IsPublished, task_rows, told_tale}
+use Rattle.kahn_crew.proofs.Common.{arith, ◌≡◌, ℕ, zero, suc, ◌+◌, ◌<◌, ◌≤◌, ◌^◌, List, [], ◌∷◌, ◌++◌, length, map, refl, sym, ap, ◌∙◌, subst, true, false, Option, Some, None, slice_get, slice_index, slice_index_or, some, some-injective, some-ne-none, get_elem?, length-map, option_map, slice_get-map, slice_get_read, Program, Side, Writes, network_of, instance_at, actual_at, role_at, IsOnly, IsWriter, IsWellWired, side_at, Lists, inputs_of, is_output, Joins, count, AreCounts, Serves, end_at, IsDelivered, Work, events_told, Opens, wires, Terms, SeatView, woken_task, Tasked, AreReadyTasks, HasBegun, IsNumber, IsReadyTask, FitTogether, AgreesWith, IsLater, IsPublished, task_rows, told_tale, AreJoinedOn, spent}
 use Rattle.kahn_streams.specs.declared.tree.Role.TheVariants.{Input}
-use Rattle.kahn_job.specs.inner.Idles.{AreIdle, CanGoOn, HaveSettled, rows_of}
-use Rattle.kahn_job.specs.inner.Berths.{AreJoinedOn}
-use Rattle.kahn_job.specs.inner.Idles.{AreOpening}
-use Rattle.kahn_job.proofs.Idles.{idle_goes_on, row_there}
-use Rattle.kahn_job.proofs.Settles.{stood_same}
-use Rattle.kahn_board.specs.Rule.{spent}
-use Rattle.kahn_crew.proofs.Found.{none_some, some_same}
-use Rattle.kahn_crew.proofs.Publishing.{handed_is}
-use Rattle.kahn_crew.proofs.Resting.{flushed_all, continues_here, published_is}
-use Rattle.kahn_crew.proofs.Wirings.{channels_are, instances_are}
+use Rattle.kahn_job.specs.{inner.Idles.AreIdle, inner.Idles.CanGoOn, inner.Idles.HaveSettled, inner.Idles.rows_of, inner.Idles.AreOpening}
+use Rattle.kahn_job.proofs.{Idles.idle_goes_on, Idles.row_there, Settles.stood_same}
+use Rattle.kahn_crew.proofs.{Found.none_some, Found.some_same, Publishing.handed_is, Resting.flushed_all, Resting.continues_here, Resting.published_is, Wirings.channels_are, Wirings.instances_are}
 use Rattle.kahn_streams.proofs.Sourced
 pub use Rattle.kahn_streams.proofs.By_number.{mapped_at}
 

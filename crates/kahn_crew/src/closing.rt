@@ -1,9 +1,7 @@
 //! How a run ends: what its workers leave, and why they leave nothing.
 
 ghost use Rattle.std.specs.Prelude.{◌≡◌, ◌≤◌};
-ghost use Rattle.kahn_crew.specs.inner.Words.{[], All, length, map, vec_capacity, IsJob};
-ghost use Rattle.kahn_crew.specs.inner.Left.{run_fault};
-ghost use Rattle.kahn_crew.specs.inner.Tasks.{work_of};
+ghost use Rattle.kahn_crew.specs.{inner.Words.[], inner.Words.All, inner.Words.length, inner.Words.map, inner.Words.vec_capacity, inner.Words.IsJob, inner.Left.run_fault, inner.Tasks.work_of};
 
 use kahn_job::{Idle, Task};
 use kahn_streams::RunFault;

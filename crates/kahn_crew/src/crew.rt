@@ -2,11 +2,7 @@
 
 ghost use Rattle.std.specs.Prelude.{◌≡◌, ◌↔◌, ◌+◌, ◌<◌, ◌≤◌, ◌^◌};
 ghost use Rattle.kahn_crew.specs.inner.Words.{[], true, false, Err, length, map, All, IfOk, IfErr, OnOk, vec_capacity, events_told, IsLoneSeat, parts_of, raised_of};
-ghost use Rattle.kahn_crew.specs.inner.Turns.{HasCause, HasGone, HasSeat, WantsNone, seat_of, table_id_of};
-ghost use Rattle.kahn_crew.specs.inner.Planned.{IsCrew};
-ghost use Rattle.kahn_crew.specs.inner.Left.{AreUntouched, IsLack, IsLeftOf, IsOver};
-ghost use Rattle.kahn_crew.specs.inner.Tasks.{AreReadyTasks, told_tale};
-ghost use Rattle.kahn_crew.specs.declared.closing.CrewFault.TheVariants.{NoMemory as NoMemoryFault, NoThread as NoThreadFault};
+ghost use Rattle.kahn_crew.specs.{inner.Turns.HasCause, inner.Turns.HasGone, inner.Turns.HasSeat, inner.Turns.WantsNone, inner.Turns.seat_of, inner.Turns.table_id_of, inner.Planned.IsCrew, inner.Left.AreUntouched, inner.Left.IsLack, inner.Left.IsLeftOf, inner.Left.IsOver, inner.Tasks.AreReadyTasks, inner.Tasks.told_tale, declared.closing.CrewFault.TheVariants.NoMemory as NoMemoryFault, declared.closing.CrewFault.TheVariants.NoThread as NoThreadFault};
 
 use crate::boxes::{Boxed, unbox_all};
 use crate::closing::{CrewFault, Left};

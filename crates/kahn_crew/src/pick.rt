@@ -1,8 +1,7 @@
 //! Which instance is taken next.
 
 ghost use Rattle.std.specs.Prelude.{◌≡◌, ◌<◌};
-ghost use Rattle.kahn_crew.specs.inner.Words.{ℕ, false, true, IfSome, IfNone, IsSeatOf};
-ghost use Rattle.kahn_crew.specs.inner.Turns.{HasPicked, HasTask, IsSameWorker, SitsWith, WasNotReady};
+ghost use Rattle.kahn_crew.specs.{inner.Words.ℕ, inner.Words.false, inner.Words.true, inner.Words.IfSome, inner.Words.IfNone, inner.Words.IsSeatOf, inner.Turns.HasPicked, inner.Turns.HasTask, inner.Turns.IsSameWorker, inner.Turns.SitsWith, inner.Turns.WasNotReady};
 
 use crate::boxes::Boxed;
 use crate::run::Run;

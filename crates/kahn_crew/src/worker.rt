@@ -1,8 +1,7 @@
 //! A worker: it takes one instance after another, until there is a reason to leave.
 
 ghost use Rattle.std.specs.Prelude.{◌≡◌, ◌<◌};
-ghost use Rattle.kahn_crew.specs.inner.Words.{IsBetweenTurns};
-ghost use Rattle.kahn_crew.specs.inner.Turns.{HasPicked, Heeds, IsSameWorker, SitsWith};
+ghost use Rattle.kahn_crew.specs.{inner.Words.IsBetweenTurns, inner.Turns.HasPicked, inner.Turns.Heeds, inner.Turns.IsSameWorker, inner.Turns.SitsWith};
 
 use crate::boxes::Boxed;
 use crate::hints::Hints;

@@ -1,28 +1,13 @@
 -- A picture that was written as the one piece of a line, and why there is none.
-use Rattle.std.proofs.Common.{◌≡◌, ℕ, List, [], ◌++◌, map, Option, None, Result, Ok, Err, inl, inr, refl, subst, string_bytes, sym, append-nil}
-use Rattle.std.specs.Io.KnownBytes.{Appends}
-use Rattle.std.specs.declared.alloc.Global.{Global}
-use Rattle.std.specs.declared.string.String.{String}
+use Rattle.kahn_draw.proofs.Common.{◌≡◌, ℕ, List, [], ◌++◌, map, Option, None, Result, Ok, Err, inl, inr, refl, subst, string_bytes, sym, append-nil, AreStandings, stands, network_of, IsDrawn, IsDrawnFor, IsNotDrawn, IsPictured, IsPictureFor, IsPictureOf, IsRunOf, IsUnrunFor}
+use Rattle.std.specs.{Io.KnownBytes.Appends, declared.alloc.Global.Global, declared.string.String.String}
 use Rattle.kahn_chain.proofs.Standing_ends.{stand}
-use Rattle.kahn_chain.specs.Chain.{AreStandings, stands}
-use Rattle.kahn_streams.specs.declared.answer.Answer.{Answer}
-use Rattle.kahn_streams.specs.declared.answer.End.{End}
-use Rattle.kahn_streams.specs.declared.answer.Stream.{Stream}
+use Rattle.kahn_streams.specs.{declared.answer.Answer.Answer, declared.answer.End.End, declared.answer.Stream.Stream, declared.fault.RunFault.RunFault, declared.tree.Program.Program, Answers.IsRight, Inputs.Lists, Inputs.inputs_of, Written.AppendsFront}
 use Rattle.kahn_graph.specs.Graph.{IsPicture}
-use Rattle.kahn_streams.specs.declared.fault.RunFault.{RunFault}
 use Rattle.kahn_streams.specs.declared.fault.RunFault.TheVariants as fault
-use Rattle.kahn_streams.specs.declared.tree.Program.{Program}
-use Rattle.kahn_streams.specs.Answers.{IsRight}
-use Rattle.kahn_streams.specs.Inputs.{Lists, inputs_of}
-use Rattle.kahn_streams.specs.Network.{network_of}
-use Rattle.kahn_streams.specs.Written.{AppendsFront}
 use Rattle.kahn_sequential.specs.HeldRuns.{IsRefusedRun}
-use Rattle.kahn_fault.specs.Work.{IsChecked, IsUnchecked}
-use Rattle.kahn_fault.specs.declared.work.WorkFault.{WorkFault}
-use Rattle.kahn_fault.specs.declared.work.WorkFault.TheVariants.{Syntax, Check, Text, Run as RunWork, Write}
-use Rattle.kahn_draw.specs.Drawing.{IsDrawn, IsDrawnFor, IsNotDrawn, IsPictured, IsPictureFor, IsPictureOf, IsRunOf, IsUnrunFor}
-use Rattle.kahn_draw.specs.declared.drawing.Drawn.{Drawn}
-use Rattle.kahn_draw.specs.declared.drawing.Drawn.TheVariants.{Network, Run}
+use Rattle.kahn_fault.specs.{Work.IsChecked, Work.IsUnchecked, declared.work.WorkFault.WorkFault, declared.work.WorkFault.TheVariants.Syntax, declared.work.WorkFault.TheVariants.Check, declared.work.WorkFault.TheVariants.Text, declared.work.WorkFault.TheVariants.Run as RunWork, declared.work.WorkFault.TheVariants.Write}
+use Rattle.kahn_draw.specs.{declared.drawing.Drawn.Drawn, declared.drawing.Drawn.TheVariants.Network, declared.drawing.Drawn.TheVariants.Run}
 
 pub went_out : (program input : List ℕ) (drawn : Drawn) (t : Program) (picture : List ℕ) (old new : Option (List ℕ)) → IsChecked program t
     → IsPictureFor t program input drawn picture → Appends old new (picture ++ []) → (p : List ℕ) × IsPictureOf program input drawn p × Appends old new p

@@ -1,1 +1,2 @@
 mod Drawn
+pub mod Common

@@ -1,25 +1,11 @@
 -- Believed. What drawing does, from the bytes of the program text and of the input text to the bytes of the picture.
 use Rattle.std.specs.Prelude.{◌≡◌, ◌⊎◌, ℕ, ◌^◌, ◌≤◌, List, [], Option, None, Result, Ok, Err, string_bytes}
-use Rattle.std.specs.declared.alloc.Global.{Global}
-use Rattle.std.specs.declared.string.String.{String}
-use Rattle.std.specs.Io.KnownBytes.{Appends}
-use Rattle.kahn_streams.specs.declared.answer.Answer.{Answer}
-use Rattle.kahn_streams.specs.declared.answer.End.{End}
-use Rattle.kahn_streams.specs.declared.answer.Stream.{Stream}
-use Rattle.kahn_streams.specs.declared.fault.RunFault.{RunFault}
-use Rattle.kahn_streams.specs.declared.fault.RunFault.TheVariants.{NoMemory}
-use Rattle.kahn_streams.specs.declared.tree.Program.{Program}
-use Rattle.kahn_streams.specs.Answers.{IsRight}
-use Rattle.kahn_streams.specs.Inputs.{Lists, inputs_of}
-use Rattle.kahn_streams.specs.Network.{network_of}
-use Rattle.kahn_streams.specs.Written.{AppendsFront}
+use Rattle.std.specs.{declared.alloc.Global.Global, declared.string.String.String, Io.KnownBytes.Appends}
+use Rattle.kahn_streams.specs.{declared.answer.Answer.Answer, declared.answer.End.End, declared.answer.Stream.Stream, declared.fault.RunFault.RunFault, declared.fault.RunFault.TheVariants.NoMemory, declared.tree.Program.Program, Answers.IsRight, Inputs.Lists, Inputs.inputs_of, Network.network_of, Written.AppendsFront}
 use Rattle.kahn_graph.specs.Graph.{IsPicture}
 use Rattle.kahn_texts.specs.Formats.{IsInputTextFault, StandsFor}
-use Rattle.kahn_fault.specs.declared.work.WorkFault.{WorkFault}
-use Rattle.kahn_fault.specs.declared.work.WorkFault.TheVariants.{Syntax, Check, Text, Run as RunWork, Write}
-use Rattle.kahn_fault.specs.Work.{IsChecked, IsUnchecked}
-use Rattle.kahn_draw.specs.declared.drawing.Drawn.{Drawn}
-use Rattle.kahn_draw.specs.declared.drawing.Drawn.TheVariants.{Network, Run}
+use Rattle.kahn_fault.specs.{declared.work.WorkFault.WorkFault, declared.work.WorkFault.TheVariants.Syntax, declared.work.WorkFault.TheVariants.Check, declared.work.WorkFault.TheVariants.Text, declared.work.WorkFault.TheVariants.Run as RunWork, declared.work.WorkFault.TheVariants.Write, Work.IsChecked, Work.IsUnchecked}
+use Rattle.kahn_draw.specs.{declared.drawing.Drawn.Drawn, declared.drawing.Drawn.TheVariants.Network, declared.drawing.Drawn.TheVariants.Run}
 
 -- a right answer for what the input text stands for, up to this bound
 abbrev pub IsRunOf : Program → List ℕ → ℕ → Answer → Type 0

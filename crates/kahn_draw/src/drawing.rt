@@ -4,8 +4,7 @@ ghost use Rattle.std.specs.Prelude.{◌≡◌, ◌⊎◌, [], map};
 ghost use Rattle.kahn_streams.specs.Network.{network_of};
 ghost use Rattle.kahn_fault.specs.Work.{IsChecked};
 ghost use Rattle.kahn_chain.specs.Chain.{AreStandings, stands};
-ghost use Rattle.kahn_draw.specs.Drawing.{IsDrawn, IsDrawnFor, IsPictured};
-ghost use Rattle.kahn_draw.specs.declared.drawing.Drawn.TheVariants.{Run};
+ghost use Rattle.kahn_draw.specs.{Drawing.IsDrawn, Drawing.IsDrawnFor, Drawing.IsPictured, declared.drawing.Drawn.TheVariants.Run};
 
 use kahn_fault::{WorkFault, checked};
 use kahn_graph::picture_text;

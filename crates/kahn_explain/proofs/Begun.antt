@@ -1,17 +1,5 @@
 -- A column of a right answer is a history.
-use Rattle.std.proofs.Common.{◌≡◌, ℕ, List, sym, subst, ◌∙◌, Option}
-use Rattle.kahn_streams.specs.Network.{Network}
-use Rattle.kahn_streams.specs.declared.value.Line.{Line}
-use Rattle.kahn_streams.specs.declared.value.Value.{Value}
-use Rattle.kahn_streams.specs.Solution.{Inputs, IsPrefix, IsWhole, iterate}
-use Rattle.kahn_streams.specs.Answers.{HasStream, IsRight, values_of}
-use Rattle.kahn_streams.specs.declared.answer.Answer.{Answer}
-use Rattle.kahn_streams.specs.declared.answer.Stream.{Stream}
-use Rattle.kahn_streams.specs.declared.value.Line.TheVariants.{Channel}
-use Rattle.kahn_sequential.specs.Recordings.{IsHistoryIn}
-use Rattle.kahn_explain.specs.Histories.{IsHistory}
-use Rattle.kahn_explain.specs.inner.Columns.{HasValuesOf}
-use Rattle.kahn_explain.specs.declared.tracing.column.Column.{Column}
+use Rattle.kahn_explain.proofs.Common.{◌≡◌, ℕ, List, sym, subst, ◌∙◌, Option, Network, Line, Value, Inputs, IsPrefix, IsWhole, iterate, HasStream, IsRight, values_of, Answer, Stream, Channel, IsHistoryIn, IsHistory, HasValuesOf, Column}
 
 begun : (N : Network) (I : Inputs) (c d : Line) (vs ws : List Value) → c ≡ d → vs ≡ ws → (n : ℕ) × IsPrefix ws (iterate N I n d) → (n : ℕ) × IsPrefix vs (iterate N I n c)
 begun N I c d vs ws line values h =

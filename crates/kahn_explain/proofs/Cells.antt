@@ -1,26 +1,8 @@
 -- Which streams an answer has, and which lines the columns.
-use Rattle.std.proofs.Common.{◌≡◌, ◌∙◌, ℕ, zero, suc, ◌+◌, ◌<◌, ◌||◌, Bool, true, false, if◌then◌else◌, List, [], ◌∷◌, ◌++◌, length, map, flat_map, Option, Some, refl, sym, ap, subst, arith, get_or, slice_get, take, append_assoc, append-nil, add-one}
-use Rattle.std.proofs.Math.Seq.{take-suc}
-use Rattle.std.proofs.lemmas.Grind.{flat_map-append}
-use Rattle.std.proofs.lemmas.List.{map-append}
-use Rattle.std.proofs.lemmas.List.Elements.{All-append}
-use Rattle.std.proofs.lemmas.List.Folds.{flat_map-map}
-use Rattle.std.proofs.lemmas.Option.{slice_get-get_or}
-use Rattle.kahn_streams.specs.declared.tree.Kind.{Kind}
-use Rattle.kahn_streams.specs.declared.tree.Role.{Role}
-use Rattle.kahn_streams.specs.declared.value.Line.{Line}
-use Rattle.kahn_streams.specs.declared.tree.Kind.TheVariants.{Integer}
-use Rattle.kahn_streams.specs.declared.tree.Role.TheVariants.{Inner, Output}
-use Rattle.kahn_streams.specs.Syntax.{prints_in}
-use Rattle.kahn_streams.specs.Network.{Instance, Network, role_at}
-use Rattle.kahn_streams.specs.declared.value.Line.TheVariants.{Channel, Print}
+use Rattle.kahn_explain.proofs.Common.{◌≡◌, ◌∙◌, ℕ, zero, suc, ◌+◌, ◌<◌, ◌||◌, Bool, true, false, if◌then◌else◌, List, [], ◌∷◌, ◌++◌, length, map, flat_map, Option, Some, refl, sym, ap, subst, arith, get_or, slice_get, take, append_assoc, append-nil, add-one, flat_map-append, map-append, All-append, slice_get-get_or, Kind, Role, Line, Inner, Output, Instance, Network, role_at, Channel, Print, is_output, is_watched, HasStream, channel_lines, stream_line, print_lines, stream_lines, Answer, Stream, column_line, AddsPrint, AddsPrints, HasLine, HasValuesOf, print_line, print_part, Column}
+use Rattle.std.proofs.{Math.Seq.take-suc, lemmas.List.Folds.flat_map-map}
+use Rattle.kahn_streams.specs.{declared.tree.Kind.TheVariants.Integer, Syntax.prints_in}
 use Rattle.kahn_code.specs.Cells.{is_streamed}
-use Rattle.kahn_streams.specs.Answers.{is_output, is_watched, HasStream, channel_lines, stream_line, print_lines, stream_lines}
-use Rattle.kahn_streams.specs.declared.answer.Answer.{Answer}
-use Rattle.kahn_streams.specs.declared.answer.Stream.{Stream}
-use Rattle.kahn_explain.specs.Histories.{column_line}
-use Rattle.kahn_explain.specs.inner.Columns.{AddsPrint, AddsPrints, HasLine, HasValuesOf, print_line, print_part}
-use Rattle.kahn_explain.specs.declared.tracing.column.Column.{Column}
 
 -- ---- an output has a stream
 

@@ -1,24 +1,9 @@
 -- The first value that needs one of an input.
-use Rattle.std.proofs.Common.{arith, ◌≡◌, ◌⊎◌, inl, inr, ℕ, ◌≤◌, ◌<◌, ◌+◌, subst, ap, ◌∙◌, slice_index_or}
-use Rattle.std.proofs.lemmas.Bool.{cases_lt}
-use Rattle.std.proofs.lemmas.Option.{slice_get_within}
+use Rattle.kahn_explain.proofs.Common.{arith, ◌≡◌, ◌⊎◌, inl, inr, ℕ, ◌≤◌, ◌<◌, ◌+◌, subst, ap, ◌∙◌, slice_index_or, cases_lt, slice_get_within, Lists, inputs_of, Given, Network, network_of, Inputs, Stands, iterate, source, Program, Line, Channel, Print, Value, AreNeedsFound, cut_told, of_input, AreRows, IsFirstNeeding, NeedsNot, EndsSearch}
 use Rattle.kahn_streams.proofs.Proved.{prefix_get}
-use Rattle.kahn_streams.specs.Inputs.{Lists, inputs_of}
-use Rattle.kahn_streams.specs.Network.{Given, Network, network_of}
-use Rattle.kahn_streams.specs.Solution.{Inputs, Stands, iterate, source}
-use Rattle.kahn_streams.specs.declared.tree.Program.{Program}
-use Rattle.kahn_streams.specs.declared.value.Line.{Line}
-use Rattle.kahn_streams.specs.declared.value.Line.TheVariants.{Channel, Print}
-use Rattle.kahn_streams.specs.declared.value.Value.{Value}
-use Rattle.kahn_needs.specs.Finding.{AreNeedsFound, cut_told, of_input}
-use Rattle.kahn_needs.specs.Needs.{Cut}
-use Rattle.kahn_needs.specs.declared.needs.Found.{Found}
+use Rattle.kahn_needs.specs.{Needs.Cut, declared.needs.Found.Found, declared.needs.Needs.Needs}
 use Rattle.kahn_needs.specs.declared.needs.Found.TheVariants as found
-use Rattle.kahn_needs.specs.declared.needs.Needs.{Needs}
-use Rattle.kahn_needs.proofs.Told.{one_cut, parts}
-use Rattle.kahn_needs.proofs.Ways.{get_there}
-use Rattle.kahn_explain.specs.Needing.{AreRows, IsFirstNeeding, NeedsNot}
-use Rattle.kahn_explain.specs.inner.Told.{EndsSearch}
+use Rattle.kahn_needs.proofs.{Told.one_cut, Told.parts, Ways.get_there}
 
 not_less : (a b : ℕ) → (a < b → ⊥) → b ≤ a
 not_less a b more = by (cases_lt a b)

@@ -1,27 +1,8 @@
 -- The columns of a run that keeps all channels.
-use Rattle.std.proofs.Common.{◌≡◌, ◌∙◌, ℕ, ◌<◌, ap, arith, false, length, Some, slice_get, sym}
-use Rattle.std.proofs.lemmas.List.{length-map}
+use Rattle.kahn_explain.proofs.Common.{◌≡◌, ◌∙◌, ℕ, ◌<◌, ap, arith, false, length, Some, slice_get, sym, length-map, Config, Program, Line, Kind, Role, Output, Instance, channels_of, network_of, role_at, Lists, inputs_of, Channel, Print, HasStream, IsRightRun, is_output, stream_line, stream_lines, Stream, IsNetworkLine, IsLine, channel_count, instance_count, IsRecordedRun, Recorded, HasLine, HasValuesOf, IsAny, IsColumnOf, IsHistoryOf, IsRecord, Column}
 use Rattle.kahn_streams.proofs.By_number.{all_at, mapped}
-use Rattle.kahn_streams.specs.declared.config.Config.{Config}
-use Rattle.kahn_streams.specs.declared.tree.Program.{Program}
-use Rattle.kahn_streams.specs.declared.value.Line.{Line}
-use Rattle.kahn_streams.specs.declared.tree.Kind.{Kind}
-use Rattle.kahn_streams.specs.declared.tree.Role.{Role}
-use Rattle.kahn_streams.specs.declared.tree.Role.TheVariants.{Output}
-use Rattle.kahn_streams.specs.Network.{Instance, channels_of, network_of, role_at}
-use Rattle.kahn_streams.specs.Inputs.{Lists, inputs_of}
-use Rattle.kahn_streams.specs.declared.value.Line.TheVariants.{Channel, Print}
-use Rattle.kahn_streams.specs.Answers.{HasStream, IsRightRun, is_output, stream_line, stream_lines}
-use Rattle.kahn_streams.specs.declared.answer.Stream.{Stream}
-use Rattle.kahn_needs.specs.Finding.{IsNetworkLine}
-use Rattle.kahn_texts.specs.Formats.{IsLine, channel_count, instance_count}
 use Rattle.kahn_texts.proofs.Answer_lines.{streamed_lines}
-use Rattle.kahn_sequential.specs.Recordings.{IsRecordedRun}
-use Rattle.kahn_sequential.specs.declared.recorded.Recorded.{Recorded}
-use Rattle.kahn_explain.specs.inner.Columns.{HasLine, HasValuesOf, IsAny, IsColumnOf, IsHistoryOf, IsRecord}
-use Rattle.kahn_explain.specs.declared.tracing.column.Column.{Column}
-use Rattle.kahn_explain.proofs.Begun.{history, kept_history}
-use Rattle.kahn_explain.proofs.Cells.{has_line, output_streamed}
+use Rattle.kahn_explain.proofs.{Begun.history, Begun.kept_history, Cells.has_line, Cells.output_streamed}
 
 -- the answer of such a run is right, and it has a stream of each channel
 pub right_run : (t : Program) (lists : Lists) (config : Config) (x : Recorded) → IsRecordedRun t lists config x → IsRightRun t lists config x.answer

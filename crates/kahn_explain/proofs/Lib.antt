@@ -7,3 +7,4 @@ mod Parts
 mod Sheets
 mod Tables
 mod Worded
+pub mod Common

@@ -1,9 +1,6 @@
 -- Of which channel most values are left.
-use Rattle.std.proofs.Common.{arith, ◌≡◌, ◌⊎◌, inl, inr, ℕ, ◌+◌, ◌<◌, ◌≤◌, List, Option, Some, None, subst}
-use Rattle.std.proofs.lemmas.Bool.{cases_lt}
-use Rattle.kahn_streams.specs.declared.tree.Program.{Program}
+use Rattle.kahn_explain.proofs.Common.{arith, ◌≡◌, ◌⊎◌, inl, inr, ℕ, ◌+◌, ◌<◌, ◌≤◌, List, Option, Some, None, subst, cases_lt, Program, HasLeft, IsFullest, left_of, most_left}
 use Rattle.kahn_sequential.specs.declared.counted.Count.{Count}
-use Rattle.kahn_explain.specs.Untaken.{HasLeft, IsFullest, left_of, most_left}
 
 module _ (t : Program) (ns : List Count) (n : ℕ) where
   -- all of n channels, and of one more

@@ -1,29 +1,9 @@
 -- What the parts of explaining say of the whole.
-use Rattle.std.proofs.Common.{◌∙◌, ℕ, Bool, List, ◌++◌, Option, Result, Ok, Err, ap, append_assoc, inl, inr, refl, string_bytes, subst, sym}
-use Rattle.std.proofs.KnownBytes.{Appends-trans}
-use Rattle.std.specs.Io.KnownBytes.{Appends}
-use Rattle.kahn_streams.specs.declared.config.Config.{Config}
-use Rattle.kahn_streams.specs.declared.fault.RunFault.{RunFault}
-use Rattle.kahn_streams.specs.declared.fault.RunFault.TheVariants.{NoMemory}
-use Rattle.kahn_streams.specs.declared.tree.Program.{Program}
-use Rattle.kahn_streams.specs.Inputs.{Lists}
-use Rattle.kahn_streams.specs.Answers.{IsRightRun, IsUnrun}
-use Rattle.kahn_streams.specs.declared.answer.Verdict.TheVariants.{Finished}
-use Rattle.kahn_texts.specs.Formats.{IsInputTextFault, StandsFor}
+use Rattle.kahn_explain.proofs.Common.{◌∙◌, ℕ, Bool, List, ◌++◌, Option, Result, Ok, Err, ap, append_assoc, inl, inr, refl, string_bytes, subst, sym, Appends-trans, Appends, Config, NoMemory, Program, Lists, IsRightRun, IsUnrun, IsInputTextFault, StandsFor, WorkFault, Syntax, Check, Text, Run, Write, are_allowed, HasRefused, HasWritten, IsAdmitted, Admitted, Came, Stopped, Refused, IsCountedRun, IsToldFor, AreNotes, AreNotesBefore, AreNotesOfUnrun, HasExplained, HasLooked, HasComeTo, IsLookedAt, IsToldOf, IsInputless}
+use Rattle.kahn_streams.specs.{declared.fault.RunFault.RunFault, declared.answer.Verdict.TheVariants.Finished}
 use Rattle.kahn_texts.specs.declared.input.TextFault.{TextFault}
-use Rattle.kahn_fault.specs.declared.work.WorkFault.{WorkFault}
-use Rattle.kahn_fault.specs.declared.work.WorkFault.TheVariants.{Syntax, Check, Text, Run, Write}
-use Rattle.kahn_why.specs.declared.why.told.Finding.{Finding}
-use Rattle.kahn_why.specs.declared.why.told.Finding.TheVariants.{Stop}
-use Rattle.kahn_why.proofs.Parts.{are_allowed}
-use Rattle.kahn_why.specs.inner.Told.{HasRefused, HasWritten, IsAdmitted}
-use Rattle.kahn_why.specs.declared.explaining.Admitted.{Admitted}
-use Rattle.kahn_why.specs.declared.explaining.Came.{Came}
-use Rattle.kahn_why.specs.declared.explaining.Came.TheVariants.{Stopped, Refused}
-use Rattle.kahn_sequential.specs.Recordings.{IsCountedRun}
+use Rattle.kahn_why.specs.{declared.why.told.Finding.Finding, declared.why.told.Finding.TheVariants.Stop}
 use Rattle.kahn_sequential.specs.declared.counted.Counted.{Counted}
-use Rattle.kahn_explain.specs.Untaken.{IsToldFor}
-use Rattle.kahn_explain.specs.Running.{AreNotes, AreNotesBefore, AreNotesOfUnrun, HasExplained, HasLooked, HasComeTo, IsLookedAt, IsToldOf, IsInputless}
 
 -- why the program text is refused
 refused : (path program input : List ℕ) (strict : Bool) (P : Finding → List ℕ → Type 0) (U : RunFault → List ℕ → Type 0) (N : List ℕ → Type 0) (old new : Option (List ℕ))

@@ -1,24 +1,6 @@
 -- What the parts of a sheet say of the whole.
-use Rattle.std.proofs.Common.{◌≡◌, ℕ, Bool, List, [], ◌++◌, Option, Result, Ok, Err, inl, inr, refl, string_bytes, subst, sym}
-use Rattle.std.specs.Prelude.{MatchResult}
-use Rattle.std.specs.Io.KnownBytes.{Appends}
-use Rattle.std.proofs.KnownBytes.{Appends-nil}
-use Rattle.kahn_streams.specs.declared.config.Config.{Config}
-use Rattle.kahn_streams.specs.declared.fault.RunFault.TheVariants.{NoMemory}
-use Rattle.kahn_fault.specs.declared.work.WorkFault.{WorkFault}
-use Rattle.kahn_fault.specs.declared.work.WorkFault.TheVariants.{Syntax, Check, Text, Run, Write}
-use Rattle.kahn_why.specs.inner.Told.{HasRefused, HasWritten, IsAdmitted}
-use Rattle.kahn_why.specs.declared.explaining.Admitted.{Admitted}
-use Rattle.kahn_why.specs.declared.explaining.Came.{Came}
-use Rattle.kahn_why.specs.declared.explaining.Came.TheVariants.{Stopped, Refused}
-use Rattle.kahn_why.proofs.Parts.{are_allowed}
-use Rattle.kahn_explain.specs.Histories.{IsUntraced}
-use Rattle.kahn_explain.specs.Needing.{IsUnasked}
-use Rattle.kahn_explain.specs.Running.{HasReplied, Replies}
-use Rattle.kahn_explain.specs.inner.Told.{HasPut, IsNoReply, IsReplyFor, IsTableMade, notes_for, told_beside}
-use Rattle.kahn_explain.specs.declared.needing.asked.AskFault.{AskFault}
-use Rattle.kahn_explain.specs.declared.replying.Reply.{Reply}
-use Rattle.kahn_explain.specs.declared.replying.Sheet.{Sheet}
+use Rattle.kahn_explain.proofs.Common.{◌≡◌, ℕ, Bool, List, [], ◌++◌, Option, Result, Ok, Err, inl, inr, refl, string_bytes, subst, sym, MatchResult, Appends, Appends-nil, Config, NoMemory, WorkFault, Syntax, Check, Text, Run, Write, HasRefused, HasWritten, IsAdmitted, Admitted, Came, Stopped, Refused, are_allowed, IsUntraced, IsUnasked, HasReplied, Replies, HasPut, IsNoReply, IsReplyFor, IsTableMade, notes_for, told_beside}
+use Rattle.kahn_explain.specs.{declared.needing.asked.AskFault.AskFault, declared.replying.Reply.Reply, declared.replying.Sheet.Sheet}
 use Rattle.kahn_explain.specs.declared.replying.Sheet.TheVariants as sheet
 use Rattle.kahn_explain.proofs.Parts.{unfed, unrun}
 

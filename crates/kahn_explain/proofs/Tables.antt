@@ -1,19 +1,6 @@
 -- The columns of all lines, put together.
-use Rattle.std.proofs.Common.{◌≡◌, ◌∙◌, ℕ, ◌+◌, List, [], ◌∷◌, ◌++◌, All, length, map, sym, ap, subst, add-one}
-use Rattle.std.proofs.lemmas.List.{map-append}
-use Rattle.std.proofs.lemmas.List.Elements.{All-append, All-push}
-use Rattle.kahn_streams.specs.declared.tree.Program.{Program}
-use Rattle.kahn_streams.specs.declared.value.Line.{Line}
-use Rattle.kahn_streams.specs.Network.{network_of}
-use Rattle.kahn_streams.specs.Inputs.{inputs_of}
-use Rattle.kahn_streams.specs.declared.value.Line.TheVariants.{Channel}
-use Rattle.kahn_sequential.specs.Recordings.{IsRecordedRun}
-use Rattle.kahn_sequential.specs.declared.recorded.Recorded.{Recorded}
-use Rattle.kahn_explain.specs.Histories.{IsHistory, all_channels, column_line}
-use Rattle.kahn_explain.specs.inner.Columns.{AddsPrints, AreAllHistories, AreColumns, AreOfChannels, IsAny, IsHistoryOf}
-use Rattle.kahn_explain.specs.declared.tracing.column.Column.{Column}
-use Rattle.kahn_explain.proofs.Kept_columns.{of_stream}
-use Rattle.kahn_explain.proofs.Cells.{printed}
+use Rattle.kahn_explain.proofs.Common.{◌≡◌, ◌∙◌, ℕ, ◌+◌, List, [], ◌∷◌, ◌++◌, All, length, map, sym, ap, subst, add-one, map-append, All-append, All-push, Program, Line, network_of, inputs_of, Channel, IsRecordedRun, Recorded, IsHistory, all_channels, column_line, AddsPrints, AreAllHistories, AreColumns, AreOfChannels, IsAny, IsHistoryOf, Column}
+use Rattle.kahn_explain.proofs.{Kept_columns.of_stream, Cells.printed}
 
 -- one channel more
 pub columns_more : (t : Program) (x : Recorded) (k : ℕ) (y : Column) (old new : List Column) → new ≡ old ++ y ∷ [] → AreColumns t x (all_channels k) old

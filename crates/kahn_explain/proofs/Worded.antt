@@ -1,15 +1,6 @@
 -- What words name.
-use Rattle.std.specs.Prelude.{◌↔◌, not}
-use Rattle.std.proofs.Common.{arith, ◌≡◌, ℕ, Bool, true, false, List, Option, Some, None, refl, subst}
+use Rattle.kahn_explain.proofs.Common.{◌↔◌, not, arith, ◌≡◌, ℕ, Bool, true, false, List, Option, Some, None, refl, subst, IsNoName, Given, network_of, source, Program, Line, Channel, Print, IsNetworkLine, IsAskable, IsLineNamed, IsPlaceGiven, IsPlaceWord}
 use Rattle.kahn_streams.proofs.Entered.{names_count}
-use Rattle.kahn_streams.specs.Inputs.{IsNoName}
-use Rattle.kahn_streams.specs.Network.{Given, network_of}
-use Rattle.kahn_streams.specs.Solution.{source}
-use Rattle.kahn_streams.specs.declared.tree.Program.{Program}
-use Rattle.kahn_streams.specs.declared.value.Line.{Line}
-use Rattle.kahn_streams.specs.declared.value.Line.TheVariants.{Channel, Print}
-use Rattle.kahn_needs.specs.Finding.{IsNetworkLine}
-use Rattle.kahn_explain.specs.Needing.{IsAskable, IsLineNamed, IsPlaceGiven, IsPlaceWord}
 
 pub line_listed : (t : Program) (word : List ℕ) (c : Line) → IsLineNamed t word c → IsNetworkLine (network_of t) c
 line_listed t word (Channel c) h = let l = h.1 in let e = names_count t in omega (arith, l, e)

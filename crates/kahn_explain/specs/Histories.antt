@@ -1,22 +1,9 @@
 -- Believed. The histories of all channels of a run: which columns there are, and what their values are.
 use Rattle.std.specs.Prelude.{◌≡◌, ◌⊎◌, ℕ, zero, suc, List, [], ◌∷◌, ◌++◌, All, length, map}
-use Rattle.kahn_streams.specs.declared.config.Config.{Config}
-use Rattle.kahn_streams.specs.declared.tree.Program.{Program}
-use Rattle.kahn_streams.specs.declared.value.Line.{Line}
-use Rattle.kahn_streams.specs.Network.{Network}
-use Rattle.kahn_streams.specs.declared.value.Line.TheVariants.{Channel}
-use Rattle.kahn_streams.specs.Solution.{Inputs, IsPrefix, IsWhole, iterate}
-use Rattle.kahn_streams.specs.Inputs.{Lists}
-use Rattle.kahn_streams.specs.Answers.{print_lines}
-use Rattle.kahn_streams.specs.declared.answer.Verdict.{Verdict}
-use Rattle.kahn_streams.specs.declared.answer.Verdict.TheVariants.{Finished}
-use Rattle.kahn_streams.specs.declared.fault.RunFault.TheVariants.{NoMemory}
-use Rattle.kahn_sequential.specs.Recordings.{IsRecordedRun}
-use Rattle.kahn_sequential.specs.declared.recorded.Recorded.{Recorded}
+use Rattle.kahn_streams.specs.{declared.config.Config.Config, declared.tree.Program.Program, declared.value.Line.Line, Network.Network, declared.value.Line.TheVariants.Channel, Solution.Inputs, Solution.IsPrefix, Solution.IsWhole, Solution.iterate, Inputs.Lists, Answers.print_lines, declared.answer.Verdict.Verdict, declared.answer.Verdict.TheVariants.Finished, declared.fault.RunFault.TheVariants.NoMemory}
+use Rattle.kahn_sequential.specs.{Recordings.IsRecordedRun, declared.recorded.Recorded.Recorded}
 use Rattle.kahn_texts.specs.Formats.{StandsFor}
-use Rattle.kahn_fault.specs.Work.{IsUnanswered}
-use Rattle.kahn_fault.specs.declared.work.WorkFault.{WorkFault}
-use Rattle.kahn_fault.specs.declared.work.WorkFault.TheVariants.{Run}
+use Rattle.kahn_fault.specs.{Work.IsUnanswered, declared.work.WorkFault.WorkFault, declared.work.WorkFault.TheVariants.Run}
 use Rattle.kahn_explain.specs.declared.tracing.column.Column.{Column}
 
 abbrev pub column_line : Column → Line

@@ -1,32 +1,16 @@
 -- Believed. What is told of the needs of values (this project's profile): of one, and of all of a line as a table; and of which values need one.
 use Rattle.std.specs.Prelude.{◌≡◌, ℕ, zero, suc, ◌+◌, ◌≤◌, ◌<◌, ◌^◌, List, Option, Some, None, Bool, true, false, ⊤, length, slice_get, slice_index_or, unwrap_or}
 use Rattle.std.specs.Str.Parse.{IsNumeral, digits_value, without_leading_plus}
-use Rattle.kahn_streams.specs.declared.answer.Stream.{Stream}
-use Rattle.kahn_streams.specs.declared.answer.Verdict.{Verdict}
-use Rattle.kahn_streams.specs.declared.answer.Verdict.TheVariants.{Finished, Bound, Memory}
-use Rattle.kahn_streams.specs.declared.config.Config.{Config}
-use Rattle.kahn_streams.specs.declared.tree.Program.{Program}
-use Rattle.kahn_streams.specs.declared.value.Line.{Line}
-use Rattle.kahn_streams.specs.declared.value.Line.TheVariants.{Channel, Print}
-use Rattle.kahn_streams.specs.declared.value.Value.{Value}
-use Rattle.kahn_streams.specs.Inputs.{Lists, inputs_of, IsNameOf, IsNoName}
-use Rattle.kahn_streams.specs.Network.{Given, Network, network_of}
-use Rattle.kahn_streams.specs.Solution.{Inputs, source}
-use Rattle.kahn_needs.specs.Finding.{AreNeedsFound}
-use Rattle.kahn_needs.specs.Needs.{AreNeeds, Cut}
-use Rattle.kahn_needs.specs.declared.needs.Found.{Found}
+use Rattle.kahn_streams.specs.{declared.answer.Stream.Stream, declared.answer.Verdict.Verdict, declared.answer.Verdict.TheVariants.Finished, declared.answer.Verdict.TheVariants.Bound, declared.answer.Verdict.TheVariants.Memory, declared.config.Config.Config, declared.tree.Program.Program, declared.value.Line.Line, declared.value.Line.TheVariants.Channel, declared.value.Line.TheVariants.Print, declared.value.Value.Value, Inputs.Lists, Inputs.inputs_of, Inputs.IsNameOf, Inputs.IsNoName, Network.Given, Network.Network, Network.network_of, Solution.Inputs, Solution.source}
+use Rattle.kahn_needs.specs.{Finding.AreNeedsFound, Needs.AreNeeds, Needs.Cut, declared.needs.Found.Found, declared.needs.Needs.Needs}
 use Rattle.kahn_needs.specs.declared.needs.Found.TheVariants as found
-use Rattle.kahn_needs.specs.declared.needs.Needs.{Needs}
 use Rattle.kahn_sequential.specs.declared.recorded.Recorded.{Recorded}
 use Rattle.kahn_texts.specs.Formats.{StandsFor}
 use Rattle.kahn_fault.specs.Work.{IsChecked}
-use Rattle.kahn_why.specs.declared.why.told.Finding.{Finding}
-use Rattle.kahn_why.specs.declared.why.told.Finding.TheVariants.{Stop}
+use Rattle.kahn_why.specs.{declared.why.told.Finding.Finding, declared.why.told.Finding.TheVariants.Stop}
 use Rattle.kahn_line.specs.Parts.{parted}
-use Rattle.kahn_explain.specs.Histories.{IsRecordedFor}
-use Rattle.kahn_explain.specs.declared.needing.asked.AskFault.{AskFault}
+use Rattle.kahn_explain.specs.{Histories.IsRecordedFor, declared.needing.asked.AskFault.AskFault, declared.needing.asked.Question.Question}
 use Rattle.kahn_explain.specs.declared.needing.asked.AskFault.TheVariants as ask
-use Rattle.kahn_explain.specs.declared.needing.asked.Question.{Question}
 
 -- ---- what is asked
 

@@ -1,43 +1,16 @@
 -- Believed. A run of the program, from the bytes of the two texts to the bytes that go out, those beside them and the exit status (this project's
 -- profile).
 use Rattle.std.specs.Prelude.{◌≡◌, ◌⊎◌, ◌++◌, ℕ, Bool, true, List, [], Option, Some, None, Result, Ok, Err, codes, string_bytes}
-use Rattle.std.specs.Io.KnownBytes.{Appends}
-use Rattle.std.specs.declared.alloc.Global.{Global}
-use Rattle.std.specs.declared.string.String.{String}
-use Rattle.kahn_streams.specs.Answers.{IsUnrun}
-use Rattle.kahn_streams.specs.Inputs.{Lists}
-use Rattle.kahn_streams.specs.Written.{AppendsFront}
-use Rattle.kahn_streams.specs.declared.answer.Verdict.TheVariants.{Finished, Bound, Memory}
-use Rattle.kahn_streams.specs.declared.config.Config.{Config}
-use Rattle.kahn_streams.specs.declared.fault.RunFault.{RunFault}
-use Rattle.kahn_streams.specs.declared.fault.RunFault.TheVariants.{NoMemory}
-use Rattle.kahn_streams.specs.declared.tree.Program.{Program}
-use Rattle.kahn_texts.specs.Formats.{StandsFor, IsInputTextFault}
-use Rattle.kahn_texts.specs.declared.input.TextFault.{TextFault}
-use Rattle.kahn_fault.specs.Status.{status_of}
-use Rattle.kahn_fault.specs.Telling.{WasWritten, told_text}
-use Rattle.kahn_fault.specs.Work.{IsChecked, IsUnchecked}
-use Rattle.kahn_fault.specs.declared.fault.Fault.TheVariants.{Work}
-use Rattle.kahn_fault.specs.declared.texts.Texts.{Texts}
-use Rattle.kahn_fault.specs.declared.work.WorkFault.{WorkFault}
-use Rattle.kahn_fault.specs.declared.work.WorkFault.TheVariants.{Syntax, Check, Text, Run, Write}
+use Rattle.std.specs.{Io.KnownBytes.Appends, declared.alloc.Global.Global, declared.string.String.String}
+use Rattle.kahn_streams.specs.{Answers.IsUnrun, Inputs.Lists, Written.AppendsFront, declared.answer.Verdict.TheVariants.Finished, declared.answer.Verdict.TheVariants.Bound, declared.answer.Verdict.TheVariants.Memory, declared.config.Config.Config, declared.fault.RunFault.RunFault, declared.fault.RunFault.TheVariants.NoMemory, declared.tree.Program.Program}
+use Rattle.kahn_texts.specs.{Formats.StandsFor, Formats.IsInputTextFault, declared.input.TextFault.TextFault}
+use Rattle.kahn_fault.specs.{Status.status_of, Telling.WasWritten, Telling.told_text, Work.IsChecked, Work.IsUnchecked, declared.fault.Fault.TheVariants.Work, declared.texts.Texts.Texts, declared.work.WorkFault.WorkFault, declared.work.WorkFault.TheVariants.Syntax, declared.work.WorkFault.TheVariants.Check, declared.work.WorkFault.TheVariants.Text, declared.work.WorkFault.TheVariants.Run, declared.work.WorkFault.TheVariants.Write}
 use Rattle.kahn_marks.specs.Marks.{shown_text}
-use Rattle.kahn_sequential.specs.Recordings.{IsCountedRun, IsRecordedRun}
-use Rattle.kahn_sequential.specs.declared.counted.Counted.{Counted}
-use Rattle.kahn_sequential.specs.declared.recorded.Recorded.{Recorded}
-use Rattle.kahn_why.specs.Refusing.{AreAllowed, IsRefusal, IsRefusedFor}
-use Rattle.kahn_why.specs.Telling.{HasToldInput}
-use Rattle.kahn_why.specs.declared.explaining.Came.{Came}
-use Rattle.kahn_why.specs.declared.explaining.Came.TheVariants.{Stopped, Refused}
-use Rattle.kahn_why.specs.declared.why.told.Finding.{Finding}
+use Rattle.kahn_sequential.specs.{Recordings.IsCountedRun, Recordings.IsRecordedRun, declared.counted.Counted.Counted, declared.recorded.Recorded.Recorded}
+use Rattle.kahn_why.specs.{Refusing.AreAllowed, Refusing.IsRefusal, Refusing.IsRefusedFor, Telling.HasToldInput, declared.explaining.Came.Came, declared.explaining.Came.TheVariants.Stopped, declared.explaining.Came.TheVariants.Refused, declared.why.told.Finding.Finding}
 use Rattle.kahn_why.specs.declared.why.told.Finding.TheVariants as told
-use Rattle.kahn_explain.specs.Needing.{AreNeedsTold, IsUnaskedOf}
-use Rattle.kahn_explain.specs.declared.pipe.Pipe.{Pipe}
-use Rattle.kahn_explain.specs.declared.replying.Sheet.{Sheet}
+use Rattle.kahn_explain.specs.{Needing.AreNeedsTold, Needing.IsUnaskedOf, declared.pipe.Pipe.Pipe, declared.replying.Sheet.Sheet, Untaken.IsToldFor, declared.running.Paths.Paths, declared.running.Wish.Wish}
 use Rattle.kahn_explain.specs.declared.replying.Sheet.TheVariants as sheet
-use Rattle.kahn_explain.specs.Untaken.{IsToldFor}
-use Rattle.kahn_explain.specs.declared.running.Paths.{Paths}
-use Rattle.kahn_explain.specs.declared.running.Wish.{Wish}
 use Rattle.kahn_explain.specs.declared.running.Wish.TheVariants as wish
 
 -- ---- why a run stopped, or what is wrong with the texts

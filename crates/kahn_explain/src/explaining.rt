@@ -5,9 +5,7 @@ ghost use Rattle.kahn_streams.specs.Network.{network_of};
 ghost use Rattle.kahn_fault.specs.Work.{IsChecked};
 ghost use Rattle.kahn_chain.specs.Chain.{AreStandings};
 ghost use Rattle.kahn_why.specs.Why.{IsExplained, standings_of};
-ghost use Rattle.kahn_explain.specs.Running.{HasExplained, HasLooked, came_status};
-ghost use Rattle.kahn_explain.specs.Untaken.{IsToldFor};
-ghost use Rattle.kahn_explain.specs.inner.Told.{HasLookedOn, HasToldRun};
+ghost use Rattle.kahn_explain.specs.{Running.HasExplained, Running.HasLooked, Running.came_status, Untaken.IsToldFor, inner.Told.HasLookedOn, inner.Told.HasToldRun};
 
 use crate::untaken::{untaken_line, with_line};
 use kahn_fault::WorkFault;

@@ -2,13 +2,8 @@
 
 ghost use Rattle.std.specs.Prelude.{◌≡◌, MatchResult, string_bytes};
 ghost use Rattle.kahn_streams.specs.declared.fault.RunFault.TheVariants.{NoMemory as Wants};
-ghost use Rattle.kahn_fault.specs.Work.{IsChecked};
-ghost use Rattle.kahn_fault.specs.declared.work.WorkFault.TheVariants.{Run};
-ghost use Rattle.kahn_explain.specs.Histories.{IsUntraced};
-ghost use Rattle.kahn_explain.specs.Running.{HasRepliedTo, beside};
-ghost use Rattle.kahn_explain.specs.declared.replying.Sheet.TheVariants.{Needs as NeedsSheet};
-ghost use Rattle.kahn_explain.specs.inner.Columns.{IsRecord};
-ghost use Rattle.kahn_explain.specs.inner.Told.{HasPut, IsNoReply, IsReplyFor, IsTableMade, notes_for};
+ghost use Rattle.kahn_fault.specs.{Work.IsChecked, declared.work.WorkFault.TheVariants.Run};
+ghost use Rattle.kahn_explain.specs.{Histories.IsUntraced, Running.HasRepliedTo, Running.beside, declared.replying.Sheet.TheVariants.Needs as NeedsSheet, inner.Columns.IsRecord, inner.Told.HasPut, inner.Told.IsNoReply, inner.Told.IsReplyFor, inner.Told.IsTableMade, inner.Told.notes_for};
 
 use crate::explaining::told_of;
 use crate::needing::{AskFault, fault_text, replied, sought};

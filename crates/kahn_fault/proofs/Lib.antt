@@ -1,3 +1,4 @@
 mod Refused
 mod Places
 pub mod Worked
+pub mod Common

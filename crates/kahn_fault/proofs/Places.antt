@@ -1,20 +1,16 @@
 -- The spans of a program's parts lie in its text, and so do those of what is wrong with it.
-use Rattle.std.proofs.Common.{refl, ◌≡◌, ℕ, ◌+◌, ◌≤◌, List, [], ◌∷◌, ◌++◌, length, inl, inr, sym, subst, arith, map, bytes_eq, Bool, true, false, Option, None, Some, suc}
+use Rattle.kahn_fault.proofs.Common.{refl, ◌≡◌, ℕ, ◌+◌, ◌≤◌, List, [], ◌∷◌, ◌++◌, length, inl, inr, sym, subst, arith, map, bytes_eq, Bool, true, false, Option, None, Some, suc, Program, WorkFault, check_span, syntax_span, IsUnchecked}
 use Rattle.std.specs.Prelude.{Err, IfSome, nat_lt, nat_eq, if◌then◌else◌}
-use Rattle.std.specs.List.{AllByRecursion}
-use Rattle.std.specs.Map.{lookup}
-use Rattle.kahn_streams.specs.declared.{tree.Name.Name, tree.Kind.Kind, tree.Role.Role, tree.Direction.Direction, tree.Taking.Taking, tree.Parameter.Parameter, tree.Process.Process, tree.Declaration.Declaration, tree.Argument.Argument, tree.Instance.Instance, tree.Program.Program, sides.Side.Side, span.Span.Span, tree.Statement.Statement, tree.Expression.Expression, fault.CheckFault.CheckFault}
+use Rattle.std.specs.{List.AllByRecursion, Map.lookup}
+use Rattle.kahn_streams.specs.declared.{tree.Name.Name, tree.Kind.Kind, tree.Role.Role, tree.Direction.Direction, tree.Taking.Taking, tree.Parameter.Parameter, tree.Process.Process, tree.Declaration.Declaration, tree.Argument.Argument, tree.Instance.Instance, sides.Side.Side, span.Span.Span, tree.Statement.Statement, tree.Expression.Expression, fault.CheckFault.CheckFault}
 use Rattle.kahn_streams.specs.declared.tree.Form.{Form, Number, Variable, Wait, Negate', Not', Bracket', Level', Conditional', Row_of-Operand, end_of-Operand, more_of-Operand}
 use Rattle.kahn_streams.specs.declared.tree.Action.{Action, Empty, Assign, Send, Print, Block', If', While', Repeat', Row_of-Statement, end_of-Statement, more_of-Statement, Held-Action-If-2, None', Some'}
-use Rattle.kahn_streams.specs.declared.tree.Variable.{Variable as OneVariable}
+use Rattle.kahn_streams.specs.{declared.tree.Variable.Variable as OneVariable, declared.tree.Kind.TheVariants.Integer, declared.tree.Kind.TheVariants.Logical, declared.tree.Direction.TheVariants.In, declared.tree.Direction.TheVariants.Out, View.bytes_of}
 use Rattle.kahn_streams.specs.declared.tree.Form as F
-use Rattle.kahn_streams.specs.declared.tree.Kind.TheVariants.{Integer, Logical}
 use Rattle.kahn_streams.specs.declared.tree.Role.TheVariants as role
-use Rattle.kahn_streams.specs.declared.tree.Direction.TheVariants.{In, Out}
 use Rattle.kahn_streams.specs.declared.tree.Taking.TheVariants as T
 use Rattle.kahn_streams.specs.declared.tree.Declaration.TheVariants as D
 use Rattle.kahn_streams.specs.declared.tree.Argument.TheVariants as A
-use Rattle.kahn_streams.specs.View.{bytes_of}
 use Rattle.kahn_streams.specs.Wiring.{Global, IsChannel, IsProcess, Handover, Locals, locals_of, scope_of, entries, declared_channels, global, handed, handed_by, ends, writers, readers, side_at, is_closed, takes, gives}
 use Rattle.kahn_streams.specs.declared.fault.CheckFault.TheVariants as checked
 use Rattle.kahn_streams.specs.Faults.{find, wrong, same_kind, misread, misused, kind_in, kind_of, wrong_first, wrong_second, spanning, faults_in, level_faults, faults_as, faults_of, row_faults, else_faults, body_faults, repeated, twice, process_faults, channel_faults, declaration_faults, overtaken, misplaced, argument_faults, arguments_faults, made_faults, instance_faults, missing, side_faults, sides_faults, faults, most_channels, most_instances, verdict}
@@ -25,10 +21,7 @@ use Rattle.kahn_syntax.specs.declared.fault.SyntaxFault.TheVariants as syntax
 use Rattle.kahn_syntax.specs.declared.fault.What.TheVariants as what
 use Rattle.kahn_syntax.specs.Grammar.{Terminal, sign, word, Between, SomeBetween, Ended, Further, Grouped, group, all_members, taking_words, role_words, SomeNames, ParameterGroup, TakesAll, VariableGroup}
 use Rattle.kahn_syntax.specs.Texts.{HasBytes, HasForm, Lexed, bytes_of_sign, Placed, Takes, Covers, NameSpans, FormSpans, OperandRowSpans, ExpressionSpans, ActionSpans, OtherSpans, StatementRowSpans, FurtherRowSpans, StatementSpans, IsLexFault, IsLongest, IsFault, IsNothing, IsOther, IsTooDeep, StandsAt, IsProgram, IsTextFault, lexemes, parameter_with, variable_with, DeclarationSpans, ArgumentSpans, InstanceSpans, ProcessSpans}
-use Rattle.kahn_fault.specs.declared.work.WorkFault.{WorkFault}
 use Rattle.kahn_fault.specs.declared.work.WorkFault.TheVariants as work
-use Rattle.kahn_fault.specs.Message.{check_span, syntax_span}
-use Rattle.kahn_fault.specs.Work.{IsUnchecked}
 use Rattle.kahn_fault.specs.Places.{LiesIn, fault_span}
 
 abbrev IsPlace : List ℕ → CheckFault → Type 0

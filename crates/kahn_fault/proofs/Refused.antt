@@ -1,6 +1,5 @@
 -- A status where lines were refused.
-use Rattle.std.proofs.Common.{◌≡◌, ℕ, zero, suc, Bool, true, false, refl}
-use Rattle.kahn_fault.specs.Status.{with_refused}
+use Rattle.kahn_fault.proofs.Common.{◌≡◌, ℕ, zero, suc, Bool, true, false, refl, with_refused}
 
 -- a status other than 0 stays
 pub stays : (refused : Bool) (status : ℕ) → (status ≡ 0 → ⊥) → status ≡ with_refused refused status

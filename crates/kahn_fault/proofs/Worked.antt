@@ -1,9 +1,8 @@
 -- What each part of the work says of the whole.
-use Rattle.std.proofs.Common.{ℕ, List, Option, Err, inl, inr, refl}
-use Rattle.kahn_streams.specs.declared.{tree.Program.Program, config.Config.Config}
-use Rattle.kahn_fault.specs.declared.work.WorkFault.{WorkFault}
+use Rattle.std.proofs.Common.{Err}
+use Rattle.kahn_streams.specs.declared.{config.Config.Config}
+use Rattle.kahn_fault.proofs.Common.{ℕ, List, Option, inl, inr, refl, Program, WorkFault, IsChecked, IsUnchecked, IsUnanswered, IsWorked}
 use Rattle.kahn_fault.specs.declared.work.WorkFault.TheVariants.{Syntax, Check, Text, Run, Write}
-use Rattle.kahn_fault.specs.Work.{IsChecked, IsUnchecked, IsUnanswered, IsWorked}
 
 pub unchecked : (program input : List ℕ) (config : Config) (written : Option (List ℕ)) (fault : WorkFault) → IsUnchecked program fault →
     IsWorked program input config written written (Err fault)

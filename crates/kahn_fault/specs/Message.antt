@@ -1,12 +1,8 @@
 -- Believed. What the program says of a fault: one line.
 use Rattle.std.specs.Prelude.{ℕ, ◌+◌, ◌≤◌, List, [], ◌∷◌, codes, decimal, length, min, string_bytes, Option, Some, None, Result}
-use Rattle.std.specs.List.{concat}
-use Rattle.std.specs.declared.{alloc.Global.Global, string.String.String}
-use Rattle.kahn_streams.specs.Place.{line_of, column_of}
-use Rattle.kahn_streams.specs.Written.{Writes}
-use Rattle.kahn_streams.specs.declared.{span.Span.Span, entries.InputFault.InputFault, fault.CheckFault.CheckFault, fault.RunFault.RunFault}
-use Rattle.kahn_syntax.specs.declared.fault.{SyntaxFault.SyntaxFault, What.What}
-use Rattle.kahn_syntax.specs.declared.fault.What.TheVariants.{More, Nothing, Other}
+use Rattle.std.specs.{List.concat, declared.alloc.Global.Global, declared.string.String.String}
+use Rattle.kahn_streams.specs.{Place.line_of, Place.column_of, Written.Writes, declared.span.Span.Span, declared.entries.InputFault.InputFault, declared.fault.CheckFault.CheckFault, declared.fault.RunFault.RunFault}
+use Rattle.kahn_syntax.specs.{declared.fault.SyntaxFault.SyntaxFault, declared.fault.What.What, declared.fault.What.TheVariants.More, declared.fault.What.TheVariants.Nothing, declared.fault.What.TheVariants.Other}
 use Rattle.kahn_syntax.specs.declared.fault.SyntaxFault.TheVariants as syntax
 use Rattle.kahn_streams.specs.declared.fault.CheckFault.TheVariants as checked
 use Rattle.kahn_streams.specs.declared.entries.InputFault.TheVariants as input
@@ -14,9 +10,8 @@ use Rattle.kahn_streams.specs.declared.fault.RunFault.TheVariants as run
 use Rattle.kahn_texts.specs.declared.{input.TextFault.TextFault, read.ReadFault.ReadFault}
 use Rattle.kahn_texts.specs.declared.input.TextFault.TheVariants as text
 use Rattle.kahn_texts.specs.declared.read.ReadFault.TheVariants as read
-use Rattle.kahn_fault.specs.declared.{work.WorkFault.WorkFault, fault.Fault.Fault}
+use Rattle.kahn_fault.specs.{declared.work.WorkFault.WorkFault, declared.fault.Fault.Fault, declared.fault.Fault.TheVariants.Open, declared.fault.Fault.TheVariants.Program, declared.fault.Fault.TheVariants.InputText, declared.fault.Fault.TheVariants.Work}
 use Rattle.kahn_fault.specs.declared.work.WorkFault.TheVariants as work
-use Rattle.kahn_fault.specs.declared.fault.Fault.TheVariants.{Open, Program, InputText, Work}
 
 -- the line went out, or after a fault of the writer a prefix of it, by at most one write for each of its bytes
 abbrev pub WritesCounted : {X E : Type 0} → Option (List ℕ) → Option (List ℕ) → Result X E → ℕ → ℕ → List ℕ → Type 0

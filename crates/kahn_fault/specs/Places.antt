@@ -1,9 +1,8 @@
 -- Believed. Where a program text is at fault.
 use Rattle.std.specs.Prelude.{ℕ, ◌≤◌, List, length, Option, None}
 use Rattle.kahn_streams.specs.declared.span.Span.{Span}
-use Rattle.kahn_fault.specs.declared.work.WorkFault.{WorkFault}
+use Rattle.kahn_fault.specs.{declared.work.WorkFault.WorkFault, Message.check_span, Message.syntax_span}
 use Rattle.kahn_fault.specs.declared.work.WorkFault.TheVariants as work
-use Rattle.kahn_fault.specs.Message.{check_span, syntax_span}
 
 -- the span of a fault of the program text, if it has one
 abbrev pub fault_span : WorkFault → Option Span

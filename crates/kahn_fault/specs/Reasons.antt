@@ -1,7 +1,6 @@
 -- Believed. Why a file can't be read.
 use Rattle.std.specs.Prelude.{ℕ, List, [], ◌∷◌, codes}
-use Rattle.std.specs.List.{concat}
-use Rattle.std.specs.declared.io.ErrorKind.{ErrorKind}
+use Rattle.std.specs.{List.concat, declared.io.ErrorKind.ErrorKind}
 use Rattle.std.specs.declared.io.ErrorKind.TheVariants as kind
 
 -- by the kind of the system's fault

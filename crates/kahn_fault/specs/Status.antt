@@ -1,18 +1,15 @@
 -- Believed. The status that the program ends with.
-use Rattle.std.specs.Prelude.{ℕ, zero, suc, Bool, true, false, Result}
-use Rattle.std.specs.declared.result.Result.TheVariants.{Ok, Err}
+use Rattle.std.specs.{Prelude.ℕ, Prelude.zero, Prelude.suc, Prelude.Bool, Prelude.true, Prelude.false, Prelude.Result, declared.result.Result.TheVariants.Ok, declared.result.Result.TheVariants.Err}
 use Rattle.kahn_syntax.specs.declared.fault.SyntaxFault.TheVariants as syntax
 use Rattle.kahn_streams.specs.declared.fault.CheckFault.TheVariants as checked
 use Rattle.kahn_streams.specs.declared.entries.InputFault.TheVariants as input
-use Rattle.kahn_streams.specs.declared.answer.Verdict.{Verdict}
-use Rattle.kahn_streams.specs.declared.answer.Verdict.TheVariants.{Finished, Bound, Memory}
+use Rattle.kahn_streams.specs.{declared.answer.Verdict.Verdict, declared.answer.Verdict.TheVariants.Finished, declared.answer.Verdict.TheVariants.Bound, declared.answer.Verdict.TheVariants.Memory}
 use Rattle.kahn_streams.specs.declared.fault.RunFault.TheVariants as run
 use Rattle.kahn_texts.specs.declared.input.TextFault.TheVariants as text
 use Rattle.kahn_texts.specs.declared.read.ReadFault.{ReadFault}
 use Rattle.kahn_texts.specs.declared.read.ReadFault.TheVariants as read
-use Rattle.kahn_fault.specs.declared.{work.WorkFault.WorkFault, fault.Fault.Fault}
+use Rattle.kahn_fault.specs.{declared.work.WorkFault.WorkFault, declared.fault.Fault.Fault, declared.fault.Fault.TheVariants.Open, declared.fault.Fault.TheVariants.Program, declared.fault.Fault.TheVariants.InputText, declared.fault.Fault.TheVariants.Work}
 use Rattle.kahn_fault.specs.declared.work.WorkFault.TheVariants as work
-use Rattle.kahn_fault.specs.declared.fault.Fault.TheVariants.{Open, Program, InputText, Work}
 
 -- of a text that wasn't read
 abbrev pub read_status : ReadFault → ℕ

@@ -1,14 +1,9 @@
 -- Believed. What a program reports of its run at the end.
 use Rattle.std.specs.Prelude.{ℕ, Bool, true, false, List, [], ◌∷◌, Option, Result, codes, is_some}
-use Rattle.std.specs.List.{concat}
-use Rattle.std.specs.declared.result.Result.TheVariants.{Ok, Err}
-use Rattle.kahn_streams.specs.declared.answer.Verdict.{Verdict}
-use Rattle.kahn_streams.specs.Written.{Writes}
+use Rattle.std.specs.{List.concat, declared.result.Result.TheVariants.Ok, declared.result.Result.TheVariants.Err}
+use Rattle.kahn_streams.specs.{declared.answer.Verdict.Verdict, Written.Writes}
 use Rattle.kahn_texts.specs.declared.bytes.WriteFault.{WriteFault}
-use Rattle.kahn_fault.specs.declared.fault.Fault.{Fault}
-use Rattle.kahn_fault.specs.declared.fault.Fault.TheVariants.{Open, Program, InputText, Work}
-use Rattle.kahn_fault.specs.Message.{fault_text}
-use Rattle.kahn_fault.specs.Places.{fault_span}
+use Rattle.kahn_fault.specs.{declared.fault.Fault.Fault, declared.fault.Fault.TheVariants.Open, declared.fault.Fault.TheVariants.Program, declared.fault.Fault.TheVariants.InputText, declared.fault.Fault.TheVariants.Work, Message.fault_text, Places.fault_span}
 
 -- this was written, or after a fault of the writer a prefix of it
 abbrev pub WasWritten : List ℕ → Option (List ℕ) → Option (List ℕ) → Type 0

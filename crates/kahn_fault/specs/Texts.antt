@@ -1,10 +1,8 @@
 -- Believed. What reading the texts of a run gives.
 use Rattle.std.specs.Prelude.{◌≡◌, ◌≤◌, ◌⊎◌, ℕ, List, [], Option, Some, None, length, string_bytes}
 use Rattle.std.specs.declared.{alloc.Global.Global, string.String.String}
-use Rattle.kahn_texts.specs.Formats.{most_input_bytes}
-use Rattle.kahn_texts.specs.Reading.{IsReadFault}
-use Rattle.kahn_fault.specs.declared.{fault.Fault.Fault, texts.Texts.Texts}
-use Rattle.kahn_fault.specs.declared.fault.Fault.TheVariants.{Open, Program, InputText, Work}
+use Rattle.kahn_texts.specs.{Formats.most_input_bytes, Reading.IsReadFault}
+use Rattle.kahn_fault.specs.{declared.fault.Fault.Fault, declared.texts.Texts.Texts, declared.fault.Fault.TheVariants.Open, declared.fault.Fault.TheVariants.Program, declared.fault.Fault.TheVariants.InputText, declared.fault.Fault.TheVariants.Work}
 
 -- the most bytes of a program text
 abbrev pub most_program_bytes : ℕ

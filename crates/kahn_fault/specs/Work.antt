@@ -1,20 +1,10 @@
 -- Believed. What the whole work does, from the bytes of the texts to the bytes of the report.
 use Rattle.std.specs.Prelude.{◌≡◌, ℕ, ◌≤◌, ◌⊎◌, List, Option, Some, None, Result, Ok, Err, string_bytes}
-use Rattle.std.specs.declared.{string.String.String, alloc.Global.Global}
-use Rattle.std.specs.Io.KnownBytes.{Appends}
-use Rattle.kahn_streams.specs.declared.{tree.Program.Program, config.Config.Config, answer.Answer.Answer, answer.Verdict.Verdict}
-use Rattle.kahn_syntax.specs.Texts.{program_tree, IsProgram, IsTextFault as IsSyntaxFault}
-use Rattle.kahn_syntax.specs.Grammar.{nesting}
-use Rattle.kahn_streams.specs.Network.{network_of}
-use Rattle.kahn_streams.specs.Faults.{faults, IsMet}
-use Rattle.kahn_streams.specs.Wiring.{IsWellWired}
-use Rattle.kahn_streams.specs.Inputs.{Lists, inputs_of}
-use Rattle.kahn_streams.specs.declared.answer.Verdict.TheVariants.{Finished}
-use Rattle.kahn_streams.specs.Answers.{Settles, IsRightRun, IsUnrun}
-use Rattle.kahn_fault.specs.declared.work.WorkFault.{WorkFault}
-use Rattle.kahn_fault.specs.declared.work.WorkFault.TheVariants.{Syntax, Check, Text, Run, Write}
+use Rattle.std.specs.{declared.string.String.String, declared.alloc.Global.Global, Io.KnownBytes.Appends}
+use Rattle.kahn_streams.specs.{declared.tree.Program.Program, declared.config.Config.Config, declared.answer.Answer.Answer, declared.answer.Verdict.Verdict, Network.network_of, Faults.faults, Faults.IsMet, Wiring.IsWellWired, Inputs.Lists, Inputs.inputs_of, declared.answer.Verdict.TheVariants.Finished, Answers.Settles, Answers.IsRightRun, Answers.IsUnrun, Written.AppendsFront}
+use Rattle.kahn_syntax.specs.{Texts.program_tree, Texts.IsProgram, Texts.IsTextFault as IsSyntaxFault, Grammar.nesting}
+use Rattle.kahn_fault.specs.{declared.work.WorkFault.WorkFault, declared.work.WorkFault.TheVariants.Syntax, declared.work.WorkFault.TheVariants.Check, declared.work.WorkFault.TheVariants.Text, declared.work.WorkFault.TheVariants.Run, declared.work.WorkFault.TheVariants.Write}
 use Rattle.kahn_texts.specs.Formats.{StandsFor, IsInputTextFault, report_text}
-use Rattle.kahn_streams.specs.Written.{AppendsFront}
 
 -- the text spells this program, whose nesting is within its limit
 abbrev pub IsParsed : List ℕ → Program → Type 0

@@ -3,8 +3,7 @@
 ghost use Rattle.std.specs.Prelude.{◌≡◌, Err, IfOk, string_bytes};
 ghost use Rattle.kahn_marks.specs.Marks.{shown_text};
 ghost use Rattle.kahn_streams.specs.Written.{Writes};
-ghost use Rattle.kahn_fault.specs.Reasons.{reason_line, file_words};
-ghost use Rattle.kahn_fault.specs.Status.{status_of};
+ghost use Rattle.kahn_fault.specs.{Reasons.reason_line, Reasons.file_words, Status.status_of};
 
 use crate::fault::Fault;
 use crate::telling::tell;

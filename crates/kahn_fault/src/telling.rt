@@ -1,10 +1,8 @@
 //! What a program reports of its run at the end.
 
 ghost use Rattle.std.specs.Prelude.{◌≡◌, true};
-ghost use Rattle.kahn_fault.specs.Status.{status_of};
+ghost use Rattle.kahn_fault.specs.{Status.status_of, Places.fault_span, Telling.explain_line, Telling.pointer_text, Telling.has_place, Telling.told_text};
 ghost use Rattle.kahn_streams.specs.Written.{Writes};
-ghost use Rattle.kahn_fault.specs.Places.{fault_span};
-ghost use Rattle.kahn_fault.specs.Telling.{explain_line, pointer_text, has_place, told_text};
 
 use crate::fault::{Fault, status};
 use crate::message::{check_span, fault_line, syntax_span};

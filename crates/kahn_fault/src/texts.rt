@@ -1,8 +1,7 @@
 //! The texts of a run, each read from its file.
 
 ghost use Rattle.std.specs.Prelude.{◌≡◌, ◌≤◌, IfErr, IfOk, MatchResult, None, [], length, string_bytes};
-ghost use Rattle.kahn_texts.specs.Reading.{GivesAll};
-ghost use Rattle.kahn_texts.specs.Formats.{most_input_bytes};
+ghost use Rattle.kahn_texts.specs.{Reading.GivesAll, Formats.most_input_bytes};
 ghost use Rattle.kahn_fault.specs.Texts.{most_program_bytes, AreWithin, IsOfProgram, IsOfInput, IsOfTexts, StandsForProgram, StandsForInput};
 
 use crate::fault::Fault;

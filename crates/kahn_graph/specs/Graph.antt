@@ -1,20 +1,13 @@
 -- Believed. The picture of a network: a text in the language of Graphviz with a node for each instance and an edge for each channel,
 -- from its writer to its reader, with what came of a run, where there was one. This project's own choice of what a picture shows.
 use Rattle.std.specs.Prelude.{◌≡◌, ℕ, ◌+◌, List, [], ◌∷◌, ◌++◌, length, codes, decimal, map, Bool, true, false, Option, None, Some, option_map, slice_get}
-use Rattle.std.specs.Fmt.{signed_decimal}
-use Rattle.std.specs.List.{concat}
+use Rattle.std.specs.{Fmt.signed_decimal, List.concat}
 use Rattle.kahn_streams.specs.declared.{answer.End.End, answer.Stream.Stream, tree.Kind.Kind, tree.Role.Role, tree.Argument.Argument, tree.Instance.Instance, tree.Name.Name, tree.Parameter.Parameter, tree.Process.Process, tree.Program.Program, sides.Side.Side}
 use Rattle.kahn_streams.specs.declared.tree.Kind.TheVariants as K
-use Rattle.kahn_streams.specs.declared.tree.Role.TheVariants.{Inner, Input, Output}
+use Rattle.kahn_streams.specs.{declared.tree.Role.TheVariants.Inner, declared.tree.Role.TheVariants.Input, declared.tree.Role.TheVariants.Output, Place.line_of, Place.column_of, Prints.process_prints, View.bytes_of, Made.IsMadeOf, Network.network_of, Network.kind_at, Network.role_at, Network.IsOnly, Network.IsWriter, Network.IsReader, Network.channel_names}
 use Rattle.kahn_streams.specs.declared.tree.Argument.TheVariants as A
-use Rattle.kahn_streams.specs.Place.{line_of, column_of}
-use Rattle.kahn_streams.specs.Prints.{process_prints}
-use Rattle.kahn_streams.specs.View.{bytes_of}
-use Rattle.kahn_streams.specs.Made.{IsMadeOf}
-use Rattle.kahn_streams.specs.Network.{network_of, kind_at, role_at, IsOnly, IsWriter, IsReader, channel_names}
-use Rattle.kahn_chain.specs.declared.standing.Standing.{Standing}
+use Rattle.kahn_chain.specs.{declared.standing.Standing.Standing, Chain.IsRingMark, Chain.stands}
 use Rattle.kahn_chain.specs.declared.standing.Standing.TheVariants as Stands
-use Rattle.kahn_chain.specs.Chain.{IsRingMark, stands}
 use Rattle.kahn_graph.specs.Ran.{ended_text, carried, count_text, IsWaitMark}
 
 -- ---- instances

@@ -2,9 +2,8 @@
 
 ghost use Rattle.std.specs.Prelude.{◌≡◌, ◌<◌, ◌++◌, Option, IfOk, length, map, string_bytes};
 ghost use Rattle.kahn_streams.specs.Network.{network_of};
-ghost use Rattle.kahn_graph.specs.Graph.{place_text, mark_text, style_text, awaited_text, edge_text, IsEdge, AreEdges};
+ghost use Rattle.kahn_graph.specs.{Graph.place_text, Graph.mark_text, Graph.style_text, Graph.awaited_text, Graph.edge_text, Graph.IsEdge, Graph.AreEdges, inner.Adding.Adds};
 ghost use Rattle.kahn_chain.specs.Chain.{AreRings, stands};
-ghost use Rattle.kahn_graph.specs.inner.Adding.{Adds};
 
 use crate::pieces::add;
 use crate::ports::add_port;

@@ -1,8 +1,7 @@
 //! The nodes of a picture.
 
 ghost use Rattle.std.specs.Prelude.{◌≡◌, ◌<◌, ◌++◌, IfOk, codes, length, map, option_map, slice_get, string_bytes};
-ghost use Rattle.kahn_streams.specs.Network.{network_of};
-ghost use Rattle.kahn_streams.specs.Prints.{declaration_prints, process_prints};
+ghost use Rattle.kahn_streams.specs.{Network.network_of, Prints.declaration_prints, Prints.process_prints};
 ghost use Rattle.kahn_graph.specs.Graph.{named_text, values_text, node_text, IsNode, AreNodes, border_text, colour_text, ring_text, truth_text};
 ghost use Rattle.kahn_chain.specs.Chain.{AreRings, stands};
 ghost use Rattle.kahn_graph.specs.inner.Adding.{Adds, AddsValue};

@@ -1,8 +1,7 @@
 //! The whole picture.
 
 ghost use Rattle.std.specs.Prelude.{◌≡◌, ◌⊎◌, [], IfOk, map, string_bytes};
-ghost use Rattle.kahn_streams.specs.Network.{network_of};
-ghost use Rattle.kahn_streams.specs.Prints.{declaration_prints};
+ghost use Rattle.kahn_streams.specs.{Network.network_of, Prints.declaration_prints};
 ghost use Rattle.kahn_chain.specs.Chain.{AreRings, AreStandings, stands};
 ghost use Rattle.kahn_graph.specs.Graph.{IsPicture};
 

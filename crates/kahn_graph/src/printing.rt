@@ -1,8 +1,7 @@
 //! Which processes print, asked once of each.
 
 ghost use Rattle.std.specs.Prelude.{◌≡◌, IfOk, Some, map};
-ghost use Rattle.kahn_streams.specs.Prints.{declaration_prints, process_prints};
-ghost use Rattle.kahn_streams.specs.Wires.{process_at};
+ghost use Rattle.kahn_streams.specs.{Prints.declaration_prints, Prints.process_prints, Wires.process_at};
 
 use kahn_streams::{Network, Process, declaration_prints};
 use std::alloc::{AllocError, Global};

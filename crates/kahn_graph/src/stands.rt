@@ -4,8 +4,7 @@ ghost use Rattle.std.specs.Prelude.{◌≡◌, ◌<◌, [], IfOk, length};
 ghost use Rattle.std.specs.Prelude.{◌⊎◌};
 ghost use Rattle.kahn_streams.specs.Network.{network_of};
 ghost use Rattle.kahn_chain.specs.Chain.{AreRings, AreStandings, IsRingMark};
-ghost use Rattle.kahn_graph.specs.Ran.{IsWaitMark};
-ghost use Rattle.kahn_graph.specs.inner.Adding.{is_wait as is_wait_on, IsWaitAt};
+ghost use Rattle.kahn_graph.specs.{Ran.IsWaitMark, inner.Adding.is_wait as is_wait_on, inner.Adding.IsWaitAt};
 
 use kahn_chain::{Standing, rings};
 use kahn_streams::Network;

@@ -2,10 +2,8 @@
 
 ghost use Rattle.std.specs.Prelude.{◌≡◌, ◌<◌, ◌∷◌, ◌++◌, [], IfOk, codes, length, string_bytes};
 ghost use Rattle.std.specs.List.{concat};
-ghost use Rattle.kahn_streams.specs.Network.{network_of};
-ghost use Rattle.kahn_streams.specs.Place.{line_of, column_of};
-ghost use Rattle.kahn_graph.specs.Graph.{tip_text};
-ghost use Rattle.kahn_graph.specs.inner.Adding.{Adds, IsTip};
+ghost use Rattle.kahn_streams.specs.{Network.network_of, Place.line_of, Place.column_of};
+ghost use Rattle.kahn_graph.specs.{Graph.tip_text, inner.Adding.Adds, inner.Adding.IsTip};
 
 use crate::pieces::add;
 use itoa::Buffer;

@@ -2,3 +2,4 @@ mod Nearest
 mod Sights
 mod Sublists
 mod Telling
+pub mod Common

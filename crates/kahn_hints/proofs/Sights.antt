@@ -1,8 +1,6 @@
 -- The names in sight that are told.
-use Rattle.std.proofs.Common.{◌≡◌, ◌∙◌, ◌++◌, ℕ, zero, suc, List, [], ◌∷◌, drop, length, map, take, refl, ap, append_assoc}
-use Rattle.kahn_streams.specs.declared.tree.Name.{Name}
-use Rattle.kahn_hints.specs.Inputs.{more_channels, told_channels}
-use Rattle.kahn_hints.specs.Sight.{listed_names}
+use Rattle.kahn_hints.proofs.Common.{◌≡◌, ◌∙◌, ◌++◌, ℕ, zero, suc, List, [], ◌∷◌, drop, length, map, take, refl, ap, append_assoc, Name, more_channels, listed_names}
+use Rattle.kahn_hints.specs.Inputs.{told_channels}
 
 take_of_map : {A B : Type 0} (f : A → B) (n : ℕ) (xs : List A) → map f (take n xs) ≡ take n (map f xs)
 take_of_map f zero xs = refl

@@ -1,7 +1,5 @@
 -- Some of a list.
-use Rattle.std.proofs.Common.{◌≡◌, List, [], ◌∷◌, ◌++◌, All, Contains, subst, sym}
-use Rattle.std.proofs.lemmas.List.Elements.{All-append, All-from_recursion}
-use Rattle.kahn_streams.specs.declared.fault.CheckFault.{CheckFault}
+use Rattle.kahn_hints.proofs.Common.{◌≡◌, List, [], ◌∷◌, ◌++◌, All, Contains, subst, sym, All-append, All-from_recursion, CheckFault}
 
 -- one more of them
 pub one_of_them : (fs old new : List CheckFault) (x : CheckFault) → new ≡ old ++ x ∷ [] → Contains fs x → All (Contains fs) old → All (Contains fs) new

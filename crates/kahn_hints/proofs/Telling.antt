@@ -1,9 +1,6 @@
 -- Notes of which each tells a fault.
-use Rattle.std.proofs.Common.{◌≡◌, ◌<◌, ℕ, zero, suc, List, [], ◌∷◌, ◌++◌, All, Contains, ap, arith, length, refl, subst, sym, take}
-use Rattle.std.proofs.lemmas.List.Elements.{All-from_recursion, All-push, All-take}
-use Rattle.kahn_streams.specs.declared.fault.CheckFault.{CheckFault}
+use Rattle.kahn_hints.proofs.Common.{◌≡◌, ◌<◌, ℕ, zero, suc, List, [], ◌∷◌, ◌++◌, All, Contains, ap, arith, length, refl, subst, sym, take, All-from_recursion, All-push, All-take, CheckFault, HasOneMore, TellsOne}
 use Rattle.kahn_marks.specs.declared.rendering.Note.{Note}
-use Rattle.kahn_hints.specs.Hints.{HasOneMore, TellsOne}
 
 pub one_more : (note : Note) (old new : List Note) → new ≡ old ++ note ∷ [] → HasOneMore note old new
 one_more note old new is text fs one all = subst (All (TellsOne text fs)) (sym is) (All-push (TellsOne text fs) old note all one)

@@ -2,16 +2,11 @@
 use Rattle.std.specs.Prelude.{◌≡◌, ◌<◌, ◌&&◌, ℕ, All, Bool, true, List, [], Contains, IfSome, Option, Some, None, if◌then◌else◌, length, nat_le, slice_range}
 use Rattle.std.specs.List.{list_all, list_any}
 use Rattle.std.proofs.Common.{bytes_eq}
-use Rattle.kahn_streams.specs.declared.span.Span.{Span}
-use Rattle.kahn_streams.specs.declared.tree.Program.{Program}
-use Rattle.kahn_streams.specs.declared.fault.CheckFault.{CheckFault}
+use Rattle.kahn_streams.specs.{declared.span.Span.Span, declared.tree.Program.Program, declared.fault.CheckFault.CheckFault}
 use Rattle.kahn_check.specs.Parts.{faults_by_part}
 use Rattle.kahn_syntax.specs.Texts.{IsProgram}
 use Rattle.kahn_fault.specs.Message.{check_span, check_words}
-use Rattle.kahn_marks.specs.Notes.{IsApplied}
-use Rattle.kahn_marks.specs.declared.rendering.Fix.{Fix}
-use Rattle.kahn_marks.specs.declared.rendering.Note.{Note}
-use Rattle.kahn_marks.specs.declared.rendering.Sort.TheVariants.{Error}
+use Rattle.kahn_marks.specs.{Notes.IsApplied, declared.rendering.Fix.Fix, declared.rendering.Note.Note, declared.rendering.Sort.TheVariants.Error}
 
 -- the letters at a place of a text; none where it isn't within the text
 abbrev pub word_at : List ℕ → Span → List ℕ

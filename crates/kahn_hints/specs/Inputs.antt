@@ -1,11 +1,8 @@
 -- Believed. What is said of a name that no input channel has, or none at all.
 use Rattle.std.specs.Prelude.{◌==◌, ℕ, true, false, List, [], ◌∷◌, ◌++◌, Option, Some, None, codes, decimal, drop, if◌then◌else◌, length, take}
 use Rattle.std.specs.List.{concat}
-use Rattle.kahn_streams.specs.declared.tree.Name.{Name}
-use Rattle.kahn_streams.specs.declared.tree.Program.{Program}
-use Rattle.kahn_hints.specs.Names.{channels_asked}
-use Rattle.kahn_hints.specs.Near.{nearest}
-use Rattle.kahn_hints.specs.Sight.{listed_names, meant_words}
+use Rattle.kahn_streams.specs.{declared.tree.Name.Name, declared.tree.Program.Program}
+use Rattle.kahn_hints.specs.{Names.channels_asked, Near.nearest, Sight.listed_names, Sight.meant_words}
 
 -- the names of the input channels, and of all channels, in order of declaration
 abbrev pub input_names : Program → List Name

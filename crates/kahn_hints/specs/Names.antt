@@ -1,10 +1,6 @@
 -- Believed. The names of the channels of a program.
 use Rattle.std.specs.Prelude.{Bool, true, not, List, [], flat_map, if◌then◌else◌}
-use Rattle.kahn_streams.specs.declared.tree.Name.{Name}
-use Rattle.kahn_streams.specs.declared.tree.Declaration.{Declaration}
-use Rattle.kahn_streams.specs.declared.tree.Program.{Program}
-use Rattle.kahn_streams.specs.declared.tree.Role.{Role}
-use Rattle.kahn_streams.specs.declared.tree.Role.TheVariants.{Input, Output, Inner}
+use Rattle.kahn_streams.specs.{declared.tree.Name.Name, declared.tree.Declaration.Declaration, declared.tree.Program.Program, declared.tree.Role.Role, declared.tree.Role.TheVariants.Input, declared.tree.Role.TheVariants.Output, declared.tree.Role.TheVariants.Inner}
 use Rattle.kahn_streams.specs.declared.tree.Declaration.TheVariants as D
 
 -- a channel is one of those that are asked for: all, or the inputs alone

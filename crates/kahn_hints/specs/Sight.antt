@@ -1,8 +1,7 @@
 -- Believed. Names in a sentence.
 use Rattle.std.specs.Prelude.{◌==◌, ℕ, List, [], ◌∷◌, ◌++◌, codes, if◌then◌else◌, length}
 use Rattle.std.specs.List.{concat}
-use Rattle.kahn_streams.specs.View.{bytes_of}
-use Rattle.kahn_streams.specs.declared.tree.Name.{Name}
+use Rattle.kahn_streams.specs.{View.bytes_of, declared.tree.Name.Name}
 
 abbrev pub name_words : Name → List ℕ
 name_words n = concat (codes "`" ∷ bytes_of n ∷ codes "`" ∷ [])

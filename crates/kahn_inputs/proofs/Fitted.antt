@@ -1,8 +1,6 @@
 -- Parts between blanks, or lines, one after another.
-use Rattle.std.proofs.Common.{◌≡◌, ◌∙◌, ℕ, zero, suc, ◌+◌, ◌≤◌, ◌<◌, List, [], ◌∷◌, ◌++◌, length, take, drop, All, Bool, true, false, cond, arith, ap, refl, sym, subst, add-one, drop-cons, get_or, take-append-drop}
-use Rattle.std.specs.List.{onto_first, slice_split}
+use Rattle.kahn_inputs.proofs.Common.{◌≡◌, ◌∙◌, ℕ, zero, suc, ◌+◌, ◌≤◌, ◌<◌, List, [], ◌∷◌, ◌++◌, length, take, drop, All, Bool, true, false, cond, arith, ap, refl, sym, subst, add-one, drop-cons, get_or, take-append-drop, onto_first, slice_split, parts_length}
 use Rattle.std.proofs.lemmas.List.Elements.{All-append}
-use Rattle.kahn_inputs.specs.Fitting.{parts_length}
 
 pub parts_joined : (xs ys : List (List ℕ)) → parts_length (xs ++ ys) ≡ parts_length xs + parts_length ys
 parts_joined [] ys = omega arith

@@ -1,3 +1,4 @@
 mod Fitted
 mod Placed
 mod Sought
+pub mod Common

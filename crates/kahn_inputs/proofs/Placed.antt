@@ -1,18 +1,11 @@
 -- The line of a fault is found.
-use Rattle.std.proofs.Common.{◌≡◌, inl, inr, ◌⊎◌, ℕ, zero, suc, ◌+◌, ◌<◌, ◌≤◌, List, [], ◌∷◌, ◌++◌, Bool, true, false, Option, Some, None, length, slice_get, ap, arith, subst, ◌-◌, ◌==◌, ◌∙◌}
+use Rattle.kahn_inputs.proofs.Common.{◌≡◌, inl, inr, ◌⊎◌, ℕ, zero, suc, ◌+◌, ◌<◌, ◌≤◌, List, [], ◌∷◌, ◌++◌, Bool, true, false, Option, Some, None, length, slice_get, ap, arith, subst, ◌-◌, ◌==◌, ◌∙◌, Entry, FailsFirst, asked_of_entry, AreBlanks, AreEntries, HasHead, HasNoHead, HasNoValues, IsEntry, IsGood, content, text_lines, IsInputTextFault, IsFoundNote, IsInputNote, refused_number, parts_length, IsFound}
 use Rattle.std.specs.Prelude.{MatchOption}
-use Rattle.kahn_streams.specs.declared.tree.Program.{Program}
-use Rattle.kahn_streams.specs.declared.entries.InputFault.{InputFault}
-use Rattle.kahn_streams.specs.Inputs.{Entry, FailsFirst, asked_of_entry}
-use Rattle.kahn_texts.specs.Formats.{AreBlanks, AreEntries, HasHead, HasNoHead, HasNoValues, IsEntry, IsGood, content, text_lines, IsInputTextFault}
-use Rattle.kahn_texts.specs.declared.input.TextFault.{TextFault}
-use Rattle.kahn_texts.specs.declared.input.TextFault.TheVariants.{BadLine, BadValue, Input, TooLong, NoMemory}
+use Rattle.kahn_streams.specs.{declared.tree.Program.Program, declared.entries.InputFault.InputFault}
+use Rattle.kahn_texts.specs.{declared.input.TextFault.TextFault, declared.input.TextFault.TheVariants.BadLine, declared.input.TextFault.TheVariants.BadValue, declared.input.TextFault.TheVariants.Input, declared.input.TextFault.TheVariants.TooLong, declared.input.TextFault.TheVariants.NoMemory}
 use Rattle.kahn_texts.proofs.Same_inputs.{one_list}
 use Rattle.kahn_marks.specs.declared.rendering.Note.{Note}
-use Rattle.kahn_inputs.specs.Feeding.{IsFoundNote, IsInputNote, refused_number}
-use Rattle.kahn_inputs.specs.Fitting.{parts_length}
 use Rattle.kahn_inputs.specs.Placed.{HasItsPlace}
-use Rattle.kahn_inputs.specs.Seeking.{IsFound}
 use Rattle.kahn_inputs.specs.declared.seeking.LineKind.TheVariants as kind
 use Rattle.kahn_inputs.proofs.Fitted.{parts_joined, parts_whole}
 

@@ -1,11 +1,6 @@
 -- The lines before the one that is looked for, one after another.
-use Rattle.std.proofs.Common.{◌≡◌, inl, inr, ℕ, ◌+◌, ◌≤◌, List, [], ◌∷◌, ◌++◌, length, take, arith, subst, sym}
-use Rattle.std.proofs.lemmas.List.{length_push}
-use Rattle.kahn_streams.specs.Inputs.{Entry}
-use Rattle.kahn_texts.specs.Formats.{AreBlanks, AreEntries, IsEntry, content}
-use Rattle.kahn_inputs.specs.Seeking.{IsNotSought, IsLineKind, entries_in}
+use Rattle.kahn_inputs.proofs.Common.{◌≡◌, inl, inr, ℕ, ◌+◌, ◌≤◌, List, [], ◌∷◌, ◌++◌, length, take, arith, subst, sym, length_push, Entry, AreBlanks, AreEntries, IsEntry, content, IsNotSought, IsLineKind, entries_in, Blank, NoHead, NoValues}
 use Rattle.kahn_inputs.specs.declared.seeking.LineKind.{LineKind}
-use Rattle.kahn_inputs.specs.declared.seeking.LineKind.TheVariants.{Blank, NoHead, NoValues}
 use Rattle.kahn_inputs.specs.declared.seeking.LineKind.TheVariants as kind
 
 with_entry : (xs : List (List ℕ)) (line : List ℕ) (es : List Entry) (e : Entry) → AreEntries xs es → IsEntry (content line) e → AreEntries (xs ++ (line ∷ [])) (es ++ (e ∷ []))

@@ -1,23 +1,12 @@
 -- Believed. Why an input text is refused, as a note on the place.
 use Rattle.std.specs.Prelude.{◌≡◌, ◌⊎◌, ◌+◌, ◌-◌, ℕ, List, [], ◌∷◌, MatchOption, Option, Some, None, drop, length, map, min}
 use Rattle.std.specs.Str.{IsUtf8}
-use Rattle.kahn_streams.specs.declared.span.Span.{Span}
-use Rattle.kahn_streams.specs.declared.tree.Kind.{Kind}
-use Rattle.kahn_streams.specs.declared.tree.Program.{Program}
-use Rattle.kahn_streams.specs.declared.entries.InputFault.{InputFault}
-use Rattle.kahn_streams.specs.Network.{kind_at, network_of}
-use Rattle.kahn_streams.specs.Inputs.{IsNameOf, IsNoName}
+use Rattle.kahn_streams.specs.{declared.span.Span.Span, declared.tree.Kind.Kind, declared.tree.Program.Program, declared.entries.InputFault.InputFault, Network.kind_at, Network.network_of, Inputs.IsNameOf, Inputs.IsNoName}
 use Rattle.kahn_streams.specs.declared.entries.InputFault.TheVariants as input_fault
 use Rattle.kahn_texts.specs.declared.input.TextFault.{TextFault}
 use Rattle.kahn_texts.specs.declared.input.TextFault.TheVariants as text_fault
-use Rattle.kahn_marks.specs.declared.rendering.Note.{Note}
-use Rattle.kahn_marks.specs.declared.rendering.Other.{Other}
-use Rattle.kahn_marks.specs.declared.rendering.Sort.TheVariants.{Error}
-use Rattle.kahn_inputs.specs.Fitting.{AreAllFit, IsUnfit, colon_at, lack_of, lack_span, moved_by, line_name, name_span}
-use Rattle.kahn_inputs.specs.Meant.{AreMeantLines}
-use Rattle.kahn_inputs.specs.Seeking.{IsFirstNamed, IsFound, IsNamedNowhere, IsUnfound}
-use Rattle.kahn_inputs.specs.declared.seeking.LineKind.{LineKind}
-use Rattle.kahn_inputs.specs.declared.seeking.LineKind.TheVariants.{Blank, Entry, NoHead, NoValues}
+use Rattle.kahn_marks.specs.{declared.rendering.Note.Note, declared.rendering.Other.Other, declared.rendering.Sort.TheVariants.Error}
+use Rattle.kahn_inputs.specs.{Fitting.AreAllFit, Fitting.IsUnfit, Fitting.colon_at, Fitting.lack_of, Fitting.lack_span, Fitting.moved_by, Fitting.line_name, Fitting.name_span, Meant.AreMeantLines, Seeking.IsFirstNamed, Seeking.IsFound, Seeking.IsNamedNowhere, Seeking.IsUnfound, declared.seeking.LineKind.LineKind, declared.seeking.LineKind.TheVariants.Blank, declared.seeking.LineKind.TheVariants.Entry, declared.seeking.LineKind.TheVariants.NoHead, declared.seeking.LineKind.TheVariants.NoValues}
 
 -- a note on a part of the line that begins at byte `from`; below stands what was perhaps meant
 abbrev pub IsPartNote : Program → ℕ → Span → Note → Type 0

@@ -1,16 +1,9 @@
 -- Believed. Where the words of a line of an input text stand, and which of them is at fault.
 use Rattle.std.specs.Prelude.{◌≡◌, ◌⊎◌, ◌+◌, ◌-◌, ◌<◌, ℕ, Bool, false, List, [], ◌∷◌, ◌++◌, All, Option, Some, None, drop, if◌then◌else◌, length, nat_lt, not, slice_get, slice_range}
-use Rattle.std.specs.List.{position_or_len, slice_split}
-use Rattle.std.specs.Char.{is_ascii_alphabetic}
-use Rattle.kahn_streams.specs.declared.span.Span.{Span}
-use Rattle.kahn_streams.specs.declared.tree.Kind.{Kind}
-use Rattle.kahn_streams.specs.declared.value.Value.{Value}
-use Rattle.kahn_streams.specs.Inputs.{kind_of_value}
+use Rattle.std.specs.{List.position_or_len, List.slice_split, Char.is_ascii_alphabetic}
+use Rattle.kahn_streams.specs.{declared.span.Span.Span, declared.tree.Kind.Kind, declared.value.Value.Value, Inputs.kind_of_value}
 use Rattle.kahn_texts.specs.Formats.{IsValue, is_blank, is_word_byte, most_name_bytes}
-use Rattle.kahn_inputs.specs.declared.fitting.ByteClass.{ByteClass}
-use Rattle.kahn_inputs.specs.declared.fitting.ByteClass.TheVariants.{Blank, Named, Dark}
-use Rattle.kahn_inputs.specs.declared.fitting.Lack.{Lack}
-use Rattle.kahn_inputs.specs.declared.fitting.Lack.TheVariants.{Name, ShortName, Colon}
+use Rattle.kahn_inputs.specs.{declared.fitting.ByteClass.ByteClass, declared.fitting.ByteClass.TheVariants.Blank, declared.fitting.ByteClass.TheVariants.Named, declared.fitting.ByteClass.TheVariants.Dark, declared.fitting.Lack.Lack, declared.fitting.Lack.TheVariants.Name, declared.fitting.Lack.TheVariants.ShortName, declared.fitting.Lack.TheVariants.Colon}
 
 -- whether a byte is of a class, and how many at the front are
 abbrev pub is_in_class : ByteClass → ℕ → Bool

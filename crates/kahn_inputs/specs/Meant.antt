@@ -1,9 +1,7 @@
 -- Believed. What an input text was perhaps meant to be.
 use Rattle.std.specs.Prelude.{◌≡◌, ◌⊎◌, ℕ, List, [], ◌∷◌, ◌++◌, codes, flat_map, string_bytes}
-use Rattle.std.specs.declared.alloc.Global.{Global}
-use Rattle.std.specs.declared.string.String.{String}
-use Rattle.kahn_streams.specs.declared.tree.Program.{Program}
-use Rattle.kahn_streams.specs.Inputs.{Lists}
+use Rattle.std.specs.{declared.alloc.Global.Global, declared.string.String.String}
+use Rattle.kahn_streams.specs.{declared.tree.Program.Program, Inputs.Lists}
 use Rattle.kahn_texts.specs.Formats.{StandsFor}
 
 -- a text of lines

@@ -1,9 +1,7 @@
 -- Believed. The law that there is a note on each fault of an input text that has a place.
 use Rattle.std.specs.Prelude.{ℕ, List, None}
 use Rattle.kahn_streams.specs.declared.tree.Program.{Program}
-use Rattle.kahn_texts.specs.Formats.{IsInputTextFault}
-use Rattle.kahn_texts.specs.declared.input.TextFault.{TextFault}
-use Rattle.kahn_texts.specs.declared.input.TextFault.TheVariants.{BadLine, BadValue, Input, TooLong, NoMemory}
+use Rattle.kahn_texts.specs.{Formats.IsInputTextFault, declared.input.TextFault.TextFault, declared.input.TextFault.TheVariants.BadLine, declared.input.TextFault.TheVariants.BadValue, declared.input.TextFault.TheVariants.Input, declared.input.TextFault.TheVariants.TooLong, declared.input.TextFault.TheVariants.NoMemory}
 use Rattle.kahn_inputs.specs.Feeding.{IsInputNote}
 
 -- all do but a text that is too long, and want of memory

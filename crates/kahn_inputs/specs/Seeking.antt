@@ -1,11 +1,8 @@
 -- Believed. Which line of an input text is at fault.
 use Rattle.std.specs.Prelude.{◌≡◌, ◌+◌, ◌≤◌, ℕ, Bool, true, false, List, ◌∷◌, ◌++◌, All, bytes_eq, length}
-use Rattle.kahn_streams.specs.declared.span.Span.{Span}
-use Rattle.kahn_streams.specs.Inputs.{Entry}
+use Rattle.kahn_streams.specs.{declared.span.Span.Span, Inputs.Entry}
 use Rattle.kahn_texts.specs.Formats.{AreBlanks, AreEntries, HasNoHead, HasNoValues, IsEntry, content, text_lines}
-use Rattle.kahn_inputs.specs.Fitting.{moved_by, line_name, name_span, parts_length}
-use Rattle.kahn_inputs.specs.declared.seeking.LineKind.{LineKind}
-use Rattle.kahn_inputs.specs.declared.seeking.LineKind.TheVariants.{Blank, NoHead, NoValues}
+use Rattle.kahn_inputs.specs.{Fitting.moved_by, Fitting.line_name, Fitting.name_span, Fitting.parts_length, declared.seeking.LineKind.LineKind, declared.seeking.LineKind.TheVariants.Blank, declared.seeking.LineKind.TheVariants.NoHead, declared.seeking.LineKind.TheVariants.NoValues}
 use Rattle.kahn_inputs.specs.declared.seeking.LineKind.TheVariants as kind
 
 -- what a line is

@@ -3,8 +3,7 @@
 ghost use Rattle.std.specs.Prelude.{◌≡◌, ◌↔◌, ◌+◌, ◌<◌, ◌≤◌, ℤ, IfSome, IsFalse, IsTrue, MatchOption, drop, length, not, slice_get};
 ghost use Rattle.std.specs.List.{position};
 ghost use Rattle.kahn_texts.specs.Formats.{IsValue};
-ghost use Rattle.kahn_streams.specs.declared.value.Value.{Value};
-ghost use Rattle.kahn_streams.specs.declared.value.Value.TheVariants.{Integer};
+ghost use Rattle.kahn_streams.specs.{declared.value.Value.Value, declared.value.Value.TheVariants.Integer};
 ghost use Rattle.kahn_inputs.specs.Fitting.{AreAllFit, IsOfAsked, IsFitValue, IsFitPart, IsUnfitWord, IsUnfit, colon_at, dark_span, is_letter, is_in_class, lack_of, lack_span, moved_by, line_name, name_span, part_of, class_bytes};
 
 use kahn_streams::{Kind, Span, Value};

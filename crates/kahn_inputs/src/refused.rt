@@ -3,8 +3,7 @@
 ghost use Rattle.std.specs.Prelude.{◌≡◌, IfOk, string_bytes};
 ghost use Rattle.kahn_texts.specs.Formats.{content as content_of};
 ghost use Rattle.kahn_hints.specs.Inputs.{input_names, inputs_words, unknown_input};
-ghost use Rattle.kahn_inputs.specs.Fitting.{line_name};
-ghost use Rattle.kahn_inputs.specs.Refused.{IsHeadPart, IsKindPart, IsValuePart};
+ghost use Rattle.kahn_inputs.specs.{Fitting.line_name, Refused.IsHeadPart, Refused.IsKindPart, Refused.IsValuePart};
 
 use crate::feeding::{kind_for, unfit_span};
 use crate::fitting::{Lack, lack_of, lack_span, line_name, part_of};

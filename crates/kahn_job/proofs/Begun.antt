@@ -1,12 +1,8 @@
 -- Jobs before their first events.
-use Rattle.kahn_job.proofs.Common.{arith, ◌≡◌, ℕ, ◌<◌, List, length, refl, sym, ap, ◌∙◌, subst, Option, None, Some, none-some, same_Some, slice_get, slice_index_or, Program, Actual, Reads, Writes, Hands, network_of, instance_at, actual_at, IsWellWired, reads_listed, writes_listed, AreInputsExtended, Lists, inputs_of, prefix_refl, Joins, TaskEnd, Serves, end_at, Work, HaveSettled, IsIdle, cells_of, rows_of, end_in, AreOpening, HaveNoEnds, IsFresh, IsOpening, no_end, Waiting, IsAhead, ServesAt, AreJobsAt, CellView}
+use Rattle.kahn_job.proofs.Common.{arith, ◌≡◌, ℕ, ◌<◌, List, length, refl, sym, ap, ◌∙◌, subst, Option, None, Some, none-some, same_Some, slice_get, slice_index_or, Program, Actual, Reads, Writes, Hands, network_of, instance_at, actual_at, IsWellWired, reads_listed, writes_listed, AreInputsExtended, Lists, inputs_of, prefix_refl, Joins, TaskEnd, Serves, end_at, Work, HaveSettled, IsIdle, cells_of, rows_of, end_in, AreOpening, HaveNoEnds, IsFresh, IsOpening, no_end, Waiting, IsAhead, ServesAt, AreJobsAt, CellView, slice_get-map, option_map, length-map, length-replicate}
 use Rattle.kahn_streams.specs.Syntax.{Constant}
 use Rattle.kahn_streams.proofs.Entered.{none_of}
-use Rattle.std.proofs.lemmas.Option.{slice_get-map}
-use Rattle.std.specs.Prelude.{option_map}
-use Rattle.std.proofs.lemmas.List.{length-map, length-replicate}
-use Rattle.kahn_job.proofs.Handed.{AreHanded}
-use Rattle.kahn_job.proofs.Idles.{cell_there, cells_count, each_row, past, row_there, settled_rest}
+use Rattle.kahn_job.proofs.{Handed.AreHanded, Idles.cell_there, Idles.cells_count, Idles.each_row, Idles.past, Idles.row_there, Idles.settled_rest}
 
 pub all_bare : (t : Program) (lists : Lists) (watch : Option ℕ) (so : Actual → TaskEnd → Type 0) (whole : TaskEnd → Type 0) → whole no_end → (ws : List Work) →
     HaveNoEnds t lists watch ws → AreHanded t so whole 0 (rows_of ws)

@@ -1,8 +1,6 @@
 -- Ends of an instance's channels, one of which changes.
-use Rattle.kahn_job.proofs.Common.{arith, ◌≡◌, ◌⊎◌, inl, inr, ⊎_elim, ℕ, ◌<◌, List, length, refl, sym, ap, ◌∙◌, subst, slice_set, slice_index_or, cases_lt, get_or_past, Writes, network_of, instance_at, actual_at, handed_within, Joins, Grows, TaskEnd, Identity, IsSame, identity_of, no_end, AreServed, end_at, identities, HaveAdvanced, HasStayed, Program, Lists}
+use Rattle.kahn_job.proofs.Common.{arith, ◌≡◌, ◌⊎◌, inl, inr, ⊎_elim, ℕ, ◌<◌, List, length, refl, sym, ap, ◌∙◌, subst, slice_set, slice_index_or, cases_lt, get_or_past, Writes, network_of, instance_at, actual_at, handed_within, Joins, Grows, TaskEnd, Identity, IsSame, identity_of, no_end, AreServed, end_at, identities, HaveAdvanced, HasStayed, Program, Lists, map-set_same, length-map}
 use Rattle.std.proofs.Math.ListN.{get_or-map}
-use Rattle.std.proofs.Math.Seq.{map-set_same}
-use Rattle.std.proofs.lemmas.List.{length-map}
 
 pub same_self : (e : TaskEnd) → IsSame e e
 same_self e = record { reads = refl; writes = refl; lane = refl; name = refl }

@@ -1,15 +1,15 @@
 -- The names of specs and of the crates below that several proofs cite, passed on from one place.
-pub use Rattle.std.proofs.Common.{Bool, Err, IfSome, List, None, Ok, OnErr, OnOk, Option, Result, Some, [], ap, arith, drop, false, inl, inr, length, map, refl, replicate, rules, slice_get, slice_index_or, slice_set, subst, suc, sym, take, true, zero, ℕ, ⊎_elim, ◌+◌, ◌++◌, ◌<◌, ◌∙◌, ◌∷◌, ◌≡◌, ◌≤◌, ◌⊎◌}
+pub use Rattle.std.proofs.Common.{Bool, Err, IfSome, List, None, Ok, OnErr, OnOk, Option, Result, Some, [], ap, arith, drop, false, inl, inr, length, map, refl, replicate, rules, slice_get, slice_index_or, slice_set, subst, suc, sym, take, true, zero, ℕ, ⊎_elim, ◌+◌, ◌++◌, ◌<◌, ◌∙◌, ◌∷◌, ◌≡◌, ◌≤◌, ◌⊎◌, append_assoc, length-append}
 pub use Rattle.std.proofs.lemmas.Bool.{cases_eq, cases_lt}
-pub use Rattle.std.proofs.lemmas.List.{get_or-set_other, get_or-set_same, get_or_past, length-set}
-pub use Rattle.std.proofs.lemmas.Option.{none-some, same_Some, slice_get_within}
+pub use Rattle.std.proofs.lemmas.List.{get_or-set_other, get_or-set_same, get_or_past, length-set, length-map, length-replicate, map-append, map-set, replicate-append-replicate}
+pub use Rattle.std.proofs.lemmas.Option.{none-some, same_Some, slice_get_within, get_or_from_slice_get, slice_get-map}
 pub use Rattle.std.specs.Vec.{vec_capacity}
 pub use Rattle.kahn_code.proofs.Lists.{AreFirst, none_first, one_first}
 pub use Rattle.kahn_code.specs.Lines.{Joins, Waiting}
 pub use Rattle.kahn_code.specs.Standing.{Grows, Site}
 pub use Rattle.kahn_code.specs.inner.{Gone.nothing_gone, Tapped.Tapped}
-pub use Rattle.kahn_code.specs.Progress.{IsAt, IsSameProcess, IsStill, CellView, site_of, told_view}
-pub use Rattle.kahn_lane.specs.LaneEnds.{left, receiver_lane}
+pub use Rattle.kahn_code.specs.Progress.{IsAt, IsSameProcess, IsStill, CellView, site_of, told_view, IsPause, Paused}
+pub use Rattle.kahn_lane.specs.LaneEnds.{left, receiver_lane, sender_lane, sender_name, sent}
 pub use Rattle.kahn_lane.specs.Places.{lane_name, moved_to}
 pub use Rattle.kahn_lane.specs.declared.name.LaneName.{LaneName}
 pub use Rattle.kahn_streams.proofs.Proved.{prefix_refl, prefix_trans}
@@ -32,3 +32,6 @@ pub use Rattle.kahn_job.specs.inner.Settling.{AreElsewhere, AreResting, AreSettl
 pub use Rattle.kahn_job.specs.inner.Tasks.{Continues, IsTrueOf, Tasked, standing_after}
 pub use Rattle.kahn_job.specs.inner.Ways.{end_of, feeding, no_end, putting}
 pub use Rattle.kahn_job.specs.inner.Works.{HasPaused, IsJob, IsSamePlace, Work, width_of}
+pub use Rattle.kahn_code.specs.inner.Gone.{Gone}
+pub use Rattle.std.proofs.Math.Seq.{map-set_same}
+pub use Rattle.std.specs.Prelude.{option_map}

@@ -1,7 +1,6 @@
 -- Ends of parameters that come and go.
 use Rattle.kahn_job.proofs.Common.{◌≡◌, ◌⊎◌, inl, inr, ⊎_elim, ℕ, List, refl, sym, ap, ◌∙◌, subst, Some, Ok, Err, Result, same_Some, Side, side_at, Lists, LaneName, moved_to, TaskEnd, ShareLane, HasStayed, HasPlace, HaveStayed, end_in, end_of_side, no_end, placed, AreElsewhere, BothSettle, GoesOrStays, HasSettled, HaveExchanged, OnErr, OnOk}
-use Rattle.kahn_job.proofs.Berthed.{stayed_self}
-use Rattle.kahn_job.proofs.Handed.{Found, found, placed_count, placed_sizes, still_place}
+use Rattle.kahn_job.proofs.{Berthed.stayed_self, Handed.Found, Handed.found, Handed.placed_count, Handed.placed_sizes, Handed.still_place}
 
 here_at : (rows : List (List TaskEnd)) (s : Side) (e : TaskEnd) → HasPlace rows s → end_of_side (placed rows (Some s) e) s ≡ e
 here_at rows s e h = by (found rows (Some s) e h s.instance s.parameter)

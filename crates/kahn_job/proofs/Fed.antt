@@ -1,8 +1,7 @@
 -- The end of an input channel: what is ready is a value of its list, and it goes on with another list.
 use Rattle.kahn_job.proofs.Common.{arith, ◌≡◌, ℕ, length, refl, ap, ◌∙◌, Some, None, inputs_of, Lists, LaneName, lane_name, moved_to, Lane, IsWithinInput, HasSettled, end_of}
 use Rattle.kahn_streams.specs.declared.value.Line.TheVariants.{Channel}
-use Rattle.kahn_job.specs.declared.feed.Feed.{Feed}
-use Rattle.kahn_job.specs.declared.port.Way.{Way}
+use Rattle.kahn_job.specs.{declared.feed.Feed.Feed, declared.port.Way.Way}
 use Rattle.kahn_job.specs.declared.port.Way.TheVariants as way
 
 some_none : {l : Lane} → Some l ≡ None → ⊥

@@ -1,9 +1,6 @@
 -- Jobs on which nobody works: what changes where one of them gets another end, and which may go on.
-use Rattle.kahn_job.proofs.Common.{arith, ◌≡◌, ℕ, zero, suc, ◌<◌, ◌≤◌, List, [], ◌∷◌, length, refl, sym, ap, ◌∙◌, subst, slice_set, slice_index_or, slice_get, Some, get_or_past, None, Option, no_end, slice_get_within, none-some, same_Some, Program, AreInputsExtended, Actual, Reads, Writes, Hands, network_of, instance_at, actual_at, idle, IsWellWired, reads_listed, writes_listed, Lists, inputs_of, prefix_refl, prefix_trans, CellView, IsAt, TaskEnd, AreServed, Serves, end_at, end_in, Work, AreIdle, AreJoinedOn, CanGoOn, HaveMet, HaveSettled, IsIdle, IsJob, cells_of, rows_of, ServedBefore, AreResting, HaveStood, IsOfBefore}
-use Rattle.std.proofs.Math.Seq.{map-set_same}
-use Rattle.std.proofs.lemmas.List.{get_or-map, length-map, map-set}
-use Rattle.std.proofs.lemmas.Option.{get_or_from_slice_get, slice_get-map}
-use Rattle.std.specs.Prelude.{option_map}
+use Rattle.kahn_job.proofs.Common.{arith, ◌≡◌, ℕ, zero, suc, ◌<◌, ◌≤◌, List, [], ◌∷◌, length, refl, sym, ap, ◌∙◌, subst, slice_set, slice_index_or, slice_get, Some, get_or_past, None, Option, no_end, slice_get_within, none-some, same_Some, Program, AreInputsExtended, Actual, Reads, Writes, Hands, network_of, instance_at, actual_at, idle, IsWellWired, reads_listed, writes_listed, Lists, inputs_of, prefix_refl, prefix_trans, CellView, IsAt, TaskEnd, AreServed, Serves, end_at, end_in, Work, AreIdle, AreJoinedOn, CanGoOn, HaveMet, HaveSettled, IsIdle, IsJob, cells_of, rows_of, ServedBefore, AreResting, HaveStood, IsOfBefore, map-set_same, length-map, map-set, get_or_from_slice_get, slice_get-map, option_map}
+use Rattle.std.proofs.lemmas.List.{get_or-map}
 use Rattle.kahn_job.proofs.Settles.{AreGoing, all_stayed, all_stayed_then, carried_read, carried_write, rests_met, stood_still}
 
 -- one of them has another end

@@ -1,12 +1,7 @@
 -- Jobs get the cells of taps, one after another.
-use Rattle.kahn_job.proofs.Common.{arith, ◌≡◌, ℕ, ◌<◌, List, [], ◌∷◌, ◌++◌, drop, length, refl, sym, ap, ◌∙◌, subst, Some, slice_get, slice_set, slice_index_or, same_Some, Tapped, CellView, IsSamePlace, Work, AreSamePlaces, cells_of, rows_of, tolds_of}
+use Rattle.kahn_job.proofs.Common.{arith, ◌≡◌, ℕ, ◌<◌, List, [], ◌∷◌, ◌++◌, drop, length, refl, sym, ap, ◌∙◌, subst, Some, slice_get, slice_set, slice_index_or, same_Some, Tapped, CellView, IsSamePlace, Work, AreSamePlaces, cells_of, rows_of, tolds_of, map-set_same, length-append, length-map, map-set, slice_get-map, option_map}
 use Rattle.kahn_code.proofs.Common.{slice_get_read}
 use Rattle.kahn_code.proofs.Queued.{set_each}
-use Rattle.std.proofs.Math.Seq.{map-set_same}
-use Rattle.std.proofs.Common.{length-append}
-use Rattle.std.proofs.lemmas.List.{length-map, map-set}
-use Rattle.std.proofs.lemmas.Option.{slice_get-map}
-use Rattle.std.specs.Prelude.{option_map}
 
 middle : (done rest : List Tapped) (x : Tapped) → slice_get (tolds_of (done ++ x ∷ rest)) (length done) ≡ Some x.told
 middle [] rest x = refl

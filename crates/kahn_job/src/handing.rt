@@ -2,8 +2,7 @@
 
 ghost use Rattle.std.specs.Prelude.{◌≡◌, ◌<◌, ◌≤◌, ◌+◌, ◌^◌, vec_capacity};
 ghost use Rattle.kahn_job.specs.inner.Words.{ℕ, Tapped, nothing_gone, [], length, map, replicate, slice_get, IfOk, IfSome, Some, network_of, lane_name, sender_lane, receiver_lane, sender_name, receiver_name, flushed, sent, received, taken_of, waiting_of, given_of};
-ghost use Rattle.kahn_job.specs.inner.Idles.{cells_of, rows_of, AreEndsAt, AreEndsOf, HaveFewTokens, AreSamePlaces, placed, tolds_of};
-ghost use Rattle.kahn_job.specs.inner.Berths.{HasPlace, end_of_side};
+ghost use Rattle.kahn_job.specs.{inner.Idles.cells_of, inner.Idles.rows_of, inner.Idles.AreEndsAt, inner.Idles.AreEndsOf, inner.Idles.HaveFewTokens, inner.Idles.AreSamePlaces, inner.Idles.placed, inner.Idles.tolds_of, inner.Berths.HasPlace, inner.Berths.end_of_side};
 
 use crate::idle::Idle;
 use crate::port::TaskPort;

@@ -1,9 +1,7 @@
 //! A job on which nobody works, while its input may grow.
 
 ghost use Rattle.std.specs.Prelude.{◌≡◌, ◌<◌, length, map, slice_index_or, slice_set, [], IfOk};
-ghost use Rattle.kahn_job.specs.inner.Berths.{end_at};
-ghost use Rattle.kahn_job.specs.inner.Words.{nothing_gone};
-ghost use Rattle.kahn_job.specs.inner.Works.{IsSamePlace, width_of};
+ghost use Rattle.kahn_job.specs.{inner.Berths.end_at, inner.Words.nothing_gone, inner.Works.IsSamePlace, inner.Works.width_of};
 
 use crate::port::TaskPort;
 use kahn_code::{Cell, Kept, Tap};

@@ -1,10 +1,8 @@
 //! The jobs of a network before their first events.
 
 ghost use Rattle.std.specs.Prelude.{◌≡◌, ◌<◌};
-ghost use Rattle.kahn_job.specs.inner.Words.{length, replicate, IfOk, instance_at, network_of, Lists};
-ghost use Rattle.kahn_job.specs.inner.Idles.{HaveFewTokens, AreJobsAt, AreOpening, HaveNoEnds};
+ghost use Rattle.kahn_job.specs.{inner.Words.length, inner.Words.replicate, inner.Words.IfOk, inner.Words.instance_at, inner.Words.network_of, inner.Words.Lists, inner.Idles.HaveFewTokens, inner.Idles.AreJobsAt, inner.Idles.AreOpening, inner.Idles.HaveNoEnds, inner.Ways.no_end};
 ghost use Rattle.kahn_code.specs.inner.Opening.{IsOpening};
-ghost use Rattle.kahn_job.specs.inner.Ways.{no_end};
 
 use crate::handing::{ends_at, ends_of, place};
 use crate::idle::Idle;

@@ -2,10 +2,7 @@
 
 ghost use Rattle.std.specs.Prelude.{◌≡◌, ◌⊎◌, ◌<◌, ◌+◌, ◌^◌};
 ghost use Rattle.kahn_job.specs.inner.Words.{ℕ, true, length, Some, IfSome, IfNone, IsOk, IsSome, IsTrue, IsFalse, OnOk, OnErr, MatchResult, network_of, role_at, flushed, left, moved_to, token_name, LaneName, Input as InputRole};
-ghost use Rattle.kahn_job.specs.inner.Ends.{Advances, HasRoom, IsBehind, IsDry, IsFlushed, IsReady, MayMeet, ShareLane};
-ghost use Rattle.kahn_job.specs.inner.Berths.{HasStayed, IsWithinInput, IsFor};
-ghost use Rattle.kahn_job.specs.inner.Settling.{BothSettle, CanFeed, CanSettle, HasSettled};
-ghost use Rattle.kahn_job.specs.inner.Ways.{taking, feeding, putting, no_end};
+ghost use Rattle.kahn_job.specs.{inner.Ends.Advances, inner.Ends.HasRoom, inner.Ends.IsBehind, inner.Ends.IsDry, inner.Ends.IsFlushed, inner.Ends.IsReady, inner.Ends.MayMeet, inner.Ends.ShareLane, inner.Berths.HasStayed, inner.Berths.IsWithinInput, inner.Berths.IsFor, inner.Settling.BothSettle, inner.Settling.CanFeed, inner.Settling.CanSettle, inner.Settling.HasSettled, inner.Ways.taking, inner.Ways.feeding, inner.Ways.putting, inner.Ways.no_end};
 
 use crate::feed::Feed;
 use kahn_lane::{Receiver, Sender, meet, settle};

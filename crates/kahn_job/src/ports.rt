@@ -1,8 +1,6 @@
 //! The ends of the channels of an instance.
 
-ghost use Rattle.kahn_job.specs.inner.Words.{ℕ, OnOk, props};
-ghost use Rattle.kahn_job.specs.inner.Berths.{AreServed, HaveFlushed, Serves-prop, end_at};
-ghost use Rattle.kahn_job.specs.inner.Ends.{IsFlushed};
+ghost use Rattle.kahn_job.specs.{inner.Words.ℕ, inner.Words.OnOk, inner.Words.props, inner.Berths.AreServed, inner.Berths.HaveFlushed, inner.Berths.Serves-prop, inner.Berths.end_at, inner.Ends.IsFlushed};
 
 use crate::port::TaskPort;
 use kahn_code::Ports;

@@ -2,11 +2,7 @@
 //! flushed.
 
 ghost use Rattle.std.specs.Prelude.{◌≡◌, ◌<◌};
-ghost use Rattle.kahn_job.specs.inner.Words.{ℕ, length, OnOk, network_of, Lists};
-ghost use Rattle.kahn_job.specs.inner.Ends.{IsBehind, MayMeet};
-ghost use Rattle.kahn_job.specs.inner.Idles.{HaveMet, HaveSettled, cells_of, rows_of};
-ghost use Rattle.kahn_job.specs.inner.Berths.{AreBehindOn, HasPlace, end_of_side};
-ghost use Rattle.kahn_job.specs.inner.Settling.{GoesOrStays, AreResting, AreSettled, CanFeed, CanSettle, HasExchanged, HaveExchanged, HaveStood};
+ghost use Rattle.kahn_job.specs.{inner.Words.ℕ, inner.Words.length, inner.Words.OnOk, inner.Words.network_of, inner.Words.Lists, inner.Ends.IsBehind, inner.Ends.MayMeet, inner.Idles.HaveMet, inner.Idles.HaveSettled, inner.Idles.cells_of, inner.Idles.rows_of, inner.Berths.AreBehindOn, inner.Berths.HasPlace, inner.Berths.end_of_side, inner.Settling.GoesOrStays, inner.Settling.AreResting, inner.Settling.AreSettled, inner.Settling.CanFeed, inner.Settling.CanSettle, inner.Settling.HasExchanged, inner.Settling.HaveExchanged, inner.Settling.HaveStood};
 
 use crate::handing::{exchange, exchange_two};
 use crate::idle::Idle;

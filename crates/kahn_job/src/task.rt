@@ -3,11 +3,7 @@
 ghost use Rattle.std.specs.Prelude.{◌≡◌, ◌+◌, ◌*◌, ◌^◌, ◌<◌, ◌≤◌};
 ghost use Rattle.kahn_job.specs.inner.Words.{length, slice_set, OnOk, network_of, instance_at, site_code, count, AreCounts, WantsRoom, site_of};
 ghost use Rattle.kahn_code.specs.declared.progress.Pause.TheVariants.{NoMemory as IsRefused};
-ghost use Rattle.kahn_job.specs.inner.Ends.{HasRoom};
-ghost use Rattle.kahn_job.specs.inner.Berths.{HaveFlushed, IsWithinInput, end_at};
-ghost use Rattle.kahn_job.specs.inner.Idles.{CanGoOn};
-ghost use Rattle.kahn_job.specs.inner.Tasks.{Continues, IsTrueOf, standing_after, woken_task};
-ghost use Rattle.kahn_job.specs.inner.Works.{HasPaused, IsDelivered, IsJob, width_of};
+ghost use Rattle.kahn_job.specs.{inner.Ends.HasRoom, inner.Berths.HaveFlushed, inner.Berths.IsWithinInput, inner.Berths.end_at, inner.Idles.CanGoOn, inner.Tasks.Continues, inner.Tasks.IsTrueOf, inner.Tasks.standing_after, inner.Tasks.woken_task, inner.Works.HasPaused, inner.Works.IsDelivered, inner.Works.IsJob, inner.Works.width_of};
 
 use crate::idle::Idle;
 use crate::port::TaskPort;

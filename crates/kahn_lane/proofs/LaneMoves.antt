@@ -1,15 +1,6 @@
 -- Each move keeps the rule of a lane.
-use Rattle.std.proofs.Common.{◌≡◌, ◌≢◌, ◌≤◌, ℕ, ◌+◌, ◌^◌, true, true≢false, List, [], ◌∷◌, ◌++◌, length, set, sym, refl, ap, ◌∙◌, subst, inl, inr, ⊎_elim, length-append, arith}
-use mathlib.Core.Option.{some}
-use lib.ListN.{get_elem?}
-use Rattle.crossbeam_deque.specs.Tasks.{Pushes, Takes, Forks, Merges, Learns, Finds, FindsFew}
-use Rattle.crossbeam_deque.proofs.Lists.{at_set, at_snoc}
-use Rattle.kahn_lane.specs.declared.segments.Mark.{Mark}
-use Rattle.kahn_lane.specs.declared.segments.Segment.{Segment}
+use Rattle.kahn_lane.proofs.Common.{◌≡◌, ◌≢◌, ◌≤◌, ℕ, ◌+◌, ◌^◌, true, true≢false, List, [], ◌∷◌, ◌++◌, length, set, sym, refl, ap, ◌∙◌, subst, inl, inr, ⊎_elim, length-append, arith, some, get_elem?, Pushes, Takes, Forks, Merges, Learns, Finds, FindsFew, at_set, at_snoc, Mark, Segment, Opening, Telling, Running, Named, told, first_place, mark, opening_mark, telling, both, owner, writing_mark, reading, spent_mark, size, Filled, Chain, WritesLane, ReadsLane, FitsLane, IsRunning, IsNewLane, IsTelling, Laned, TellsName, Flushes, Steals, Empties}
 use Rattle.kahn_lane.specs.declared.segments.Stage.{Stage}
-use Rattle.kahn_lane.specs.declared.segments.Stage.TheVariants.{Opening, Telling, Running}
-use Rattle.kahn_lane.specs.Places.{Named, told, first_place, mark, opening_mark, telling, both, owner, writing_mark, reading, spent_mark}
-use Rattle.kahn_lane.specs.inner.LaneRule.{size, Filled, Chain, WritesLane, ReadsLane, FitsLane, IsRunning, IsNewLane, IsTelling, Laned, TellsName, Flushes, Steals, Empties}
 use Rattle.kahn_lane.proofs.Views.{at_end, All, all_set, all_one, one, all_more}
 
 -- a pass without rights fits any rule

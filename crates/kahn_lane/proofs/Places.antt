@@ -1,14 +1,6 @@
 -- Tokens at consecutive places, and what they are of.
-use Rattle.std.proofs.Common.{◌≡◌, ◌<◌, ℕ, zero, suc, ◌+◌, ◌-◌, List, [], ◌∷◌, ◌++◌, length, slice_index_or, Option, Some, None, arith, ap, sym, ◌∙◌, subst}
-use Rattle.kahn_streams.specs.declared.tree.Program.{Program}
-use Rattle.kahn_streams.specs.Inputs.{Lists}
-use Rattle.kahn_streams.specs.Tokens.{IsOf}
-use Rattle.kahn_streams.specs.declared.token.Token.{Token}
-use Rattle.kahn_streams.specs.declared.value.Line.TheVariants.{Channel}
-use Rattle.kahn_lane.specs.declared.name.LaneName.{LaneName}
-use Rattle.kahn_lane.specs.declared.segments.Segment.{Segment}
-use Rattle.kahn_lane.specs.inner.LaneRule.{tokens_of}
-use Rattle.kahn_lane.specs.Places.{Named, StandFrom, token_name, lane_name, moved_to}
+use Rattle.kahn_lane.proofs.Common.{◌≡◌, ◌<◌, ℕ, zero, suc, ◌+◌, ◌-◌, List, [], ◌∷◌, ◌++◌, length, slice_index_or, Option, Some, None, arith, ap, sym, ◌∙◌, subst, Token, LaneName, Segment, tokens_of, Named, StandFrom, token_name, lane_name, moved_to}
+use Rattle.kahn_streams.specs.{declared.tree.Program.Program, Inputs.Lists, Tokens.IsOf, declared.value.Line.TheVariants.Channel}
 
 pub placed_more : (c : Named) (n : ℕ) (xs : List Token) (x t : Token) → StandFrom c n xs → x ≡ t → c ≡ Some (token_name t) → t.place ≡ n + length xs → StandFrom c n (xs ++ x ∷ [])
 placed_more c n [] x t h is on at = ((on ∙ ap (λ u. Some (token_name u)) (sym is), omega (arith, at, ap (λ (u : Token). u.place) is)), tt)

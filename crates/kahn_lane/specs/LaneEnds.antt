@@ -1,10 +1,8 @@
 -- Believed. What a contract sees of the two ends of a lane.
 use Rattle.std.specs.Prelude.{◌≡◌, ◌⊎◌, ℕ, ◌+◌, ◌-◌, ◌<◌, ◌≤◌, Some, vec_len, vec_capacity}
 use Rattle.kahn_streams.specs.declared.token.Token.{Token}
-use Rattle.kahn_lane.specs.Places.{Named, token_name}
+use Rattle.kahn_lane.specs.{Places.Named, Places.token_name, declared.segments.Sender.Sender, declared.segments.Receiver.Receiver}
 use Rattle.crossbeam_deque.specs.Handles.{view, taken as left_front, worker_view, worker_deque, stealer_deque}
-use Rattle.kahn_lane.specs.declared.segments.Sender.{Sender}
-use Rattle.kahn_lane.specs.declared.segments.Receiver.{Receiver}
 
 module _ {A : Type 0} where
   -- which lane it is an end of

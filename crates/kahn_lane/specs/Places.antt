@@ -1,19 +1,11 @@
 -- Believed. Tokens at consecutive places, and what a pass of a lane knows.
 use Rattle.std.specs.Prelude.{◌≡◌, ℕ, ◌+◌, Bool, true, false, List, [], ◌∷◌, ⊤, Option, Some, None}
 use Rattle.std.specs.Coded.{Coded-set, coded_ℕ, coded_option, ×_prop, Unit-prop}
-use Rattle.kahn_streams.specs.declared.tree.Program.{Program}
-use Rattle.kahn_streams.specs.declared.value.Line.{Line}
-use Rattle.kahn_streams.specs.Inputs.{Lists}
-use Rattle.kahn_streams.specs.declared.value.Line.TheVariants.{Channel}
-use Rattle.kahn_streams.specs.declared.token.Token.{Token}
+use Rattle.kahn_streams.specs.{declared.tree.Program.Program, declared.value.Line.Line, Inputs.Lists, declared.value.Line.TheVariants.Channel, declared.token.Token.Token}
 use Rattle.kahn_streams.specs.contracts.value.Line as line_type
 use Rattle.kahn_lane.specs.contracts.name.LaneName as lane_name_type
 use Rattle.kahn_lane.specs.contracts.segments.Stage as stage_type
-use Rattle.kahn_lane.specs.declared.name.LaneName.{LaneName}
-use Rattle.kahn_lane.specs.declared.name.Tag.{Tag}
-use Rattle.kahn_lane.specs.declared.segments.Mark.{Mark}
-use Rattle.kahn_lane.specs.declared.segments.Stage.{Stage}
-use Rattle.kahn_lane.specs.declared.segments.Stage.TheVariants.{Opening, Telling, Running}
+use Rattle.kahn_lane.specs.{declared.name.LaneName.LaneName, declared.name.Tag.Tag, declared.segments.Mark.Mark, declared.segments.Stage.Stage, declared.segments.Stage.TheVariants.Opening, declared.segments.Stage.TheVariants.Telling, declared.segments.Stage.TheVariants.Running}
 
 -- what the tokens of a lane are of, if it is known
 abbrev pub Named : Type 0

@@ -5,8 +5,7 @@
 
 ghost use Rattle.std.specs.Prelude.{◌≡◌, ◌+◌, ◌≤◌, ◌<◌, ◌^◌, ◌⊎◌, true, false, vec_len, vec_capacity, IfOk, IsOk, OnErr, IsSome, MatchResult, MatchOption, Some};
 ghost use Rattle.crossbeam_deque.specs.Handles.{worker_view, worker_deque, worker_flavor, stealer_deque, stealer_flavor};
-ghost use Rattle.kahn_lane.specs.Places.{lane_name, token_name, tag_name, owner};
-ghost use Rattle.kahn_lane.specs.inner.LaneRule.{size, tokens_of};
+ghost use Rattle.kahn_lane.specs.{Places.lane_name, Places.token_name, Places.tag_name, Places.owner, inner.LaneRule.size, inner.LaneRule.tokens_of};
 ghost use Rattle.kahn_lane.specs.LaneEnds.{sender_lane, receiver_lane, sender_name, receiver_name, filled, flushed, sent, CanPut, received, waiting, CanTake, heard, left, SameSender, SameReceiver, AreEndsNamed, HavePassed, TakesNext, WasDry};
 
 use crate::deque::{TRIES, small_deque};

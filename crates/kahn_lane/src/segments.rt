@@ -12,8 +12,7 @@
 
 ghost use Rattle.std.specs.Prelude.{◌≡◌, ◌+◌, ◌≤◌, ◌^◌, is_some, true, false, Some, vec_len, vec_capacity};
 ghost use Rattle.crossbeam_deque.specs.Handles.{view, worker_view, worker_flavor, stealer_deque, stealer_flavor};
-ghost use Rattle.kahn_lane.specs.Places.{IsOn, IsOn-prop, StandFrom, Placed-prop, tag_name, name-prop, stage-prop};
-ghost use Rattle.kahn_lane.specs.declared.segments.Stage.TheVariants.{Running};
+ghost use Rattle.kahn_lane.specs.{Places.IsOn, Places.IsOn-prop, Places.StandFrom, Places.Placed-prop, Places.tag_name, Places.name-prop, Places.stage-prop, declared.segments.Stage.TheVariants.Running};
 
 use crate::name::{LaneName, Tag};
 use crossbeam_deque::protocol::{Join, Lesson, Outcome, Protocol, Split};

@@ -6,11 +6,8 @@
 
 ghost use Rattle.std.specs.Prelude.{◌≡◌, ◌+◌, ◌-◌, ◌≤◌, ◌<◌, [], Some, IfOk, IfErr, ℕ, length, vec_len, vec_capacity};
 ghost use Rattle.crossbeam_deque.specs.Handles.{worker_view, worker_flavor};
-ghost use Rattle.kahn_lane.specs.Places.{StandFrom, moved_to, tag_name, token_name};
+ghost use Rattle.kahn_lane.specs.{Places.StandFrom, Places.moved_to, Places.tag_name, Places.token_name, inner.LaneRule.size, inner.LaneRule.tokens_of, inner.Settles.HasBothRights, inner.Settles.HasStolen, inner.Settles.IsGrown, inner.Settles.LiftsTo, inner.Settles.SameLifted, declared.name.LaneName.LaneName};
 ghost use Rattle.kahn_lane.specs.LaneEnds.{sender_lane, receiver_lane, sender_name, receiver_name, flushed, sent, received, waiting, CanTake, heard, AreEndsNamed, HavePassed};
-ghost use Rattle.kahn_lane.specs.inner.LaneRule.{size, tokens_of};
-ghost use Rattle.kahn_lane.specs.inner.Settles.{HasBothRights, HasStolen, IsGrown, LiftsTo, SameLifted};
-ghost use Rattle.kahn_lane.specs.declared.name.LaneName.{LaneName};
 
 use crate::fault::LaneFault;
 use crate::lanes::lane_from;

@@ -1,37 +1,10 @@
 -- What a parse of the words gives the options.
-use Rattle.std.proofs.Common.{◌≡◌, ◌≢◌, ◌∙◌, ◌<◌, ◌≤◌, ℕ, zero, suc, true, false, List, [], ◌∷◌, length, map, Option, Some, None, refl, sym, subst, ap, inl, inr, arith, codes, slice_index}
-use Rattle.std.specs.Prelude.{⊤, Result, Ok, Err, IsErrAnd, option_and_then, option_map, slice_get, string_bytes}
-use Rattle.std.specs.List.{All, slice_index_or, list_all}
-use Rattle.std.specs.Str.{bytes_eq}
-use Rattle.std.specs.Str.Parse.{digits_value, without_leading_plus}
-use Rattle.std.specs.Borrow.{Bor}
-use Rattle.std.proofs.lemmas.Bool.{cases_lt}
-use Rattle.std.proofs.lemmas.Slice.Eq.{bytes_eq-Decides}
-use Rattle.clap.specs.Facts.{args_of, groups_of, parser_of, parser_of_value, Entry, EntryPasses, PassesArg, ValuesPass}
-use Rattle.clap.specs.Built.{BuildsTo, IsAuto, IsParsedFrom, SameRules}
-use Rattle.clap.specs.Kinds.{HasKind, IsAmong}
-use Rattle.clap.specs.Matches.{found_of, first_value, matched_of, one_text}
-use Rattle.clap.specs.Simple.{App, HasMatchesOf, Shape, app_of, is_simple, matches_of, shape_of}
-use Rattle.clap.specs.Values.{Accepts, IsUnsignedIn, kind_of, read_as, reading_of}
-use Rattle.clap.specs.Walk.{Rule, Text, first_of, one_of, rows_of, rule_of}
-use Rattle.clap.specs.declared.builder.arg.Arg.{Arg}
-use Rattle.clap.specs.declared.builder.command.Command.{Command}
-use Rattle.clap.specs.declared.builder.value_parser.Reading.{Reading}
-use Rattle.clap.specs.declared.builder.value_parser.Reading.TheVariants.{AsWritten}
-use Rattle.clap.specs.declared.builder.value_parser.ValueParser.{ValueParser}
-use Rattle.clap.specs.declared.builder.value_parser.ValueParser.TheVariants.{Unsigned}
-use Rattle.clap.specs.declared.parser.matches.ArgMatches.{ArgMatches}
-use Rattle.clap.specs.declared.parser.matches.Found.{Found}
-use Rattle.clap.specs.declared.parser.matches.MatchedArg.{MatchedArg}
-use Rattle.clap.specs.declared.error.Error.{Error}
-use Rattle.clap.specs.declared.error.kind.ErrorKind.{ErrorKind}
-use Rattle.clap.proofs.CallerLemmas.{entry_by_id}
-use Rattle.clap.proofs.SimpleLemmas.{plain_fields, simple_groups}
-use Rattle.clap.proofs.WalkLemmas.{first_value-rows, one_text-rows}
-use Rattle.kahn_line.specs.Line.{kahn_app, number_or, text_of, IsAsked, IsSet, IsTold, ReadsOr}
-use Rattle.kahn_line.specs.declared.line.Options.{Options}
-use Rattle.kahn_line.specs.declared.line.LineFault.{LineFault}
-use Rattle.kahn_line.specs.declared.line.LineFault.TheVariants.{NoMemory, Refused}
+use Rattle.kahn_line.proofs.Common.{◌≡◌, ◌≢◌, ◌∙◌, ◌<◌, ◌≤◌, ℕ, zero, suc, true, false, List, [], ◌∷◌, length, map, Option, Some, None, refl, sym, subst, ap, inl, inr, arith, codes, slice_index, ⊤, Result, Ok, Err, IsErrAnd, option_and_then, option_map, slice_get, string_bytes, Bor, BuildsTo, IsAuto, IsParsedFrom, SameRules, found_of, first_value, matched_of, one_text, App, HasMatchesOf, Shape, app_of, is_simple, matches_of, shape_of, Rule, Text, first_of, one_of, rows_of, rule_of, Arg, Command, Unsigned, ArgMatches, Found, first_value-rows, one_text-rows, kahn_app, number_or, text_of, IsAsked, IsSet, IsTold, ReadsOr}
+use Rattle.std.specs.{List.All, List.slice_index_or, List.list_all, Str.bytes_eq, Str.Parse.digits_value, Str.Parse.without_leading_plus}
+use Rattle.std.proofs.{lemmas.Bool.cases_lt, lemmas.Slice.Eq.bytes_eq-Decides}
+use Rattle.clap.specs.{Facts.args_of, Facts.groups_of, Facts.parser_of, Facts.parser_of_value, Facts.Entry, Facts.EntryPasses, Facts.PassesArg, Facts.ValuesPass, Kinds.HasKind, Kinds.IsAmong, Values.Accepts, Values.IsUnsignedIn, Values.kind_of, Values.read_as, Values.reading_of, declared.builder.value_parser.Reading.Reading, declared.builder.value_parser.Reading.TheVariants.AsWritten, declared.builder.value_parser.ValueParser.ValueParser, declared.parser.matches.MatchedArg.MatchedArg, declared.error.Error.Error, declared.error.kind.ErrorKind.ErrorKind}
+use Rattle.clap.proofs.{CallerLemmas.entry_by_id, SimpleLemmas.plain_fields, SimpleLemmas.simple_groups}
+use Rattle.kahn_line.specs.{declared.line.Options.Options, declared.line.LineFault.LineFault, declared.line.LineFault.TheVariants.NoMemory, declared.line.LineFault.TheVariants.Refused}
 
 -- each rule of this name has this parser
 abbrev pub ParsedAs : List Rule → Text → ValueParser → Type 0

@@ -1,16 +1,5 @@
 -- What a parse of the words gives the options of the program that draws.
-use Rattle.std.proofs.Common.{◌≡◌, ◌∙◌, List, refl, ap, arith, codes}
-use Rattle.std.specs.Prelude.{option_map, string_bytes}
-use Rattle.clap.specs.Built.{IsParsedFrom}
-use Rattle.clap.specs.Matches.{found_of, first_value, one_text}
-use Rattle.clap.specs.Simple.{App, HasMatchesOf, app_of, is_simple, matches_of}
-use Rattle.clap.specs.Walk.{Text, first_of, one_of, rows_of}
-use Rattle.clap.specs.declared.builder.command.Command.{Command}
-use Rattle.clap.specs.declared.builder.value_parser.ValueParser.TheVariants.{Unsigned}
-use Rattle.clap.specs.declared.parser.matches.ArgMatches.{ArgMatches}
-use Rattle.clap.proofs.WalkLemmas.{first_value-rows, one_text-rows}
-use Rattle.kahn_line.specs.Line.{file_named, number_or, ReadsOr}
-use Rattle.kahn_line.specs.Draw.{draw_app, draw_text, IsDraw}
+use Rattle.kahn_line.proofs.Common.{◌≡◌, ◌∙◌, List, refl, ap, arith, codes, option_map, string_bytes, IsParsedFrom, found_of, first_value, one_text, App, HasMatchesOf, app_of, is_simple, matches_of, Text, first_of, one_of, rows_of, Command, Unsigned, ArgMatches, first_value-rows, one_text-rows, file_named, number_or, ReadsOr, draw_app, draw_text, IsDraw}
 use Rattle.kahn_line.specs.declared.draw.DrawOptions.{DrawOptions}
 use Rattle.kahn_line.proofs.Asked.{ParsedAs, apart, known, passed}
 

@@ -1,21 +1,6 @@
 -- What a parse of the words gives the options of the program that is fed line by line.
-use Rattle.std.proofs.Common.{◌≡◌, ◌∙◌, List, [], ◌∷◌, map, Option, refl, sym, ap, subst, arith, codes}
-use Rattle.std.specs.Prelude.{option_map, string_bytes, unwrap_or}
-use Rattle.std.specs.Borrow.{Bor}
-use Rattle.clap.specs.Built.{IsParsedFrom}
-use Rattle.clap.specs.Matches.{found_of, first_value, matched_of, one_text, raw_values}
-use Rattle.clap.specs.Simple.{App, HasMatchesOf, app_of, is_simple, matches_of}
-use Rattle.clap.specs.Walk.{Text, first_of, one_of, rows_of}
-use Rattle.clap.specs.declared.builder.command.Command.{Command}
-use Rattle.clap.specs.declared.builder.value_parser.ValueParser.TheVariants.{Unsigned}
-use Rattle.clap.specs.declared.parser.matches.ArgMatches.{ArgMatches}
-use Rattle.clap.specs.declared.parser.matches.Found.{Found}
-use Rattle.clap.proofs.WalkLemmas.{first_value-rows, one_text-rows, raw_values-rows}
-use Rattle.kahn_streams.specs.Answers.{IsInRange}
-use Rattle.kahn_streams.specs.declared.config.Config.{Config}
-use Rattle.kahn_line.specs.Line.{file_named, was_given, number_or, IsSet}
-use Rattle.kahn_line.specs.Live.{live_app, live_matches, live_text, IsLive}
-use Rattle.kahn_line.specs.Parts.{columns_given, found_texts, input_named, joined_words, plain_parts, row_texts, set_line}
+use Rattle.kahn_line.proofs.Common.{◌≡◌, ◌∙◌, List, [], ◌∷◌, map, Option, refl, sym, ap, subst, arith, codes, option_map, string_bytes, unwrap_or, Bor, IsParsedFrom, found_of, first_value, matched_of, one_text, raw_values, App, HasMatchesOf, app_of, is_simple, matches_of, Text, first_of, one_of, rows_of, Command, Unsigned, ArgMatches, Found, first_value-rows, one_text-rows, raw_values-rows, file_named, was_given, number_or, IsSet, live_app, live_matches, live_text, IsLive, columns_given, found_texts, input_named, joined_words, plain_parts, row_texts, set_line}
+use Rattle.kahn_streams.specs.{Answers.IsInRange, declared.config.Config.Config}
 use Rattle.kahn_line.specs.declared.live.LiveOptions.{LiveOptions}
 use Rattle.kahn_line.proofs.Asked.{ParsedAs, apart, known, passed}
 

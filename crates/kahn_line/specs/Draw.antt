@@ -2,10 +2,7 @@
 use Rattle.std.specs.Prelude.{◌≡◌, ◌<◌, ◌^◌, ⊤, ℕ, List, [], Option, Result, codes, option_map, string_bytes}
 use Rattle.std.specs.declared.result.Result.TheVariants.{Ok, Err}
 use Rattle.clap.specs.Words.{App, Text, IsAmong, fault_of, first_of, kind_of, matches_of, new_rule, one_of, with_rule}
-use Rattle.kahn_line.specs.Line.{bare_app, file_named, number_or, number_rule, text_rule}
-use Rattle.kahn_line.specs.declared.line.LineFault.{LineFault}
-use Rattle.kahn_line.specs.declared.line.LineFault.TheVariants.{Refused, NoMemory}
-use Rattle.kahn_line.specs.declared.draw.DrawOptions.{DrawOptions}
+use Rattle.kahn_line.specs.{Line.bare_app, Line.file_named, Line.number_or, Line.number_rule, Line.text_rule, declared.line.LineFault.LineFault, declared.line.LineFault.TheVariants.Refused, declared.line.LineFault.TheVariants.NoMemory, declared.draw.DrawOptions.DrawOptions}
 
 -- the program text's path without a name, the input text's, and the bound of a run
 abbrev pub draw_app : App

@@ -3,10 +3,7 @@ use Rattle.std.specs.Prelude.{◌≡◌, ⊤, ℕ, List, [], Bool, Option, Resul
 use Rattle.std.specs.declared.result.Result.TheVariants.{Ok, Err}
 use Rattle.clap.specs.Words.{App, Text, IsAmong, fault_of, first_of, kind_of, matches_of, new_rule, one_of, with_rule}
 use Rattle.kahn_streams.specs.Answers.{IsInRange}
-use Rattle.kahn_line.specs.Line.{bare_app, file_named, flag_rule, was_given, number_or, number_rule, text_rule}
-use Rattle.kahn_line.specs.declared.line.LineFault.{LineFault}
-use Rattle.kahn_line.specs.declared.line.LineFault.TheVariants.{Refused, NoMemory}
-use Rattle.kahn_line.specs.declared.explain.ExplainOptions.{ExplainOptions}
+use Rattle.kahn_line.specs.{Line.bare_app, Line.file_named, Line.flag_rule, Line.was_given, Line.number_or, Line.number_rule, Line.text_rule, declared.line.LineFault.LineFault, declared.line.LineFault.TheVariants.Refused, declared.line.LineFault.TheVariants.NoMemory, declared.explain.ExplainOptions.ExplainOptions}
 
 -- the program text's path without a name, and the options
 abbrev pub explain_app : App

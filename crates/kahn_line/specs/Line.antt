@@ -1,19 +1,10 @@
 -- Believed. What the words of a command line ask for, in the words of the library that reads them.
 use Rattle.std.specs.Prelude.{◌≡◌, ◌≢◌, ◌⊎◌, ◌<◌, ◌^◌, ⊤, ℕ, List, [], ◌∷◌, Bool, false, true, Option, Some, None, Result, codes, if◌then◌else◌, option_map, string_bytes}
-use Rattle.std.specs.declared.result.Result.TheVariants.{Ok, Err}
-use Rattle.std.specs.Str.{bytes_eq}
-use Rattle.std.specs.Str.Parse.{IsNumeral, digits_value, without_leading_plus}
+use Rattle.std.specs.{declared.result.Result.TheVariants.Ok, declared.result.Result.TheVariants.Err, Str.bytes_eq, Str.Parse.IsNumeral, Str.Parse.digits_value, Str.Parse.without_leading_plus}
 use Rattle.clap.specs.Words.{App, Rule, Text, IsAmong, fault_of, first_of, first_value, kind_of, matches_of, new_app, new_rule, one_of, one_text, with_rule}
-use Rattle.clap.specs.declared.error.Error.{Error}
-use Rattle.clap.specs.declared.error.kind.ErrorKind.TheVariants.{OutOfMemory}
-use Rattle.clap.specs.declared.builder.ArgAction.TheVariants.{SetTrue}
-use Rattle.clap.specs.declared.builder.value_parser.ValueParser.TheVariants.{Unsigned}
-use Rattle.clap.specs.declared.parser.matches.Found.{Found}
-use Rattle.kahn_streams.specs.Answers.{IsInRange}
-use Rattle.kahn_streams.specs.declared.config.Config.{Config}
-use Rattle.kahn_line.specs.declared.line.Options.{Options}
-use Rattle.kahn_line.specs.declared.line.LineFault.{LineFault}
-use Rattle.kahn_line.specs.declared.line.LineFault.TheVariants.{Refused, NoMemory}
+use Rattle.clap.specs.{declared.error.Error.Error, declared.error.kind.ErrorKind.TheVariants.OutOfMemory, declared.builder.ArgAction.TheVariants.SetTrue, declared.builder.value_parser.ValueParser.TheVariants.Unsigned, declared.parser.matches.Found.Found}
+use Rattle.kahn_streams.specs.{Answers.IsInRange, declared.config.Config.Config}
+use Rattle.kahn_line.specs.{declared.line.Options.Options, declared.line.LineFault.LineFault, declared.line.LineFault.TheVariants.Refused, declared.line.LineFault.TheVariants.NoMemory}
 
 -- an option with a text, as `--input FILE`
 abbrev pub text_rule : Text → Rule

@@ -4,11 +4,7 @@ use Rattle.std.specs.declared.result.Result.TheVariants.{Ok, Err}
 use Rattle.clap.specs.Words.{App, Row, Rule, Text, IsAmong, fault_of, first_of, kind_of, matches_of, new_rule, one_of, with_rule}
 use Rattle.clap.specs.declared.builder.ArgAction.TheVariants.{Append}
 use Rattle.kahn_streams.specs.Answers.{IsInRange}
-use Rattle.kahn_line.specs.Line.{bare_app, file_named, flag_rule, was_given, number_or, number_rule, text_rule}
-use Rattle.kahn_line.specs.Parts.{columns_given, input_named, joined_words, plain_parts, row_texts, set_line}
-use Rattle.kahn_line.specs.declared.line.LineFault.{LineFault}
-use Rattle.kahn_line.specs.declared.line.LineFault.TheVariants.{Refused, NoMemory}
-use Rattle.kahn_line.specs.declared.live.LiveOptions.{LiveOptions}
+use Rattle.kahn_line.specs.{Line.bare_app, Line.file_named, Line.flag_rule, Line.was_given, Line.number_or, Line.number_rule, Line.text_rule, Parts.columns_given, Parts.input_named, Parts.joined_words, Parts.plain_parts, Parts.row_texts, Parts.set_line, declared.line.LineFault.LineFault, declared.line.LineFault.TheVariants.Refused, declared.line.LineFault.TheVariants.NoMemory, declared.live.LiveOptions.LiveOptions}
 
 -- an option with a text that may be repeated
 abbrev pub at_end_rule : Rule

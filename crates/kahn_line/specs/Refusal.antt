@@ -1,10 +1,7 @@
 -- Believed. The status of a program whose command line asks for no run.
 use Rattle.std.specs.Prelude.{ℕ}
-use Rattle.clap.specs.Words.{kind_of}
-use Rattle.clap.specs.declared.error.kind.ErrorKind.{ErrorKind}
-use Rattle.clap.specs.declared.error.kind.ErrorKind.TheVariants.{DisplayHelp, DisplayVersion}
-use Rattle.kahn_line.specs.declared.line.LineFault.{LineFault}
-use Rattle.kahn_line.specs.declared.line.LineFault.TheVariants.{Refused, NoMemory}
+use Rattle.clap.specs.{Words.kind_of, declared.error.kind.ErrorKind.ErrorKind, declared.error.kind.ErrorKind.TheVariants.DisplayHelp, declared.error.kind.ErrorKind.TheVariants.DisplayVersion}
+use Rattle.kahn_line.specs.{declared.line.LineFault.LineFault, declared.line.LineFault.TheVariants.Refused, declared.line.LineFault.TheVariants.NoMemory}
 
 -- of words that are refused, or that ask for the help
 abbrev pub kind_status : ErrorKind → ℕ

@@ -2,9 +2,7 @@
 
 ghost use Rattle.std.specs.Prelude.{◌≡◌, IfOk, codes, false, map, string_bytes};
 ghost use Rattle.clap.specs.Words.{app_of, found_of, rule_of};
-ghost use Rattle.kahn_line.specs.Line.{text_rule};
-ghost use Rattle.kahn_line.specs.Parts.{found_texts, input_named, set_line};
-ghost use Rattle.kahn_line.specs.Live.{at_end_rule, live_app, IsLiveRead};
+ghost use Rattle.kahn_line.specs.{Line.text_rule, Parts.found_texts, Parts.input_named, Parts.set_line, Live.at_end_rule, Live.live_app, Live.IsLiveRead};
 
 use crate::line::{
     LineFault, bare, config_of, file_copied, flag_arg, number_arg, quantum_arg, text_arg,

@@ -1,8 +1,6 @@
 -- What is shown of a text, one character after another.
-use Rattle.std.proofs.Common.{◌≡◌, ℕ, ◌+◌, List, ◌∷◌, ◌++◌, length, length-append, true, false, if◌then◌else◌, ap, ◌∙◌, arith, chars, encode_utf8, subst}
-use Rattle.std.proofs.lemmas.Str.{chars-nil}
+use Rattle.kahn_marks.proofs.Common.{◌≡◌, ℕ, ◌+◌, List, ◌∷◌, ◌++◌, length, length-append, true, false, if◌then◌else◌, ap, ◌∙◌, arith, chars, encode_utf8, subst, chars-nil, ends_before, shown_length}
 use Rattle.kahn_marks.proofs.Rows.{none_left}
-use Rattle.kahn_marks.specs.Shown.{ends_before, shown_length}
 
 none_more : (at c : ℕ) (ds : List ℕ) → ends_before at c ≡ true → shown_length at (c ∷ ds) ≡ 0
 none_more at c ds stop = ap (λ b. if b then 0 else length (encode_utf8 c) + shown_length (at + length (encode_utf8 c)) ds) stop

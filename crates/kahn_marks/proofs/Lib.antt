@@ -4,3 +4,4 @@ pub mod Joined
 mod Rows
 mod Shown
 mod Unsaid
+pub mod Common

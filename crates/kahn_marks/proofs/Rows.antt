@@ -1,9 +1,6 @@
 -- The characters of a line, one after another.
-use Rattle.std.proofs.Common.{◌≡◌, ℕ, ◌+◌, zero, suc, List, [], ◌∷◌, ◌++◌, length, refl, sym, ap, ◌∙◌, add-one, append_assoc, append-nil, arith, chars, encode_utf8, flat_map, Bor, Option, None, Some, option_map, slice_get, slice_index_or, unwrap_or}
+use Rattle.kahn_marks.proofs.Common.{◌≡◌, ℕ, ◌+◌, zero, suc, List, [], ◌∷◌, ◌++◌, length, refl, sym, ap, ◌∙◌, add-one, append_assoc, append-nil, arith, chars, encode_utf8, flat_map, Bor, Option, None, Some, option_map, slice_get, slice_index_or, unwrap_or, chars-nil, Row, piece_of, shown_character, with_places, times_over}
 use Rattle.std.proofs.lemmas.Option.{unwrap_or-slice_get}
-use Rattle.std.proofs.lemmas.Str.{chars-nil}
-use Rattle.kahn_marks.specs.declared.columns.Row.{Row}
-use Rattle.kahn_marks.specs.Marks.{piece_of, shown_character, with_places, times_over}
 
 -- what is written of characters, the first of which begins at `at`
 abbrev pub written : Row → ℕ → ℕ → ℕ → List ℕ → List ℕ

@@ -1,13 +1,8 @@
 -- Of a line nothing is shown but what is near the part that is marked.
-use Rattle.std.proofs.Common.{◌≡◌, ℕ, ◌+◌, ◌-◌, ◌≤◌, ◌<◌, ◌⊎◌, inl, inr, List, [], ◌∷◌, ◌++◌, length, Bool, true, false, ◌&&◌, if◌then◌else◌, refl, sym, ap, ◌∙◌, append_assoc, arith, chars, encode_utf8, drop, take, nat_le, nat_lt, length-append, append-nil, suc, codes}
-use Rattle.std.proofs.lemmas.List.{length-take-le, take-append-drop}
-use Rattle.std.specs.Str.{IsUtf8, IsCharBoundary, encode_utf8_all}
-use Rattle.std.proofs.lemmas.Bool.Decides.{leb_tells}
-use Rattle.std.proofs.lemmas.Bool.{lt-leb, le-ltb}
-use Rattle.std.proofs.lemmas.Str.{IsUtf8-take, chars-append, encodes-chars, length-encode, len_utf8_bounds}
-use Rattle.kahn_marks.specs.declared.columns.Row.{Row}
+use Rattle.kahn_marks.proofs.Common.{◌≡◌, ℕ, ◌+◌, ◌-◌, ◌≤◌, ◌<◌, ◌⊎◌, inl, inr, List, [], ◌∷◌, ◌++◌, length, Bool, true, false, ◌&&◌, if◌then◌else◌, refl, sym, ap, ◌∙◌, append_assoc, arith, chars, encode_utf8, drop, take, nat_le, nat_lt, length-append, append-nil, suc, codes, IsCharBoundary, encode_utf8_all, IsUtf8-take, chars-append, encodes-chars, length-encode, len_utf8_bounds, Row, columns, is_near, near_piece, piece_of, shown_row, times_over}
+use Rattle.std.proofs.{lemmas.List.length-take-le, lemmas.List.take-append-drop, lemmas.Bool.Decides.leb_tells, lemmas.Bool.lt-leb, lemmas.Bool.le-ltb}
+use Rattle.std.specs.Str.{IsUtf8}
 use Rattle.kahn_marks.specs.declared.columns.Row.TheVariants.{Source, Blanks, Carets}
-use Rattle.kahn_marks.specs.Marks.{columns, is_near, near_piece, piece_of, shown_row, times_over}
 use Rattle.kahn_marks.proofs.Rows.{written}
 
 -- a character that isn't near

@@ -1,13 +1,9 @@
 -- Believed. A note on a part of a text: where it stands and what is said, the source line, and carets under the part.
 use Rattle.std.specs.Prelude.{ℕ, zero, suc, ◌+◌, ◌-◌, ◌==◌, ◌&&◌, List, [], ◌∷◌, ◌++◌, Bool, false, if◌then◌else◌, nat_le, nat_lt, ◌||◌, unwrap_or, codes, chars, decimal, encode_utf8, flat_map, length, slice_index_or}
-use Rattle.std.specs.List.{concat}
-use Rattle.std.specs.Char.{is_control}
-use Rattle.std.specs.Str.Lines.{lines}
+use Rattle.std.specs.{List.concat, Char.is_control, Str.Lines.lines}
 use Rattle.unicode_width.specs.Width.{char_width}
-use Rattle.kahn_streams.specs.Place.{line_of, column_of}
-use Rattle.kahn_streams.specs.declared.span.Span.{Span}
-use Rattle.kahn_marks.specs.declared.columns.Row.{Row}
-use Rattle.kahn_marks.specs.declared.columns.Row.TheVariants.{Source, Blanks, Carets}
+use Rattle.kahn_streams.specs.{Place.line_of, Place.column_of, declared.span.Span.Span}
+use Rattle.kahn_marks.specs.{declared.columns.Row.Row, declared.columns.Row.TheVariants.Source, declared.columns.Row.TheVariants.Blanks, declared.columns.Row.TheVariants.Carets}
 
 -- the line and the column of a byte of a text, or of its end where the text has no such byte, behind a word
 abbrev pub spot_text : List ℕ → List ℕ → ℕ → List ℕ

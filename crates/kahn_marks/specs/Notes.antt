@@ -1,16 +1,9 @@
 -- Believed. A note as lines: its place with what is said there, what mends it, sentences, and other places.
 use Rattle.std.specs.Prelude.{◌≡◌, ◌⊎◌, ℕ, List, ◌∷◌, [], ◌++◌, Option, Some, None, codes, decimal, drop, flat_map, length, string_bytes, take}
-use Rattle.std.specs.List.{concat}
-use Rattle.std.specs.declared.alloc.Global.{Global}
-use Rattle.std.specs.declared.string.String.{String}
-use Rattle.kahn_streams.specs.Place.{line_of}
-use Rattle.kahn_streams.specs.declared.span.Span.{Span}
-use Rattle.kahn_marks.specs.declared.rendering.Sort.{Sort}
+use Rattle.std.specs.{List.concat, declared.alloc.Global.Global, declared.string.String.String}
+use Rattle.kahn_streams.specs.{Place.line_of, declared.span.Span.Span}
+use Rattle.kahn_marks.specs.{declared.rendering.Sort.Sort, declared.rendering.Fix.Fix, declared.rendering.Other.Other, declared.rendering.Note.Note, Marks.marked_as, Marks.shown_text, Marks.times_over}
 use Rattle.kahn_marks.specs.declared.rendering.Sort.TheVariants as sort
-use Rattle.kahn_marks.specs.declared.rendering.Fix.{Fix}
-use Rattle.kahn_marks.specs.declared.rendering.Other.{Other}
-use Rattle.kahn_marks.specs.declared.rendering.Note.{Note}
-use Rattle.kahn_marks.specs.Marks.{marked_as, shown_text, times_over}
 
 -- how a sort is called
 abbrev pub sort_words : Sort → List ℕ

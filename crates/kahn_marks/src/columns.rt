@@ -1,8 +1,7 @@
 //! How the characters of a source line are shown, and what stands below them.
 
 ghost use Rattle.std.specs.Prelude.{◌≡◌, ◌++◌, ◌<◌, ℕ, IfOk, string_bytes};
-ghost use Rattle.kahn_marks.specs.declared.columns.Row.{Row};
-ghost use Rattle.kahn_marks.specs.Marks.{columns, is_format, is_kept_back, is_near, piece_of, shown_row, shown_character};
+ghost use Rattle.kahn_marks.specs.{declared.columns.Row.Row, Marks.columns, Marks.is_format, Marks.is_kept_back, Marks.is_near, Marks.piece_of, Marks.shown_row, Marks.shown_character};
 
 use crate::pieces::add_repeated;
 use std::alloc::AllocError;

@@ -1,8 +1,7 @@
 //! A note as data, and how it is written.
 
 ghost use Rattle.std.specs.Prelude.{◌≡◌, ◌++◌, IfOk, flat_map, string_bytes};
-ghost use Rattle.kahn_marks.specs.Marks.{marked_as, shown_text};
-ghost use Rattle.kahn_marks.specs.Notes.{IsFixShown, IsRendered, below_text, line_below, other_text, sort_words};
+ghost use Rattle.kahn_marks.specs.{Marks.marked_as, Marks.shown_text, Notes.IsFixShown, Notes.IsRendered, Notes.below_text, Notes.line_below, Notes.other_text, Notes.sort_words};
 
 use crate::note::marked_as;
 use crate::pieces::{add, add_repeated};

@@ -2,8 +2,7 @@
 
 ghost use Rattle.std.specs.Prelude.{◌≡◌, ◌++◌, ◌≤◌, IfOk, chars, length, string_bytes, take};
 ghost use Rattle.std.specs.Str.Lossy.{utf8_valid_len};
-ghost use Rattle.kahn_marks.specs.Marks.{shown_text};
-ghost use Rattle.kahn_marks.specs.Shown.{ends_before, shown_length, shown_part};
+ghost use Rattle.kahn_marks.specs.{Marks.shown_text, Shown.ends_before, Shown.shown_length, Shown.shown_part};
 
 use crate::columns::{add_shown, is_kept_back};
 use std::alloc::AllocError;

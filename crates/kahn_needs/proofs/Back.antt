@@ -1,19 +1,6 @@
 -- What a value needs is what its writer's shortest run to it needs.
-use Rattle.std.proofs.Common.{arith, ◌≡◌, ◌↔◌, ℕ, zero, suc, ◌≤◌, ◌<◌, max, List, [], ◌∷◌, length, refl, sym, ap, subst, Some, slice_get, slice_index_or, pos, length-take}
-use Rattle.std.proofs.Math.Nat.{le-max_left, le-max_right}
-use Rattle.std.proofs.lemmas.Option.{slice_get_within}
-use Rattle.kahn_streams.specs.declared.value.Value.{Value}
-use Rattle.kahn_streams.specs.declared.value.Line.{Line}
-use Rattle.kahn_streams.specs.declared.value.Line.TheVariants.{Channel}
-use Rattle.kahn_streams.specs.Syntax.{Number}
-use Rattle.kahn_streams.specs.Network.{Network, Actual, Reads, Writes, Hands, instance_at, actual_at, Given, Written}
-use Rattle.kahn_streams.specs.Solution.{Histories, Inputs, IsPrefix, iterate, tape_of, source, Stands}
-use Rattle.kahn_streams.proofs.Proved.{prefix_get}
-use Rattle.kahn_needs.specs.Needs.{Cut, held_in, Suffices}
-use Rattle.kahn_needs.specs.Laws.{IsShortest, IsTakenBy, GoBack}
-use Rattle.kahn_needs.proofs.Needing.{take_length, held_all, held_before, held_given, held_within, held_written, tape_grows, within_refl}
-use Rattle.kahn_needs.proofs.Told.{suffices_there}
-use Rattle.kahn_needs.proofs.Ways.{AllOf, enough, get_there, needed, taken, taken_left}
+use Rattle.kahn_needs.proofs.Common.{arith, ◌≡◌, ◌↔◌, ℕ, zero, suc, ◌≤◌, ◌<◌, max, List, [], ◌∷◌, length, refl, sym, ap, subst, Some, slice_get, slice_index_or, pos, length-take, le-max_left, le-max_right, slice_get_within, Value, Line, Channel, Number, Network, Actual, Reads, Writes, Hands, instance_at, actual_at, Given, Written, Histories, Inputs, IsPrefix, iterate, tape_of, source, Stands, prefix_get, Cut, held_in, Suffices, IsShortest, IsTakenBy, GoBack}
+use Rattle.kahn_needs.proofs.{Needing.take_length, Needing.held_all, Needing.held_before, Needing.held_given, Needing.held_within, Needing.held_written, Needing.tape_grows, Needing.within_refl, Told.suffices_there, Ways.AllOf, Ways.enough, Ways.get_there, Ways.needed, Ways.taken, Ways.taken_left}
 
 -- ---- an input
 

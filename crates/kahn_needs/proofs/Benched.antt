@@ -1,33 +1,9 @@
 -- Cells that stand where their queues stand.
-use Rattle.std.proofs.Common.{arith, ◌≡◌, ℕ, ◌+◌, ◌<◌, ◌≤◌, List, [], ◌∷◌, ◌++◌, length, replicate, refl, sym, ap, ◌∙◌, subst, Option, Some, slice_get, slice_set, slice_index_or, length-set}
-use Rattle.std.proofs.lemmas.Option.{slice_get_read}
-use Rattle.kahn_streams.proofs.Entered.{none_of}
-use Rattle.kahn_streams.proofs.Sourced.{writes}
-use Rattle.kahn_streams.specs.Answers.{is_output}
-use Rattle.kahn_streams.specs.Inputs.{Lists, inputs_of}
-use Rattle.kahn_streams.specs.Meaning.{Store}
-use Rattle.kahn_streams.specs.Network.{Network, Writes, actual_at, instance_at, network_of, role_at}
-use Rattle.kahn_streams.proofs.Runs.{play_zero}
-use Rattle.kahn_streams.specs.Script.{ScriptOutcome}
-use Rattle.kahn_streams.specs.Steps.{empty}
-use Rattle.kahn_streams.specs.declared.value.Line.{Line}
-use Rattle.kahn_streams.specs.declared.token.Token.{Token}
-use Rattle.kahn_streams.proofs.Dry.{dry_reads}
-use Rattle.kahn_streams.specs.Solution.{Inputs, values_at, goes_to}
+use Rattle.kahn_needs.proofs.Common.{arith, ◌≡◌, ℕ, ◌+◌, ◌<◌, ◌≤◌, List, [], ◌∷◌, ◌++◌, length, replicate, refl, sym, ap, ◌∙◌, subst, Option, Some, slice_get, slice_set, slice_index_or, length-set, slice_get_read, writes, is_output, Lists, inputs_of, Store, Network, Writes, actual_at, instance_at, network_of, role_at, play_zero, ScriptOutcome, empty, Line, Token, Inputs, values_at, goes_to, Program, Channel, Print, script_at, kept_none, one_first, given_zero, set_each, taken_zero, AreKeptTokens, StoodBy, View, exec_on, sent_on, AreFirst, AreQueued, Lines, actual_here, next_at, place_at, queue_of, waiting_of, IsAt, IsPause, Paused, CellView, site_of, told_view, LeavesOthers, Site, count, Pause, AreUnmoved, HasActed, IsUnmoved, HaveSeats, HasItsSeat, IsStopped, Seats, seats_of}
+use Rattle.kahn_streams.proofs.{Entered.none_of, Dry.dry_reads}
 use Rattle.kahn_streams.specs.Wiring.{IsWellWired}
-use Rattle.kahn_streams.specs.declared.tree.Program.{Program}
-use Rattle.kahn_streams.specs.declared.value.Line.TheVariants.{Channel, Print}
-use Rattle.kahn_streams.proofs.Proved.{script_at}
-use Rattle.kahn_code.proofs.Lists.{kept_none, one_first}
-use Rattle.kahn_code.proofs.Queued.{given_zero, set_each, taken_zero}
-use Rattle.kahn_code.specs.Cells.{AreKeptTokens, StoodBy, View, exec_on, sent_on}
-use Rattle.kahn_code.specs.Lines.{AreFirst, AreQueued, Lines, actual_here, next_at, place_at, queue_of, waiting_of}
-use Rattle.kahn_code.specs.Progress.{IsAt, IsPause, Paused, CellView, site_of, told_view}
-use Rattle.kahn_code.specs.Standing.{LeavesOthers, Site, count}
-use Rattle.kahn_code.specs.declared.progress.Pause.{Pause}
 use Rattle.kahn_code.specs.declared.progress.Pause.TheVariants as pause
 use Rattle.kahn_code.specs.Progress as code
-use Rattle.kahn_needs.specs.inner.Bench.{AreUnmoved, HasActed, IsUnmoved, HaveSeats, HasItsSeat, IsStopped, Seats, seats_of}
 
 -- ---- a cell at its opening
 

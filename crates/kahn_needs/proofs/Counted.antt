@@ -1,24 +1,7 @@
 -- Numbers that are told one after another, and the value that was sent at a place.
-use Rattle.std.proofs.Common.{arith, ◌≡◌, ℕ, ◌+◌, ◌<◌, ◌||◌, Bool, true, false, List, [], ◌∷◌, ◌++◌, length, map, refl, sym, ap, ◌∙◌, subst, Some, slice_get, slice_index_or}
-use Rattle.std.proofs.lemmas.List.{length-map}
-use Rattle.std.proofs.lemmas.Option.{same_Some}
-use Rattle.kahn_streams.proofs.By_number.{there, mapped}
-use Rattle.kahn_streams.specs.Answers.{is_output, is_watched}
-use Rattle.kahn_streams.specs.Network.{IsWriter, Writes, Written, actual_at, channel_source, instance_at, network_of, role_at}
+use Rattle.kahn_needs.proofs.Common.{arith, ◌≡◌, ℕ, ◌+◌, ◌<◌, ◌||◌, Bool, true, false, List, [], ◌∷◌, ◌++◌, length, map, refl, sym, ap, ◌∙◌, subst, Some, slice_get, slice_index_or, length-map, same_Some, there, mapped, is_output, is_watched, IsWriter, Writes, Written, actual_at, channel_source, instance_at, network_of, role_at, Side, Token, Line, Channel, Print, Value, none_first, one_first, is_streamed, sent_on, CellView, tokens, AreCounted, HaveSeats, Stood, Seats, HasCome, HasValue}
 use Rattle.kahn_streams.specs.Tokens.{token_value}
-use Rattle.kahn_streams.specs.declared.sides.Side.{Side}
-use Rattle.kahn_streams.specs.declared.token.Token.{Token}
-use Rattle.kahn_streams.specs.declared.value.Line.{Line}
-use Rattle.kahn_streams.specs.declared.value.Line.TheVariants.{Channel, Print}
-use Rattle.kahn_streams.specs.declared.value.Value.{Value}
-use Rattle.kahn_code.proofs.Lists.{none_first, one_first}
-use Rattle.kahn_code.specs.Cells.{is_streamed, sent_on}
-use Rattle.kahn_code.specs.Progress.{CellView}
-use Rattle.kahn_code.specs.Standing.{tokens}
-use Rattle.kahn_needs.specs.inner.Bench.{AreCounted, HaveSeats, Stood, Seats}
-use Rattle.kahn_needs.specs.inner.Finding.{HasCome, HasValue}
-use Rattle.kahn_needs.proofs.Benched.{found}
-use Rattle.kahn_needs.proofs.Ways.{eqb_refl}
+use Rattle.kahn_needs.proofs.{Benched.found, Ways.eqb_refl}
 
 pub counted_none : (f : ℕ → ℕ) (xs : List ℕ) → xs ≡ [] → AreCounted f xs 0
 counted_none f xs e = let r = none_first (λ d x. x ≡ f d) xs e in record { count = r.count; each = r.each }

@@ -1,17 +1,5 @@
 -- For each value of the solution there is a least cut in which it stands.
-use Rattle.std.proofs.Common.{arith, ◌≡◌, ℕ, zero, suc, ◌≤◌, ◌<◌, ◌==◌, max, Bool, true, false, List, [], ◌∷◌, ◌++◌, length, take, refl, sym, ap, subst, eqb-true, le_of_suc-le-suc, not-suc-le-zero, le_refl, pos, slice_index_or, if◌then◌else◌, length-append, length-take}
-use Rattle.std.proofs.Math.Nat.{le-max_left, le-max_right}
-use Rattle.kahn_streams.specs.declared.value.Value.{Value}
-use Rattle.kahn_streams.specs.declared.value.Line.{Line}
-use Rattle.kahn_streams.specs.declared.value.Line.TheVariants.{Channel, Print}
-use Rattle.kahn_streams.specs.Syntax.{Number}
-use Rattle.kahn_streams.specs.Network.{Network, Actual, Reads, Writes, Hands, instance_at, actual_at, Source, Given, Written, Nobody}
-use Rattle.kahn_streams.specs.Solution.{Histories, Inputs, tape_of, tapes_of, out, source, fed, input_list, iterate, IsExtended, IsPrefix}
-use Rattle.kahn_streams.proofs.Proved.{prefix_refl, prefix_get, feeds, out_grows}
-use Rattle.kahn_code.proofs.Lists.{sent_stands, stand_in}
-use Rattle.kahn_code.specs.Cells.{AllStand}
-use Rattle.kahn_needs.specs.Needs.{Cut, first_values, held_in, IsCutWithin}
-use Rattle.kahn_needs.specs.Laws.{IsMadeIn, IsShortest}
+use Rattle.kahn_needs.proofs.Common.{arith, ◌≡◌, ℕ, zero, suc, ◌≤◌, ◌<◌, ◌==◌, max, Bool, true, false, List, [], ◌∷◌, ◌++◌, length, take, refl, sym, ap, subst, eqb-true, le_of_suc-le-suc, not-suc-le-zero, le_refl, pos, slice_index_or, if◌then◌else◌, length-append, length-take, le-max_left, le-max_right, Value, Line, Channel, Print, Number, Network, Actual, Reads, Writes, Hands, instance_at, actual_at, Source, Given, Written, Nobody, Histories, Inputs, tape_of, tapes_of, out, source, fed, input_list, iterate, IsExtended, IsPrefix, prefix_refl, prefix_get, feeds, out_grows, sent_stands, stand_in, AllStand, Cut, first_values, held_in, IsCutWithin, IsMadeIn, IsShortest}
 use Rattle.kahn_needs.proofs.Ways.{AllOf, are_tapes, enough, eqb_refl, fewest, needed, taken, taken_left}
 
 -- ---- lists and numbers

@@ -1,33 +1,9 @@
 -- One turn of a search: what is forced stays so, and what a process waits for is wanted.
-use Rattle.std.proofs.Common.{arith, ◌≡◌, inl, inr, ℕ, zero, suc, le_refl, ◌+◌, ◌≤◌, ◌<◌, length, take, refl, sym, ap, ◌∙◌, subst, Option, Some, slice_get, slice_index_or}
-use Rattle.std.proofs.lemmas.Option.{same_Some}
-use Rattle.kahn_streams.proofs.By_number.{there, within}
-use Rattle.kahn_streams.proofs.Sourced.{reads, reads_listed}
-use Rattle.kahn_streams.specs.Inputs.{Lists, inputs_of}
-use Rattle.kahn_streams.specs.Network.{IsWriter, Network, Reads, Writes, Given, Written, actual_at, channel_source, instance_at, network_of, role_at}
-use Rattle.kahn_streams.specs.Script.{Dry}
-use Rattle.kahn_streams.specs.Solution.{Inputs, Ending, Ended, Faulted, Waiting as Waits_for, ending, input_list, out, source, tape_of}
-use Rattle.kahn_streams.specs.declared.sides.Side.{Side}
-use Rattle.kahn_streams.specs.declared.tree.Program.{Program}
-use Rattle.kahn_streams.specs.declared.tree.Role.TheVariants.{Input}
-use Rattle.kahn_streams.specs.declared.value.Failure.{Failure}
-use Rattle.kahn_streams.specs.declared.value.Line.{Line}
-use Rattle.kahn_streams.specs.declared.value.Line.TheVariants.{Channel, Print}
-use Rattle.kahn_streams.specs.inner.Sources.{IsFed}
-use Rattle.kahn_code.proofs.Queued.{set_each, set_here}
-use Rattle.kahn_code.specs.Cells.{StoodBy, exec_on, sent_on}
-use Rattle.kahn_code.specs.Lines.{Waiting, next_at, taken_of, waiting_of}
-use Rattle.kahn_code.specs.Progress.{AreCounts, CellView, told_view}
-use Rattle.kahn_code.specs.Standing.{count}
-use Rattle.kahn_code.specs.declared.progress.Pause.{Pause}
+use Rattle.kahn_needs.proofs.Common.{arith, ◌≡◌, inl, inr, ℕ, zero, suc, le_refl, ◌+◌, ◌≤◌, ◌<◌, length, take, refl, sym, ap, ◌∙◌, subst, Option, Some, slice_get, slice_index_or, same_Some, there, within, reads, reads_listed, Lists, inputs_of, IsWriter, Network, Reads, Writes, Given, Written, actual_at, channel_source, instance_at, network_of, role_at, Dry, Inputs, Ending, Ended, Faulted, Waiting as Waits_for, ending, input_list, out, source, tape_of, Side, Program, Input, Failure, Line, Channel, Print, IsFed, set_each, set_here, StoodBy, exec_on, sent_on, next_at, taken_of, waiting_of, AreCounts, CellView, told_view, count, Pause, Cut, held_in, IsNetworkLine, HasActed, HaveSeats, AreSeatsOf, Stood, Seats, AreForced, HasSentSoMany, HoldsIn, HoldsAt, IsWaitChain, IsDemand, IsNoLater, IsPausedAt, IsSooner, IsWanted}
+use Rattle.kahn_code.specs.Lines.{Waiting}
 use Rattle.kahn_code.specs.declared.progress.Pause.TheVariants as pause
-use Rattle.kahn_needs.specs.Needs.{Cut, held_in}
 use Rattle.kahn_needs.specs.declared.search.Chain.{Chain}
-use Rattle.kahn_needs.specs.Finding.{IsNetworkLine}
-use Rattle.kahn_needs.specs.inner.Bench.{HasActed, HaveSeats, AreSeatsOf, Stood, Seats}
-use Rattle.kahn_needs.specs.inner.Finding.{AreForced, HasSentSoMany, HoldsIn, HoldsAt, IsWaitChain, IsDemand, IsNoLater, IsPausedAt, IsSooner, IsWanted}
-use Rattle.kahn_needs.proofs.Benched.{found}
-use Rattle.kahn_needs.proofs.Needing.{held_all, held_before, held_given, prefix_length, take_below}
+use Rattle.kahn_needs.proofs.{Benched.found, Needing.held_all, Needing.held_before, Needing.held_given, Needing.prefix_length, Needing.take_below}
 use Rattle.kahn_needs.proofs.Ways as way
 
 -- of an input a cut has no more than its list

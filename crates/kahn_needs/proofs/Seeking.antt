@@ -1,11 +1,5 @@
 -- A search that goes on from one place to a later one.
-use Rattle.std.proofs.Common.{arith, ◌≡◌, ℕ, ◌≤◌, sym, ap, ◌∙◌, subst}
-use Rattle.kahn_streams.specs.Inputs.{Lists}
-use Rattle.kahn_streams.specs.declared.tree.Program.{Program}
-use Rattle.kahn_streams.specs.declared.value.Line.{Line}
-use Rattle.kahn_needs.specs.Finding.{Seeking}
-use Rattle.kahn_needs.specs.inner.Bench.{AreSeatsOf, Seats}
-use Rattle.kahn_needs.specs.inner.Finding.{AreForced, IsDemand, IsSearchState, seeking_of}
+use Rattle.kahn_needs.proofs.Common.{arith, ◌≡◌, ℕ, ◌≤◌, sym, ap, ◌∙◌, subst, Lists, Program, Line, Seeking, AreSeatsOf, Seats, AreForced, IsDemand, IsSearchState, seeking_of}
 
 -- the value that is sought is a demand
 pub root_there : (b : Seats) (c : Line) (k n : ℕ) → IsSearchState b c n → IsDemand b c k c k

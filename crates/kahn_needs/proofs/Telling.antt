@@ -1,43 +1,10 @@
 -- What all cells did for a value, and nothing more, is what it needs.
-use mathlib.Core.Path.{fun_ext}
-use Rattle.std.proofs.Common.{arith, ◌≡◌, ◌⊎◌, inl, inr, ℕ, zero, suc, ◌≤◌, ◌<◌, List, [], ◌∷◌, length, refl, sym, ap, ◌∙◌, subst, le_refl, Option, Some, None, false, slice_get, slice_index_or, length-take}
-use Rattle.std.proofs.lemmas.Bool.{cases_lt}
-use Rattle.std.proofs.lemmas.List.{get_or_past}
-use Rattle.std.proofs.lemmas.Option.{get_or_from_slice_get, slice_get_within}
-use Rattle.kahn_streams.proofs.By_number.{there}
-use Rattle.kahn_streams.proofs.Framed.{grows_play}
-use Rattle.kahn_streams.proofs.Proved.{values_append, script_at}
+use Rattle.kahn_needs.proofs.Common.{fun_ext, arith, ◌≡◌, ◌⊎◌, inl, inr, ℕ, zero, suc, ◌≤◌, ◌<◌, List, [], ◌∷◌, length, refl, sym, ap, ◌∙◌, subst, le_refl, Option, Some, None, false, slice_get, slice_index_or, length-take, cases_lt, get_or_past, get_or_from_slice_get, slice_get_within, there, grows_play, values_append, script_at, outputs, reads, reads_listed, is_output, Lists, inputs_of, IsServed, Network, Reads, Writes, Given, Written, Nobody, Source, actual_at, instance_at, network_of, role_at, Tapes, play, Histories, Inputs, fed, goes_to, IsPrefix, out, source, tape_of, tapes_of, values_at, Stands, empty, Program, Inner, Input, Output, Line, Channel, Value, IsFed, sent_stands, stand_in, AllStand, exec_on, sent_on, given_of, next_at, taken_of, CellView, count, AreNeeds, Cut, Suffices, first_values, held_in, IsMadeIn, cut_told, of_input, AreCounted, HaveSeats, Seats, events_in, events_seen, taken_in, AreForced, HasCome, HasValue, HoldsIn, HoldsAt, play_zero}
 use Rattle.kahn_streams.proofs.Sided.{channel_served}
-use Rattle.kahn_streams.proofs.Sourced.{outputs, reads, reads_listed}
-use Rattle.kahn_streams.specs.Answers.{is_output}
-use Rattle.kahn_streams.specs.Inputs.{Lists, inputs_of}
-use Rattle.kahn_streams.specs.Network.{IsServed, Network, Reads, Writes, Given, Written, Nobody, Source, actual_at, instance_at, network_of, role_at}
-use Rattle.kahn_streams.specs.Script.{Tapes, play}
-use Rattle.kahn_streams.specs.Solution.{Histories, Inputs, fed, goes_to, IsPrefix, out, source, tape_of, tapes_of, values_at, Stands}
-use Rattle.kahn_streams.specs.Steps.{empty}
-use Rattle.kahn_streams.specs.declared.tree.Program.{Program}
 use Rattle.kahn_streams.specs.declared.tree.Role.{Role}
-use Rattle.kahn_streams.specs.declared.tree.Role.TheVariants.{Inner, Input, Output}
-use Rattle.kahn_streams.specs.declared.value.Line.{Line}
-use Rattle.kahn_streams.specs.declared.value.Line.TheVariants.{Channel}
-use Rattle.kahn_streams.specs.declared.value.Value.{Value}
-use Rattle.kahn_streams.specs.inner.Sources.{IsFed}
-use Rattle.kahn_code.proofs.Lists.{sent_stands, stand_in}
 use Rattle.kahn_code.proofs.Readers.{joins_within}
-use Rattle.kahn_code.specs.Cells.{AllStand, exec_on, sent_on}
-use Rattle.kahn_code.specs.Lines.{Waiting, given_of, next_at, taken_of}
-use Rattle.kahn_code.specs.Progress.{CellView}
-use Rattle.kahn_code.specs.Standing.{count}
-use Rattle.kahn_needs.specs.Needs.{AreNeeds, Cut, Suffices, first_values, held_in}
-use Rattle.kahn_needs.specs.Laws.{IsMadeIn}
-use Rattle.kahn_needs.specs.Finding.{cut_told, of_input}
-use Rattle.kahn_needs.specs.inner.Bench.{AreCounted, HaveSeats, Seats, events_in, events_seen, taken_in}
-use Rattle.kahn_needs.specs.inner.Finding.{AreForced, HasCome, HasValue, HoldsIn, HoldsAt}
-use Rattle.kahn_streams.proofs.Runs.{play_zero}
-use Rattle.kahn_needs.proofs.Ways.{AreTapes, both_stand, reads_or}
-use Rattle.kahn_needs.proofs.Needing.{fed_stands, held_given, take_below, take_length}
-use Rattle.kahn_needs.proofs.Searching.{given_there, taken_there}
-use Rattle.kahn_needs.proofs.Told.{have_needs, runs}
+use Rattle.kahn_code.specs.Lines.{Waiting}
+use Rattle.kahn_needs.proofs.{Ways.AreTapes, Ways.both_stand, Ways.reads_or, Needing.fed_stands, Needing.held_given, Needing.take_below, Needing.take_length, Searching.given_there, Searching.taken_there, Told.have_needs, Told.runs}
 
 -- a number that was told, and none beyond the last
 pub counted_at : (f : ℕ → ℕ) (xs : List ℕ) (n : ℕ) → AreCounted f xs n → ((d : ℕ) → n ≤ d → f d ≡ 0) → (d : ℕ) → slice_index_or xs d 0 ≡ f d

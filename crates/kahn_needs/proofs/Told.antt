@@ -1,23 +1,7 @@
 -- The laws of needs, proved.
-use mathlib.Core.Path.{fun_ext}
-use Rattle.std.proofs.Common.{arith, ◌≡◌, ◌⊎◌, inl, inr, ℕ, zero, suc, ◌≤◌, ◌<◌, List, [], ◌∷◌, ◌++◌, length, take, refl, sym, ap, ◌∙◌, subst, le_refl, eq-or-lt_of_le, le_trans, Option, Some, None, slice_get, slice_index_or}
-use Rattle.std.proofs.lemmas.List.{get_or_past, take-append-le}
-use Rattle.std.proofs.lemmas.Option.{slice_get_within}
-use Rattle.kahn_streams.specs.declared.value.Value.{Value}
-use Rattle.kahn_streams.specs.declared.value.Line.{Line}
-use Rattle.kahn_streams.specs.declared.value.Line.TheVariants.{Channel}
-use Rattle.kahn_streams.specs.declared.answer.End.{End}
-use Rattle.kahn_streams.specs.declared.answer.Verdict.{Verdict}
-use Rattle.kahn_streams.specs.Network.{Network, idle, instance_at, Given, Written}
-use Rattle.kahn_streams.specs.Solution.{Histories, Inputs, out, source, iterate, IsPrefix, Stands, AreInputsExtended}
-use Rattle.kahn_streams.specs.Answers.{AreRight}
-use Rattle.kahn_streams.proofs.Proved.{prefix_refl, prefix_trans, prefix_get, feeds, out_grows, chain, one_value}
-use Rattle.kahn_streams.proofs.Finished.{inputs_grow}
-use Rattle.kahn_code.proofs.Lists.{stand_in}
-use Rattle.kahn_needs.specs.Needs.{Cut, first_values, held_in, Suffices, IsCutWithin, AreNeeds}
-use Rattle.kahn_needs.specs.Laws.{AreInOrder, AreParts, HaveNeeds, AreOneCut, AreEnough, AreExact, IsMadeIn, AreRunsNeeds, AreDone, AreSameNeeds, IsTight, AreTight}
-use Rattle.kahn_needs.proofs.Needing.{take_below, held_all, held_made, held_more, held_stands, held_within, Found, found}
-use Rattle.kahn_needs.proofs.Ways.{get_there}
+use Rattle.kahn_needs.proofs.Common.{fun_ext, arith, ◌≡◌, ◌⊎◌, inl, inr, ℕ, zero, suc, ◌≤◌, ◌<◌, List, [], ◌∷◌, ◌++◌, length, take, refl, sym, ap, ◌∙◌, subst, le_refl, eq-or-lt_of_le, le_trans, Option, Some, None, slice_get, slice_index_or, get_or_past, take-append-le, slice_get_within, Value, Line, Channel, Network, idle, instance_at, Given, Written, Histories, Inputs, out, source, iterate, IsPrefix, Stands, AreInputsExtended, AreRight, prefix_refl, prefix_trans, prefix_get, feeds, out_grows, chain, one_value, inputs_grow, stand_in, Cut, first_values, held_in, Suffices, IsCutWithin, AreNeeds, AreInOrder, AreParts, HaveNeeds, AreOneCut, AreEnough, AreExact, IsMadeIn, AreRunsNeeds, AreDone, AreSameNeeds, IsTight, AreTight}
+use Rattle.kahn_streams.specs.{declared.answer.End.End, declared.answer.Verdict.Verdict}
+use Rattle.kahn_needs.proofs.{Needing.take_below, Needing.held_all, Needing.held_made, Needing.held_more, Needing.held_stands, Needing.held_within, Needing.Found, Needing.found, Ways.get_there}
 
 pub parts : (N : Network) (I : Inputs) → AreParts N I
 parts N I = record { more = λ x y w n. held_within N I x y w n n (le_refl n); begin = λ x n c. stand_in N I c (held_in N I x n c) (held_all N I x n c) }

@@ -1,9 +1,7 @@
 -- Believed. The definitions at work: of the process that doubles each value of an input, which has the values 1, 2 and 3, the second value
 -- needs two values of the input and six events: two turns, and in each a value that is taken and one that is sent.
 use Rattle.std.specs.Prelude.{ℕ, ◌==◌, if◌then◌else◌, pos}
-use Rattle.kahn_streams.specs.declared.value.Value.TheVariants.{Integer}
-use Rattle.kahn_streams.specs.declared.value.Line.TheVariants.{Channel}
-use Rattle.kahn_streams.specs.Examples.{doubling_network, one_two_three}
+use Rattle.kahn_streams.specs.{declared.value.Value.TheVariants.Integer, declared.value.Line.TheVariants.Channel, Examples.doubling_network, Examples.one_two_three}
 use Rattle.kahn_needs.specs.Needs.{Cut, AreNeeds}
 
 -- these of input 0 and of instance 0, and nothing else

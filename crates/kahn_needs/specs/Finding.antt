@@ -1,14 +1,7 @@
 -- Believed. What is told of the needs of a value.
 use Rattle.std.specs.Prelude.{◌≡◌, ℕ, ◌<◌, List, length, slice_index_or}
-use Rattle.kahn_streams.specs.Inputs.{Lists}
-use Rattle.kahn_streams.specs.Network.{Network, Source, Given, Written, Nobody}
-use Rattle.kahn_streams.specs.Solution.{Inputs, Stands, source}
-use Rattle.kahn_streams.specs.declared.tree.Program.{Program}
-use Rattle.kahn_streams.specs.declared.value.Line.{Line}
-use Rattle.kahn_streams.specs.declared.value.Line.TheVariants.{Channel, Print}
-use Rattle.kahn_streams.specs.declared.value.Value.{Value}
-use Rattle.kahn_needs.specs.Needs.{AreNeeds, Cut}
-use Rattle.kahn_needs.specs.declared.needs.Found.{Found}
+use Rattle.kahn_streams.specs.{Inputs.Lists, Network.Network, Network.Source, Network.Given, Network.Written, Network.Nobody, Solution.Inputs, Solution.Stands, Solution.source, declared.tree.Program.Program, declared.value.Line.Line, declared.value.Line.TheVariants.Channel, declared.value.Line.TheVariants.Print, declared.value.Value.Value}
+use Rattle.kahn_needs.specs.{Needs.AreNeeds, Needs.Cut, declared.needs.Found.Found}
 use Rattle.kahn_needs.specs.declared.needs.Found.TheVariants as found
 
 -- a channel of the network, or the print stream of one of its instances

@@ -1,13 +1,7 @@
 -- Believed. The laws of needs.
 use Rattle.std.specs.Prelude.{◌≡◌, ◌↔◌, ℕ, ◌+◌, ◌≤◌, ◌<◌, List, length, slice_get, Some}
-use Rattle.kahn_streams.specs.declared.value.Value.{Value}
-use Rattle.kahn_streams.specs.declared.value.Line.{Line}
-use Rattle.kahn_streams.specs.declared.value.Line.TheVariants.{Channel}
-use Rattle.kahn_streams.specs.declared.answer.End.{End}
-use Rattle.kahn_streams.specs.declared.answer.Verdict.{Verdict}
-use Rattle.kahn_streams.specs.Network.{Network, Reads, instance_at, actual_at, Given, Written}
+use Rattle.kahn_streams.specs.{declared.value.Value.Value, declared.value.Line.Line, declared.value.Line.TheVariants.Channel, declared.answer.End.End, declared.answer.Verdict.Verdict, Network.Network, Network.Reads, Network.instance_at, Network.actual_at, Network.Given, Network.Written, Answers.AreRight}
 use Rattle.kahn_streams.specs.Solution.{Histories, Inputs, source, out, exec_at, tapes_of, IsPrefix, iterate, Stands, AreInputsExtended}
-use Rattle.kahn_streams.specs.Answers.{AreRight}
 use Rattle.kahn_needs.specs.Needs.{Cut, first_values, held_in, Suffices, IsCutWithin, AreNeeds}
 
 -- a larger cut holds longer histories, and each of them begins the solution's

@@ -1,10 +1,7 @@
 -- Believed. What a value needs: the least cut of a network in which it stands. A cut says how many values of each input
 -- there are, and how many events each instance does.
 use Rattle.std.specs.Prelude.{◌≡◌, ℕ, zero, suc, ◌≤◌, [], take, slice_get, Some}
-use Rattle.kahn_streams.specs.declared.value.Value.{Value}
-use Rattle.kahn_streams.specs.declared.value.Line.{Line}
-use Rattle.kahn_streams.specs.Network.{Network}
-use Rattle.kahn_streams.specs.Solution.{Histories, Inputs, out, source, fed}
+use Rattle.kahn_streams.specs.{declared.value.Value.Value, declared.value.Line.Line, Network.Network, Solution.Histories, Solution.Inputs, Solution.out, Solution.source, Solution.fed}
 
 pub record Cut : Type 0 where
   -- of input channel c the first `values c` values are there

@@ -1,11 +1,8 @@
 //! What a value needs.
 
 ghost use Rattle.std.specs.Prelude.{◌≡◌, ◌≤◌, IfOk};
-ghost use Rattle.kahn_streams.specs.Inputs.{inputs_of};
-ghost use Rattle.kahn_streams.specs.Network.{Given, network_of};
-ghost use Rattle.kahn_streams.specs.Solution.{source};
-ghost use Rattle.kahn_needs.specs.Finding.{AreNeedsFound, IsNetworkLine, IsSeeking};
-ghost use Rattle.kahn_needs.specs.inner.Finding.{AreForced, HasCome, watch_of};
+ghost use Rattle.kahn_streams.specs.{Inputs.inputs_of, Network.Given, Network.network_of, Solution.source};
+ghost use Rattle.kahn_needs.specs.{Finding.AreNeedsFound, Finding.IsNetworkLine, Finding.IsSeeking, inner.Finding.AreForced, inner.Finding.HasCome, inner.Finding.watch_of};
 
 use crate::bench::{Bench, all_events, all_taken};
 use crate::needs::{Found, Needs};

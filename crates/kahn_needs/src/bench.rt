@@ -1,14 +1,9 @@
 //! The processes of a network over its plain queues, run by single events.
 
 ghost use Rattle.std.specs.Prelude.{◌≡◌, ◌<◌, ◌+◌, ◌^◌, ℕ, IfOk, IfSome, MatchOption, Some, length, slice_get};
-ghost use Rattle.kahn_streams.specs.Inputs.{Lists};
-ghost use Rattle.kahn_streams.specs.Network.{Given, Reads, Written, actual_at, instance_at, network_of};
+ghost use Rattle.kahn_streams.specs.{Inputs.Lists, Network.Given, Network.Reads, Network.Written, Network.actual_at, Network.instance_at, Network.network_of, Solution.source, declared.value.Line.TheVariants.Channel, declared.value.Line.TheVariants.Print, declared.token.Token.Token};
 ghost use Rattle.kahn_code.specs.Lines.{taken_of};
-ghost use Rattle.kahn_streams.specs.Solution.{source};
-ghost use Rattle.kahn_streams.specs.declared.value.Line.TheVariants.{Channel, Print};
-ghost use Rattle.kahn_streams.specs.declared.token.Token.{Token};
-ghost use Rattle.kahn_needs.specs.Finding.{IsNetworkLine};
-ghost use Rattle.kahn_needs.specs.inner.Finding.{HasCome, HasSentSoMany, HasValue, watch_of};
+ghost use Rattle.kahn_needs.specs.{Finding.IsNetworkLine, inner.Finding.HasCome, inner.Finding.HasSentSoMany, inner.Finding.HasValue, inner.Finding.watch_of};
 ghost use Rattle.kahn_needs.specs.inner.Bench.{AreCounted, AreUnmoved, HaveNotMoved, HasActed, HaveSeats, AreSeatsOf, events_in, events_seen, seats_of, taken_in};
 
 use kahn_code::{Cell, Code, CodeFault, Pause, Plain, Steps, compile};

@@ -1,7 +1,6 @@
 //! The laws of needs. Each function does nothing: its contract is the law.
 
-ghost use Rattle.kahn_streams.specs.Network.{Network};
-ghost use Rattle.kahn_streams.specs.Solution.{Inputs};
+ghost use Rattle.kahn_streams.specs.{Network.Network, Solution.Inputs};
 ghost use Rattle.kahn_needs.specs.Laws.{AreDone, AreEnough, AreExact, AreInOrder, AreOneCut, AreParts, AreRunsNeeds, AreSameNeeds, AreTight, GoBack, HaveNeeds};
 ghost use Rattle.kahn_needs.specs.Example.{SecondDoubled};
 

@@ -2,13 +2,9 @@
 //! that one acts. So nothing is done that isn't needed.
 
 ghost use Rattle.std.specs.Prelude.{◌≡◌, ◌<◌, true, IfSome, length};
-ghost use Rattle.kahn_streams.specs.Network.{Written, network_of};
-ghost use Rattle.kahn_streams.specs.Solution.{source};
-ghost use Rattle.kahn_needs.specs.Finding.{IsNetworkLine};
-ghost use Rattle.kahn_needs.specs.inner.Bench.{AreSeatsOf};
+ghost use Rattle.kahn_streams.specs.{Network.Written, Network.network_of, Solution.source};
+ghost use Rattle.kahn_needs.specs.{Finding.IsNetworkLine, inner.Bench.AreSeatsOf, declared.search.Turn.TheVariants.Waits, declared.search.Sought.TheVariants.Ring};
 ghost use Rattle.kahn_needs.specs.inner.Finding.{AreForced, HasCome, HasSearched, IsAwaited, IsWaitChain, IsDemand, IsPausedAt, IsEndOfSearch, IsTurnTold};
-ghost use Rattle.kahn_needs.specs.declared.search.Turn.TheVariants.{Waits};
-ghost use Rattle.kahn_needs.specs.declared.search.Sought.TheVariants.{Ring};
 
 use crate::bench::Bench;
 use kahn_code::{Pause, Steps};

@@ -1,11 +1,7 @@
 -- What may stand at a place, piece by piece.
-use Rattle.std.proofs.Common.{◌≡◌, ◌<◌, ◌+◌, ◌-◌, ◌∙◌, ℕ, List, [], ◌++◌, ap, append-nil, append_assoc, arith, drop, get_or, length, length-append, map, refl, sym}
-use Rattle.std.proofs.lemmas.List.{at_drop_more, length-drop, length-map}
+use Rattle.kahn_notes.proofs.Common.{◌≡◌, ◌<◌, ◌+◌, ◌-◌, ◌∙◌, ℕ, List, [], ◌++◌, ap, append-nil, append_assoc, arith, drop, get_or, length, length-append, map, refl, sym, at_drop_more, length-drop, length-map, listed, text_end_words, separator}
 use Rattle.std.specs.List.{concat}
-use Rattle.kahn_syntax.specs.declared.fault.What.{What}
-use Rattle.kahn_syntax.specs.declared.fault.What.TheVariants.{More, Nothing, Other}
-use Rattle.kahn_notes.specs.Notes.{listed, text_end_words}
-use Rattle.kahn_notes.specs.Words.{separator}
+use Rattle.kahn_syntax.specs.{declared.fault.What.What, declared.fault.What.TheVariants.More, declared.fault.What.TheVariants.Nothing, declared.fault.What.TheVariants.Other}
 
 -- one on, where others come behind these
 pub listed_on : {A : Type 0} (f : A → List ℕ) (xs : List A) (i : ℕ) (d : A) (rest : List (List ℕ)) (left : ℕ) (old new all piece sep : List ℕ) → i < length xs

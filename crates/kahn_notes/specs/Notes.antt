@@ -1,20 +1,11 @@
 -- Believed. What is said of a place where a text goes wrong: what stands there, what may stand there, and a change that mends it.
 use Rattle.std.specs.Prelude.{◌≡◌, ◌<◌, ◌-◌, ◌⊎◌, ℕ, List, [], ◌∷◌, ◌++◌, Option, Some, Contains, IfSome, codes, length, map, string_bytes}
 use Rattle.std.specs.List.{concat}
-use Rattle.kahn_streams.specs.declared.span.Span.{Span}
-use Rattle.kahn_streams.specs.declared.tree.Program.{Program}
-use Rattle.kahn_syntax.specs.declared.fault.What.{What}
-use Rattle.kahn_syntax.specs.declared.fault.What.TheVariants.{More, Nothing, Other}
-use Rattle.kahn_syntax.specs.declared.fault.SyntaxFault.TheVariants.{BadCharacter, Expected}
-use Rattle.kahn_syntax.specs.Texts.{IsProgram, IsTextFault}
-use Rattle.kahn_wanted.specs.declared.groups.LexemeGroup.{LexemeGroup}
+use Rattle.kahn_streams.specs.{declared.span.Span.Span, declared.tree.Program.Program}
+use Rattle.kahn_syntax.specs.{declared.fault.What.What, declared.fault.What.TheVariants.More, declared.fault.What.TheVariants.Nothing, declared.fault.What.TheVariants.Other, declared.fault.SyntaxFault.TheVariants.BadCharacter, declared.fault.SyntaxFault.TheVariants.Expected, Texts.IsProgram, Texts.IsTextFault}
+use Rattle.kahn_wanted.specs.{declared.groups.LexemeGroup.LexemeGroup, declared.groups.Wanted.Wanted, declared.found.Unexpected.Unexpected, Wanted.IsUnexpected}
 use Rattle.kahn_wanted.specs.declared.groups.LexemeGroup.TheVariants as group
-use Rattle.kahn_wanted.specs.declared.groups.Wanted.{Wanted}
-use Rattle.kahn_wanted.specs.declared.found.Unexpected.{Unexpected}
-use Rattle.kahn_wanted.specs.Wanted.{IsUnexpected}
-use Rattle.kahn_marks.specs.Notes.{IsApplied}
-use Rattle.kahn_marks.specs.declared.rendering.Fix.{Fix}
-use Rattle.kahn_marks.specs.declared.rendering.Note.{Note}
+use Rattle.kahn_marks.specs.{Notes.IsApplied, declared.rendering.Fix.Fix, declared.rendering.Note.Note}
 use Rattle.kahn_marks.specs.declared.rendering.Other as other
 use Rattle.kahn_notes.specs.Words.{any_words, separator}
 

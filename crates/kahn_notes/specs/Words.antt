@@ -1,9 +1,8 @@
 -- Believed. The words for lexemes.
 use Rattle.std.specs.Prelude.{◌==◌, ℕ, List, [], ◌∷◌, codes, if◌then◌else◌}
 use Rattle.std.specs.List.{concat}
-use Rattle.kahn_syntax.specs.declared.lexeme.Class.{Class}
+use Rattle.kahn_syntax.specs.{declared.lexeme.Class.Class, Texts.bytes_of_sign, Texts.letters_of}
 use Rattle.kahn_syntax.specs.declared.lexeme.Class.TheVariants as class
-use Rattle.kahn_syntax.specs.Texts.{bytes_of_sign, letters_of}
 
 -- any lexeme of a class, with quotes round its letters
 abbrev pub any_words : Class → List ℕ

@@ -2,8 +2,7 @@
 
 ghost use Rattle.std.specs.Prelude.{◌≡◌, ◌++◌, IfOk, length, string_bytes};
 ghost use Rattle.std.specs.List.{concat};
-ghost use Rattle.kahn_notes.specs.Notes.{listed, pieces_of, text_end_words};
-ghost use Rattle.kahn_notes.specs.Words.{separator};
+ghost use Rattle.kahn_notes.specs.{Notes.listed, Notes.pieces_of, Notes.text_end_words, Words.separator};
 
 use crate::words::{class_parts, group_words};
 use kahn_marks::add;

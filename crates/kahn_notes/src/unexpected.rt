@@ -2,8 +2,7 @@
 
 ghost use Rattle.std.specs.Prelude.{◌≡◌, ◌++◌, IfOk, IfSome, string_bytes};
 ghost use Rattle.kahn_streams.specs.declared.span.Span.{Span};
-ghost use Rattle.kahn_syntax.specs.declared.fault.SyntaxFault.TheVariants.{Expected};
-ghost use Rattle.kahn_syntax.specs.Texts.{IsTextFault};
+ghost use Rattle.kahn_syntax.specs.{declared.fault.SyntaxFault.TheVariants.Expected, Texts.IsTextFault};
 ghost use Rattle.kahn_notes.specs.Notes.{IsExpected, IsNoteAt, IsThereOrFixed, IsToldAt, Mends};
 
 use crate::choice::offers_of;

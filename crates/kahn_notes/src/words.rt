@@ -2,8 +2,7 @@
 
 ghost use Rattle.std.specs.Prelude.{◌≡◌, ◌++◌};
 ghost use Rattle.kahn_syntax.specs.Texts.{bytes_of_sign};
-ghost use Rattle.kahn_notes.specs.Notes.{wanted_words};
-ghost use Rattle.kahn_notes.specs.Words.{any_words};
+ghost use Rattle.kahn_notes.specs.{Notes.wanted_words, Words.any_words};
 
 use kahn_syntax::{Class, Sign};
 use kahn_wanted::LexemeGroup;

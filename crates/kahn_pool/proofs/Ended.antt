@@ -1,8 +1,5 @@
 -- The ends of tasks.
-use Rattle.std.proofs.Common.{arith, ◌≡◌, ◌⊎◌, inl, inr, ℕ, suc, ◌<◌, List, [], ◌∷◌, ◌++◌, length, refl, sym, ap, ◌∙◌, subst, Some, None, slice_get, length-append}
-use Rattle.kahn_pool.proofs.Common.{Program, Side, Reads, Writes, network_of, instance_at, actual_at, IsWriter, IsOnly, IsFed, IsWellWired, side_at, handed_within, reads, writes, Lists, inputs_of, Joins, at_last, joins_parameter, count, Tasked, handed_to_task, AreAll, AreEndsOfTasks, AreTold, IsEndOf, IsToldAs, same_Some}
-use Rattle.kahn_streams.specs.declared.answer.End.{End}
-use Rattle.kahn_sequential.proofs.Benched.{got}
+use Rattle.kahn_pool.proofs.Common.{arith, ◌≡◌, ◌⊎◌, inl, inr, ℕ, suc, ◌<◌, List, [], ◌∷◌, ◌++◌, length, refl, sym, ap, ◌∙◌, subst, Some, None, slice_get, length-append, Program, Side, Reads, Writes, network_of, instance_at, actual_at, IsWriter, IsOnly, IsFed, IsWellWired, side_at, handed_within, reads, writes, Lists, inputs_of, Joins, at_last, joins_parameter, count, Tasked, handed_to_task, AreAll, AreEndsOfTasks, AreTold, IsEndOf, IsToldAs, same_Some, End, got}
 use Rattle.kahn_job.specs.declared.standing.TaskStanding.TheVariants as standing
 use Rattle.kahn_streams.specs.declared.answer.Outcome.TheVariants as outcome
 

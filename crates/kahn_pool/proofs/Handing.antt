@@ -1,12 +1,7 @@
 -- Jobs that go on from where the cells of a bench stand.
-use Rattle.std.proofs.Common.{arith, false, zero, suc, refl, [], ◌∷◌, ◌⊎◌, inl, inr, ◌<◌, ◌≤◌, ◌^◌, ◌≡◌, ℕ, ◌+◌, List, length, map, sym, ap, ◌∙◌, subst, Some, slice_get, slice_index_or, replicate, sum_by}
-use Rattle.kahn_pool.proofs.Common.{AreCounts, AreWhole, Lists, cell_for, seated_with, vacant_of, HaveFewTokens, AreQueued, MayRun, Round, RunState, View, cases_lt, events_at, given_of, length-map, prefix_refl, none_of, network_of, instance_at, actual_at, role_at, Actual, Reads, Writes, is_output, AreInputsExtended, inputs_of, CellView, Gone, nothing_gone, Tapped, IsIdle, AreJobsAt, AreSamePlaces, StandsByQueue, cells_of, rows_of, row_there, settled_rest, end_at, end_in, Work, AllStandBy, AreHeld, HaveSettled, view_events, told_view, IsLaid, Table, all_events, gone_in, sight_of}
-use Rattle.kahn_sequential.proofs.Benched.{get_map, mapped, actual_same, seated_at, sent_there, taken_there, viewed}
-use Rattle.kahn_sequential.proofs.Righted.{events_seen}
+use Rattle.kahn_pool.proofs.Common.{arith, false, zero, suc, refl, [], ◌∷◌, ◌⊎◌, inl, inr, ◌<◌, ◌≤◌, ◌^◌, ◌≡◌, ℕ, ◌+◌, List, length, map, sym, ap, ◌∙◌, subst, Some, slice_get, slice_index_or, replicate, sum_by, AreCounts, AreWhole, Lists, cell_for, seated_with, vacant_of, HaveFewTokens, AreQueued, MayRun, Round, RunState, View, cases_lt, events_at, given_of, length-map, prefix_refl, none_of, network_of, instance_at, actual_at, role_at, Actual, Reads, Writes, is_output, AreInputsExtended, inputs_of, CellView, Gone, nothing_gone, Tapped, IsIdle, AreJobsAt, AreSamePlaces, StandsByQueue, cells_of, rows_of, row_there, settled_rest, end_at, end_in, Work, AllStandBy, AreHeld, HaveSettled, view_events, told_view, IsLaid, Table, all_events, gone_in, sight_of, get_map, mapped, actual_same, seated_at, sent_there, taken_there, viewed, events_seen, IsServed, slice_get_past}
 use Rattle.kahn_sequential.proofs.Turns.{turn_bound}
 use Rattle.kahn_streams.proofs.Sided.{channel_served}
-use Rattle.kahn_streams.specs.Network.{IsServed}
-use Rattle.std.proofs.lemmas.Option.{slice_get_past}
 
 -- a tap let go of nothing
 pub none_gone : (taps : List Tapped) (n : ℕ) → map gone_in taps ≡ replicate n nothing_gone → (p : ℕ) (x : Tapped) → slice_get taps p ≡ Some x → x.gone ≡ nothing_gone

@@ -1,9 +1,5 @@
 -- The jobs of a held run: how they become tasks, and how tasks come to rest.
-use Rattle.std.proofs.Common.{false, true, IsOk, arith, ◌≡◌, ℕ, ◌+◌, List, length, map, sum_by, sym, ap, ◌∙◌, subst, Some, slice_get, Bool, Option, Result, Err}
-use Rattle.kahn_pool.proofs.Common.{length-map, Program, network_of, AreInputsExtended, Lists, inputs_of, StoodBy, CellView, told_view, AreIdle, AreJoinedJobs, HaveMet, cells_of, rows_of, AreJoinedOn, IsJob, Work, all_idle, idle_grown, idle_met, events_told, woken_task, Tasked, AreUntouched, HaveGone, task_events, told_tale, work_of, all_told, at_mapped, mapped_at, IsConcluded, seen_of, AreEnded, AreHeld, AreHeldBy, HasEnded, HasRisen, HasStoppedPart, HaveRisen, cell_alone, cell_for, held_state, cell_of, RunState, Verdict, RunPart, Stopped, IsLack, CrewFault, NoMemory, IsWellWired, HaveChanged, SettlesTo, view_events, seen_events, same_Some, prefix_refl, AllStandBy}
-use Rattle.kahn_streams.specs.declared.answer.End.{End as RunEnd}
-use Rattle.kahn_sequential.proofs.Righted.{events_seen}
-use Rattle.kahn_sequential.proofs.Lists.{map_map, sum_over, map_changed}
+use Rattle.kahn_pool.proofs.Common.{false, true, IsOk, arith, ◌≡◌, ℕ, ◌+◌, List, length, map, sum_by, sym, ap, ◌∙◌, subst, Some, slice_get, Bool, Option, Result, Err, length-map, Program, network_of, AreInputsExtended, Lists, inputs_of, StoodBy, CellView, told_view, AreIdle, AreJoinedJobs, HaveMet, cells_of, rows_of, AreJoinedOn, IsJob, Work, all_idle, idle_grown, idle_met, events_told, woken_task, Tasked, AreUntouched, HaveGone, task_events, told_tale, work_of, all_told, at_mapped, mapped_at, IsConcluded, seen_of, AreEnded, AreHeld, AreHeldBy, HasEnded, HasRisen, HasStoppedPart, HaveRisen, cell_alone, cell_for, held_state, cell_of, RunState, Verdict, RunPart, Stopped, IsLack, CrewFault, NoMemory, IsWellWired, HaveChanged, SettlesTo, view_events, seen_events, same_Some, prefix_refl, AllStandBy, End as RunEnd, events_seen, map_map, sum_over, map_changed}
 use Rattle.kahn_pool.proofs.Over as over
 use Rattle.kahn_pool.proofs.Rests as rests
 use Rattle.kahn_pool.proofs.Rests.{state_of_tasks}

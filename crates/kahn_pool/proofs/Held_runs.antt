@@ -1,11 +1,7 @@
 -- A held run goes on: its streams grow, and no instance has fewer events.
-use Rattle.std.proofs.Common.{◌≡◌, ℕ, ◌+◌, ◌<◌, ◌^◌, List, length, map, refl, sym, ap, ◌∙◌, subst, Bool, Option, Some, None, Ok, Err, arith, ◌≤◌, ◌-◌, [], slice_index_or}
-use Rattle.kahn_pool.proofs.Common.{length-map, Program, Line, IsRight, stream_lines, Source, Given, Written, Nobody, network_of, IsWellWired, Token, Channel, Print, AreInputsExtended, source, Lists, inputs_of, prefix_refl, token_value, cells_of, NoMemory, NoThread, Plan, Stopped, Work, AreStreams, IsConcluded, IsFrom, GoesOn, HasResumed, HeldRun, IsAnswerOf, IsResumed, Seen, given_so_far, seen_at, seen_of, HasStopped, AreAllGiven, AreGiven, IsHolding, held_state, run_of, told_view, Answer, Verdict}
-use Rattle.kahn_streams.specs.declared.answer.End.{End}
+use Rattle.kahn_pool.proofs.Common.{◌≡◌, ℕ, ◌+◌, ◌<◌, ◌^◌, List, length, map, refl, sym, ap, ◌∙◌, subst, Bool, Option, Some, None, Ok, Err, arith, ◌≤◌, ◌-◌, [], slice_index_or, length-map, Program, Line, IsRight, stream_lines, Source, Given, Written, Nobody, network_of, IsWellWired, Token, Channel, Print, AreInputsExtended, source, Lists, inputs_of, prefix_refl, token_value, cells_of, NoMemory, NoThread, Plan, Stopped, Work, AreStreams, IsConcluded, IsFrom, GoesOn, HasResumed, HeldRun, IsAnswerOf, IsResumed, Seen, given_so_far, seen_at, seen_of, HasStopped, AreAllGiven, AreGiven, IsHolding, held_state, run_of, told_view, Answer, Verdict, End, written_once, seen_there, settled_by}
 use Rattle.kahn_pool.proofs.Held_jobs.{ended_alike, held_again, held_grown, same_seen}
 use Rattle.kahn_sequential.proofs.Going_on.{goes_on, grows_not, seen_grows}
-use Rattle.kahn_sequential.proofs.Once_written.{written_once}
-use Rattle.kahn_sequential.proofs.Righted.{seen_there, settled_by}
 
 module _ (t : Program) (lists : Lists) (plan : Plan) (ws : List Work) (verdict : Option Verdict) where
   abbrev held : HeldRun

@@ -1,10 +1,6 @@
 -- The streams of a held run so far: what is lent of them, and that they are those of a right answer.
-use Rattle.std.proofs.Common.{◌≡◌, ℕ, ◌<◌, length, slice_get, Some, true, List, [], map, sym, ap, ◌∙◌, subst, Option, slice_index_or, refl, arith}
-use Rattle.kahn_pool.proofs.Common.{Program, Line, Network, Given, Written, Writes, channel_source, network_of, instance_at, actual_at, Token, Channel, Print, Inputs, source, AreInputsExtended, prefix_trans, Lists, inputs_of, is_streamed, token_value, AreIdle, cells_of, Work, width_of, Plan, AreAllGiven, AreGiven, run_of, IsWellWired, HeldRun, IsLineOf, given_so_far, so_far, Seen, Verdict, seen_at, seen_of, unseen, at_mapped, slice_get_read, Source}
-use Rattle.kahn_sequential.proofs.Giving.{input_role}
-use Rattle.kahn_sequential.proofs.Once_written.{input_watched, written_once}
+use Rattle.kahn_pool.proofs.Common.{◌≡◌, ℕ, ◌<◌, length, slice_get, Some, true, List, [], map, sym, ap, ◌∙◌, subst, Option, slice_index_or, refl, arith, Program, Line, Network, Given, Written, Writes, channel_source, network_of, instance_at, actual_at, Token, Channel, Print, Inputs, source, AreInputsExtended, prefix_trans, Lists, inputs_of, is_streamed, token_value, AreIdle, cells_of, Work, width_of, Plan, AreAllGiven, AreGiven, run_of, IsWellWired, HeldRun, IsLineOf, given_so_far, so_far, Seen, Verdict, seen_at, seen_of, unseen, at_mapped, slice_get_read, Source, input_role, input_watched, written_once, mapped}
 use Rattle.kahn_sequential.proofs.Named.{HasLine, has_line}
-use Rattle.kahn_sequential.proofs.Benched.{mapped}
 
 -- ---- the list of a watched input channel
 

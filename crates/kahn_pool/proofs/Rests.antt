@@ -1,12 +1,7 @@
 -- What settled tasks whose ends have met say of the cells.
-use Rattle.std.proofs.Common.{arith, ◌≡◌, inl, inr, ℕ, zero, suc, ◌+◌, ◌<◌, ◌≤◌, List, [], length, map, refl, sym, ap, ◌∙◌, subst, Option, Some, slice_get, length-append}
-use Rattle.kahn_pool.proofs.Common.{same_Some, Program, Role, Value, Inner, Input, Network, Reads, Writes, Given, network_of, instance_at, actual_at, role_at, IsWellWired, reads, writes, Channel, Store, Inputs, fed, iterate, out, source, Lists, inputs_of, dry_reads, AllStand, View, exec_on, is_output, count, told_view, joins_within, driven, IsBehind, IsReady, AreBehindOn, end_in, row_there, Serves, end_at, Tasked, handed_to_task, task_rows, work_of, at_mapped, AreAll, AreTold, IsDryOf, IsEndOf, IsSaid, IsSettledTask, IsToldAs, cell_of, HasEndIn, RunState, TookNoMore, IsGiven, IsOutcomeOf, no_view, view_at, stand_in, StoodBy}
-use Rattle.kahn_streams.specs.inner.Sources.{IsFed as IsFedBy}
-use Rattle.kahn_streams.specs.declared.answer.End.{End}
+use Rattle.kahn_pool.proofs.Common.{arith, ◌≡◌, inl, inr, ℕ, zero, suc, ◌+◌, ◌<◌, ◌≤◌, List, [], length, map, refl, sym, ap, ◌∙◌, subst, Option, Some, slice_get, length-append, same_Some, Program, Role, Value, Inner, Input, Network, Reads, Writes, Given, network_of, instance_at, actual_at, role_at, IsWellWired, reads, writes, Channel, Store, Inputs, fed, iterate, out, source, Lists, inputs_of, dry_reads, AllStand, View, exec_on, is_output, count, told_view, joins_within, driven, IsBehind, IsReady, AreBehindOn, end_in, row_there, Serves, end_at, Tasked, handed_to_task, task_rows, work_of, at_mapped, AreAll, AreTold, IsDryOf, IsEndOf, IsSaid, IsSettledTask, IsToldAs, cell_of, HasEndIn, RunState, TookNoMore, IsGiven, IsOutcomeOf, no_view, view_at, stand_in, StoodBy, IsFed as IsFedBy, End, get_map, got, mapped, same_writer}
 use Rattle.kahn_streams.specs.declared.answer.Outcome.{Outcome}
-use Rattle.kahn_sequential.proofs.Benched.{get_map, got, mapped}
 use Rattle.kahn_pool.proofs.Ended.{handed_to, one_number}
-use Rattle.kahn_sequential.proofs.Lists.{same_writer}
 use Rattle.kahn_streams.specs.Script as script
 use Rattle.kahn_code.specs.Progress as code
 use Rattle.kahn_job.specs.declared.standing.TaskStanding.TheVariants as standing

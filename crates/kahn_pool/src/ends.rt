@@ -1,8 +1,7 @@
 //! The ends of all instances, from where their tasks stand.
 
 ghost use Rattle.std.specs.Prelude.{◌≡◌, ◌<◌, ◌≤◌, length, Some, slice_get, vec_capacity};
-ghost use Rattle.kahn_pool.specs.inner.Below.{AreAll, Tasked, network_of};
-ghost use Rattle.kahn_pool.specs.inner.Rested.{AreEndsOfTasks, AreTold, IsDryOf, IsDryTold, IsEndOf};
+ghost use Rattle.kahn_pool.specs.{inner.Below.AreAll, inner.Below.Tasked, inner.Below.network_of, inner.Rested.AreEndsOfTasks, inner.Rested.AreTold, inner.Rested.IsDryOf, inner.Rested.IsDryTold, inner.Rested.IsEndOf};
 
 use crate::plan::RunPart;
 use kahn_job::{Task, TaskStanding};

@@ -1,9 +1,7 @@
 //! A run on one thread is handed over to several workers, or taken back from them.
 
-ghost use Rattle.kahn_pool.specs.inner.Below.{AreJobsAt, HaveSettled, cells_of, rows_of, network_of};
-ghost use Rattle.kahn_sequential.specs.inner.Bench.{all_events, events_at};
-ghost use Rattle.kahn_pool.specs.inner.Holding.{AreHeld};
-ghost use Rattle.kahn_sequential.specs.inner.Workbench.{AreWhole, IsLaid, seated_with, sight_of, vacant_of};
+ghost use Rattle.kahn_pool.specs.{inner.Below.AreJobsAt, inner.Below.HaveSettled, inner.Below.cells_of, inner.Below.rows_of, inner.Below.network_of, inner.Holding.AreHeld};
+ghost use Rattle.kahn_sequential.specs.{inner.Bench.all_events, inner.Bench.events_at, inner.Workbench.AreWhole, inner.Workbench.IsLaid, inner.Workbench.seated_with, inner.Workbench.sight_of, inner.Workbench.vacant_of};
 ghost use Rattle.std.specs.Prelude.{◌≡◌, ◌<◌, ◌≤◌, ◌+◌, ◌^◌, ℕ, [], length, vec_capacity, IfOk};
 
 use kahn_code::Tap;

@@ -1,9 +1,7 @@
 //! A part of a held run: idle jobs go on, and come to rest again.
 
 ghost use Rattle.std.specs.Prelude.{◌≡◌, ◌↔◌, ◌≤◌, ◌<◌, [], Err, Ok, length, map, true, vec_capacity, IfOk, IsOk};
-ghost use Rattle.kahn_pool.specs.inner.Below.{NoMemory as Refused, HaveSettled, IsAsConfigured, IsOver, cells_of, network_of, rows_of};
-ghost use Rattle.kahn_pool.specs.inner.Holding.{AreHeldBy, HasEnded, HasStoppedPart, HaveAllLeft, IsHeldPart, IsRoomFor, cell_for};
-ghost use Rattle.kahn_pool.specs.inner.Rested.{cell_of};
+ghost use Rattle.kahn_pool.specs.{inner.Below.NoMemory as Refused, inner.Below.HaveSettled, inner.Below.IsAsConfigured, inner.Below.IsOver, inner.Below.cells_of, inner.Below.network_of, inner.Below.rows_of, inner.Holding.AreHeldBy, inner.Holding.HasEnded, inner.Holding.HasStoppedPart, inner.Holding.HaveAllLeft, inner.Holding.IsHeldPart, inner.Holding.IsRoomFor, inner.Holding.cell_for, inner.Rested.cell_of};
 ghost use Rattle.kahn_streams.specs.declared.answer.Verdict.TheVariants as verdict;
 
 use crate::ends::ends_of;

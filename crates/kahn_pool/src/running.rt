@@ -1,10 +1,7 @@
 //! Runs of a network.
 
-ghost use Rattle.kahn_pool.specs.inner.Below.{IsCrew, IsCutShort, IsRight, IsRightRun, IsUnrun, Settles, inputs_of, network_of};
-ghost use Rattle.kahn_sequential.specs.HeldRuns.{IsWant};
-ghost use Rattle.kahn_sequential.specs.inner.Workbench.{MayRun, sight_of};
-ghost use Rattle.kahn_pool.specs.inner.Holding.{IsHandRoomFor};
-ghost use Rattle.kahn_sequential.specs.declared.rounds.Round.{Round as RoundOf};
+ghost use Rattle.kahn_pool.specs.{inner.Below.IsCrew, inner.Below.IsCutShort, inner.Below.IsRight, inner.Below.IsRightRun, inner.Below.IsUnrun, inner.Below.Settles, inner.Below.inputs_of, inner.Below.network_of, inner.Holding.IsHandRoomFor};
+ghost use Rattle.kahn_sequential.specs.{HeldRuns.IsWant, inner.Workbench.MayRun, inner.Workbench.sight_of, declared.rounds.Round.Round as RoundOf};
 ghost use Rattle.std.specs.Prelude.{◌≡◌, ◌<◌, ◌^◌, length, IfOk, MatchResult};
 
 use crate::handover::lanes;

@@ -1,9 +1,8 @@
 //! Each task that may go on is asked again what comes next.
 
 ghost use Rattle.std.specs.Prelude.{◌≡◌, ◌<◌, ℕ, Some, slice_get};
-ghost use Rattle.kahn_pool.specs.inner.Below.{IsWithinInput, Tasked, end_at};
+ghost use Rattle.kahn_pool.specs.{inner.Below.IsWithinInput, inner.Below.Tasked, inner.Below.end_at, inner.Rested.IsLentTo, inner.Rested.IsSettledTask, inner.Rested.SettlesTo};
 ghost use Rattle.kahn_sequential.specs.inner.Streams.{HaveChanged};
-ghost use Rattle.kahn_pool.specs.inner.Rested.{IsLentTo, IsSettledTask, SettlesTo};
 ghost use Rattle.kahn_job.specs.declared.standing.TaskStanding.TheVariants as standing;
 
 use crate::plan::RunPart;

@@ -1,10 +1,8 @@
 //! A run by several workers: a held run in one part.
 
 ghost use Rattle.std.specs.Prelude.{◌≡◌, ◌<◌, ◌≤◌, ◌^◌, [], length, vec_capacity, MatchResult};
-ghost use Rattle.kahn_pool.specs.inner.Below.{IsAsConfigured, IsCrew, IsRight, cells_of, inputs_of, network_of};
-ghost use Rattle.kahn_sequential.specs.HeldRuns.{IsWant};
-ghost use Rattle.kahn_pool.specs.inner.Holding.{AreHeldBy, IsWholeAnswer, HasEnded, IsHandRoomFor, IsHeldPart, IsRoomFor};
-ghost use Rattle.kahn_sequential.specs.inner.Workbench.{AreKeptOf, AreStreamsReady, IsBenchOf, IsWide};
+ghost use Rattle.kahn_pool.specs.{inner.Below.IsAsConfigured, inner.Below.IsCrew, inner.Below.IsRight, inner.Below.cells_of, inner.Below.inputs_of, inner.Below.network_of, inner.Holding.AreHeldBy, inner.Holding.IsWholeAnswer, inner.Holding.HasEnded, inner.Holding.IsHandRoomFor, inner.Holding.IsHeldPart, inner.Holding.IsRoomFor};
+ghost use Rattle.kahn_sequential.specs.{HeldRuns.IsWant, inner.Workbench.AreKeptOf, inner.Workbench.AreStreamsReady, inner.Workbench.IsBenchOf, inner.Workbench.IsWide};
 
 use crate::handover::{hand_over, taken_back};
 use crate::part::{PartRoom, Stopped, first_idles, run_part, run_settled};

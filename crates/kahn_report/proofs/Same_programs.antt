@@ -1,27 +1,13 @@
 -- One text spells one network: the network and the names are those of the tree without its spans.
-use Rattle.std.proofs.Common.{◌≡◌, ℕ, pos, Bool, true, false, List, [], ◌∷◌, ◌++◌, map, Some, Option, refl, sym, ap, ◌∙◌, bytes_eq, if◌then◌else◌}
+use Rattle.kahn_report.proofs.Common.{◌≡◌, ℕ, pos, Bool, true, false, List, [], ◌∷◌, ◌++◌, map, Some, Option, refl, sym, ap, ◌∙◌, bytes_eq, if◌then◌else◌, Program, Scope, place_of, expr_of, level_of, stmt_of, row_of, body_of, bytes_of, names_of, Actual, Reads, Writes, Hands, Network, idle, channels_of, process_of, actual_of, actuals_of, instance_from, network_of, ExpressionTree, number, truth, variable, wait, negation, denial, bracket, level, conditional, OperandTrees, no_operand, operand, StatementTree, empty, assign, send, print, block, if_then, if_else, while_do, repeat, StatementTrees, no_statement, statement, DeclarationTree, ArgumentTree, InstanceTree, ProgramTree, name_of, form_tree, operands_row, action_tree, statements_row, statement_trees, parameter_of, variable_of, declaration_tree, argument_tree, instance_tree, program_tree}
 use Rattle.kahn_streams.specs.declared.tree.Form.{Form, Number, Logical, Variable, Wait, Negate', Not', Bracket', Level', Conditional', Row_of-Operand, end_of-Operand, more_of-Operand}
 use Rattle.kahn_streams.specs.declared.tree.Action.{Action, Empty, Assign, Send, Print, Block', If', While', Repeat', Row_of-Statement, end_of-Statement, more_of-Statement, None', Some'}
-use Rattle.kahn_streams.specs.declared.tree.Statement.{Statement}
-use Rattle.kahn_streams.specs.declared.tree.Kind.{Kind}
-use Rattle.kahn_streams.specs.declared.tree.Role.{Role}
-use Rattle.kahn_streams.specs.declared.tree.Taking.{Taking}
-use Rattle.kahn_streams.specs.declared.tree.Parameter.{Parameter}
-use Rattle.kahn_streams.specs.declared.tree.Process.{Process}
-use Rattle.kahn_streams.specs.declared.tree.Declaration.{Declaration}
-use Rattle.kahn_streams.specs.declared.tree.Argument.{Argument}
-use Rattle.kahn_streams.specs.declared.tree.Instance.{Instance as OneInstance}
-use Rattle.kahn_streams.specs.declared.tree.Program.{Program}
-use Rattle.kahn_streams.specs.declared.tree.Direction.TheVariants.{In, Out}
+use Rattle.kahn_streams.specs.{declared.tree.Statement.Statement, declared.tree.Kind.Kind, declared.tree.Role.Role, declared.tree.Taking.Taking, declared.tree.Parameter.Parameter, declared.tree.Process.Process, declared.tree.Declaration.Declaration, declared.tree.Argument.Argument, declared.tree.Instance.Instance as OneInstance, declared.tree.Direction.TheVariants.In, declared.tree.Direction.TheVariants.Out, Network.Instance}
 use Rattle.kahn_streams.specs.declared.tree.Taking.TheVariants as taking
 use Rattle.kahn_streams.specs.declared.tree.Declaration.TheVariants as declared
 use Rattle.kahn_streams.specs.declared.tree.Argument.TheVariants as argued
 use Rattle.kahn_streams.specs.Syntax as S
-use Rattle.kahn_streams.specs.View.{Scope, place_of, expr_of, level_of, stmt_of, row_of, body_of, bytes_of, names_of}
-use Rattle.kahn_streams.specs.Network.{Actual, Reads, Writes, Hands, Instance, Network, idle, channels_of, process_of, actual_of, actuals_of, instance_from, network_of}
-use Rattle.kahn_syntax.specs.Grammar.{ExpressionTree, number, truth, variable, wait, negation, denial, bracket, level, conditional, OperandTrees, no_operand, operand, StatementTree, empty, assign, send, print, block, if_then, if_else, while_do, repeat, StatementTrees, no_statement, statement, DeclarationTree, ArgumentTree, InstanceTree, ProgramTree}
 use Rattle.kahn_syntax.specs.Grammar as whole
-use Rattle.kahn_syntax.specs.Texts.{name_of, form_tree, operands_row, action_tree, statements_row, statement_trees, parameter_of, variable_of, declaration_tree, argument_tree, instance_tree, program_tree}
 
 -- ---- expressions and statements of a tree
 

@@ -1,41 +1,12 @@
 -- Two finished reports of the same texts are the same bytes.
-use Rattle.std.proofs.Common.{◌≡◌, ℕ, ◌+◌, List, [], ◌∷◌, ◌++◌, length, map, Option, Some, None, flat_map, refl, sym, ap, ◌∙◌, subst, codes, decimal, string_bytes, slice_index_or}
-use Rattle.std.proofs.lemmas.Bool.{eqb-true}
-use Rattle.std.proofs.lemmas.List.Folds.{flat_map-map}
-use Rattle.std.specs.Io.KnownBytes.{Appends}
-use Rattle.std.specs.List.{concat}
-use Rattle.std.specs.declared.string.String.{String}
-use Rattle.std.specs.declared.alloc.Global.{Global}
-use Rattle.kahn_streams.specs.declared.tree.Program.{Program}
-use Rattle.kahn_streams.specs.declared.value.Value.{Value}
-use Rattle.kahn_streams.specs.declared.value.Line.{Line}
-use Rattle.kahn_streams.specs.declared.config.Config.{Config}
-use Rattle.kahn_streams.specs.View.{Scope, place_of}
-use Rattle.kahn_streams.specs.Network.{Network, network_of, channel_names}
-use Rattle.kahn_streams.specs.Wiring.{IsWellWired}
-use Rattle.kahn_streams.proofs.Handed.{bytes_self}
-use Rattle.kahn_streams.proofs.By_number.{distinct_channels, number_test}
+use Rattle.kahn_report.proofs.Common.{◌≡◌, ℕ, ◌+◌, List, [], ◌∷◌, ◌++◌, length, map, Option, Some, None, flat_map, refl, sym, ap, ◌∙◌, subst, codes, decimal, string_bytes, slice_index_or, Program, Scope, place_of, Network, network_of, channel_names, program_tree, terminals, IsProgram, Spells, one_tree, same_lexemes, program_spelled, text_lines, line_head, stream_text, outcome_word, waited_name, end_words, end_text, ends_text, verdict_text, last_text, report_text}
+use Rattle.std.proofs.{lemmas.Bool.eqb-true, lemmas.List.Folds.flat_map-map}
+use Rattle.std.specs.{Io.KnownBytes.Appends, List.concat, declared.string.String.String, declared.alloc.Global.Global}
+use Rattle.kahn_streams.specs.{declared.value.Value.Value, declared.value.Line.Line, declared.config.Config.Config, Wiring.IsWellWired, Solution.Inputs, Inputs.inputs_of, declared.value.Line.TheVariants.Channel, declared.value.Line.TheVariants.Print, Tokens.token_value, declared.answer.Answer.Answer, declared.answer.End.End, declared.answer.Outcome.Outcome, declared.answer.Outcome.TheVariants.Ended, declared.answer.Outcome.TheVariants.Waits, declared.answer.Outcome.TheVariants.Faulted, declared.answer.Outcome.TheVariants.More, declared.answer.Stream.Stream, declared.answer.Verdict.TheVariants.Finished, Answers.AreOne, Answers.IsRight, Answers.stream_line, Answers.values_of, Answers.IsWatched, Written.line_feed, Written.spaced_text}
+use Rattle.kahn_streams.proofs.{Handed.bytes_self, By_number.distinct_channels, By_number.number_test}
 use Rattle.kahn_syntax.specs.declared.lexeme.Lexeme.{Lexeme}
-use Rattle.kahn_syntax.specs.Texts.{program_tree, terminals, IsProgram}
-use Rattle.kahn_syntax.specs.Grammar.{Spells}
-use Rattle.kahn_syntax.proofs.OneTree.{one_tree}
-use Rattle.kahn_syntax.proofs.OneList.{same_lexemes}
-use Rattle.kahn_syntax.proofs.Spelled.{program_spelled}
-use Rattle.kahn_streams.specs.Solution.{Inputs}
-use Rattle.kahn_streams.specs.Inputs.{inputs_of}
-use Rattle.kahn_streams.specs.declared.value.Line.TheVariants.{Channel, Print}
-use Rattle.kahn_streams.specs.Tokens.{token_value}
-use Rattle.kahn_streams.specs.declared.answer.Answer.{Answer}
-use Rattle.kahn_streams.specs.declared.answer.End.{End}
-use Rattle.kahn_streams.specs.declared.answer.Outcome.{Outcome}
-use Rattle.kahn_streams.specs.declared.answer.Outcome.TheVariants.{Ended, Waits, Faulted, More}
-use Rattle.kahn_streams.specs.declared.answer.Stream.{Stream}
-use Rattle.kahn_streams.specs.declared.answer.Verdict.TheVariants.{Finished}
-use Rattle.kahn_streams.specs.Answers.{AreOne, IsRight, stream_line, values_of, IsWatched}
 use Rattle.kahn_sequential.proofs.Unique.{finished_is_one}
 use Rattle.kahn_texts.specs.Formats as name
-use Rattle.kahn_texts.specs.Formats.{text_lines, line_head, stream_text, outcome_word, waited_name, end_words, end_text, ends_text, verdict_text, last_text, report_text}
-use Rattle.kahn_streams.specs.Written.{line_feed, spaced_text}
 use Rattle.kahn_fault.specs.Work.{IsOneReport, watched_name}
 use Rattle.kahn_report.proofs.Same_programs.{one_network, one_channels, one_processes}
 use Rattle.kahn_texts.proofs.Same_inputs.{one_list, one_input}

@@ -1,19 +1,12 @@
 -- The network of the sample text.
-use Rattle.std.proofs.Common.{◌≡◌, ℕ, List, [], ◌∷◌, codes, pos, length, refl, sym, ap, ◌∙◌, subst, arith, inl, inr, true}
+use Rattle.kahn_report.proofs.Common.{◌≡◌, ℕ, List, [], ◌∷◌, codes, pos, length, refl, sym, ap, ◌∙◌, subst, arith, inl, inr, true, Program, network_of, program_tree, terminals, IsProgram, Terminal, word, sign, name, numeral, truth, variable, wait, denial, bracket, conditional, empty, assign, send, print, block, if_else, repeat, StatementTrees, no_statement, statement, DeclarationTree, InstanceTree, ProgramTree, ArgumentTree, Spells, SpellsDeclaration, Argues, Instantiates, SomeNames, SomeBetween, StandsFirst, group, spelling, one_tree, same_lexemes, program_spelled}
 use Rattle.kahn_streams.specs.declared.tree.Kind.TheVariants as kind
 use Rattle.kahn_streams.specs.declared.tree.Role.TheVariants as role
 use Rattle.kahn_streams.specs.declared.tree.Direction.TheVariants as direction
 use Rattle.kahn_streams.specs.declared.tree.Taking.TheVariants as taking
-use Rattle.kahn_streams.specs.declared.tree.Program.{Program}
-use Rattle.kahn_streams.specs.Network.{network_of}
-use Rattle.kahn_syntax.specs.Texts.{program_tree, terminals, IsProgram}
 use Rattle.kahn_syntax.specs.declared.lexeme.Keyword.TheVariants as keyword
 use Rattle.kahn_syntax.specs.declared.lexeme.Sign.TheVariants as mark
-use Rattle.kahn_syntax.specs.Grammar.{Terminal, word, sign, name, numeral, truth, variable, wait, denial, bracket, conditional, empty, assign, send, print, block, if_else, repeat, StatementTrees, no_statement, statement, DeclarationTree, InstanceTree, ProgramTree, ArgumentTree, Spells, SpellsDeclaration, Argues, Instantiates, SomeNames, SomeBetween, StandsFirst, group, spelling}
 use Rattle.kahn_syntax.specs.Grammar as whole
-use Rattle.kahn_syntax.proofs.OneTree.{one_tree}
-use Rattle.kahn_syntax.proofs.OneList.{same_lexemes}
-use Rattle.kahn_syntax.proofs.Spelled.{program_spelled}
 use Rattle.kahn_streams.specs.Sample.{sample_network}
 use Rattle.kahn_report.specs.SampleText.{sample_words, f_words, g_words, h_words, main_words, IsSampleText}
 use Rattle.kahn_report.proofs.Same_programs.{network_in, same_network}

@@ -2,9 +2,7 @@
 use Rattle.std.specs.Prelude.{◌≡◌, ℕ, List, [], ◌∷◌, codes, pos}
 use Rattle.kahn_syntax.specs.declared.lexeme.Keyword.TheVariants as keyword
 use Rattle.kahn_syntax.specs.declared.lexeme.Sign.TheVariants as mark
-use Rattle.kahn_syntax.specs.declared.lexeme.Lexeme.{Lexeme}
-use Rattle.kahn_syntax.specs.Grammar.{Terminal, word, sign, numeral, name}
-use Rattle.kahn_syntax.specs.Texts.{terminals, AreLexemes}
+use Rattle.kahn_syntax.specs.{declared.lexeme.Lexeme.Lexeme, Grammar.Terminal, Grammar.word, Grammar.sign, Grammar.numeral, Grammar.name, Texts.terminals, Texts.AreLexemes}
 
 abbrev pub comma : Terminal
 comma = sign mark.Comma

@@ -2,14 +2,8 @@
 
 ghost use Rattle.kahn_texts.specs.Formats.{HasItsLines};
 ghost use Rattle.kahn_fault.specs.Work.{IsOneReport};
-ghost use Rattle.kahn_streams.specs.Answers.{IsRight};
-ghost use Rattle.kahn_streams.specs.Solution.{Inputs};
-ghost use Rattle.kahn_streams.specs.declared.answer.Answer.{Answer};
-ghost use Rattle.kahn_streams.specs.declared.config.Config.{Config};
-ghost use Rattle.kahn_streams.specs.declared.tree.Program.{Program};
-ghost use Rattle.kahn_streams.specs.Network.{network_of};
+ghost use Rattle.kahn_streams.specs.{Answers.IsRight, Solution.Inputs, declared.answer.Answer.Answer, declared.config.Config.Config, declared.tree.Program.Program, Network.network_of, Sample.sample_network};
 ghost use Rattle.kahn_syntax.specs.Texts.{IsProgram};
-ghost use Rattle.kahn_streams.specs.Sample.{sample_network};
 ghost use Rattle.kahn_report.specs.SampleText.{IsSampleText};
 ghost use Rattle.std.specs.Prelude.{◌≡◌, ℕ, List, Option};
 

@@ -1,8 +1,7 @@
 //! The instances that were woken: those that may stand otherwise than it was noted, or keep more than was let go of.
 
 ghost use Rattle.std.specs.Prelude.{◌≡◌, ◌<◌, false, length, true, IfOk, IfSome};
-ghost use Rattle.kahn_sequential.specs.inner.Below.{Finished};
-ghost use Rattle.kahn_sequential.specs.inner.Noted.{HasWoken, IsTakenFrom};
+ghost use Rattle.kahn_sequential.specs.{inner.Below.Finished, inner.Noted.HasWoken, inner.Noted.IsTakenFrom};
 
 use kahn_streams::{NoMemory, Verdict};
 use std::alloc::Global;

@@ -1,20 +1,6 @@
 -- What is new on the streams, one after another.
-use Rattle.std.proofs.Common.{arith, ◌≡◌, ◌∙◌, ℕ, zero, suc, ◌+◌, ◌-◌, ◌<◌, ◌≤◌, append-nil, List, [], ◌∷◌, ◌++◌, length, map, drop, get_or, add-one, append_assoc, refl, sym, ap, subst, Some}
-use Rattle.std.specs.Prelude.{slice_get, slice_index_or}
-use Rattle.std.specs.List.{AllByRecursion}
-use Rattle.kahn_streams.specs.declared.tree.Program.{Program}
-use Rattle.kahn_streams.specs.declared.value.Line.{Line}
-use Rattle.kahn_streams.specs.declared.value.Value.{Value}
-use Rattle.kahn_streams.specs.declared.token.Token.{Token}
-use Rattle.kahn_streams.specs.Tokens.{token_value}
-use Rattle.kahn_sequential.specs.HeldRuns.{HeldRun, so_far}
-use Rattle.kahn_sequential.specs.Flows.{AreNew, Flowing, flow_lines}
-use Rattle.kahn_texts.specs.News.{more_text, news_text}
-use Rattle.kahn_texts.specs.Formats.{IsLine}
+use Rattle.kahn_session.proofs.Common.{arith, ◌≡◌, ◌∙◌, ℕ, zero, suc, ◌+◌, ◌-◌, ◌<◌, ◌≤◌, append-nil, List, [], ◌∷◌, ◌++◌, length, map, drop, get_or, add-one, append_assoc, refl, sym, ap, subst, Some, slice_get, slice_index_or, AllByRecursion, Program, Line, Value, Token, token_value, HeldRun, so_far, AreNew, Flowing, flow_lines, more_text, news_text, IsLine, values_behind, AreStale, slice_get-get_or}
 use Rattle.kahn_texts.proofs.Answer_lines.{streamed_lines}
-use Rattle.kahn_session.specs.Forms.{values_behind}
-use Rattle.kahn_session.specs.inner.Kept.{AreStale}
-use Rattle.std.proofs.lemmas.Option.{slice_get-get_or}
 
 -- what is new on one stream
 abbrev pub news_line : Program → HeldRun → List ℕ → ℕ → Line → List ℕ

@@ -5,3 +5,4 @@ pub mod Taking
 pub mod Named
 pub mod Rows
 pub mod Waiting
+pub mod Common

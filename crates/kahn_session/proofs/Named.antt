@@ -1,12 +1,7 @@
 -- The line of a channel of some name, looked for from the first one on.
-use Rattle.std.proofs.Common.{Bool, true, false, ◌≡◌, ℕ, zero, suc, ◌+◌, ◌<◌, ◌≤◌, List, [], ◌∷◌, length, Some, ⊎_elim, ap, subst, sym, ◌∙◌, arith, refl}
-use Rattle.std.specs.Prelude.{MatchOption, Option, slice_get, slice_index_or}
+use Rattle.kahn_session.proofs.Common.{Bool, true, false, ◌≡◌, ℕ, zero, suc, ◌+◌, ◌<◌, ◌≤◌, List, [], ◌∷◌, length, Some, ⊎_elim, ap, subst, sym, ◌∙◌, arith, refl, MatchOption, slice_get, slice_index_or, same_Some, Program, Line, channel_names, network_of, role_at, IsNamedAt, IsNamedLine, IsNoOther, is_other_input}
+use Rattle.std.specs.Prelude.{Option}
 use Rattle.std.proofs.lemmas.Bool.{cases_lt}
-use Rattle.std.proofs.lemmas.Option.{same_Some}
-use Rattle.kahn_streams.specs.declared.tree.Program.{Program}
-use Rattle.kahn_streams.specs.declared.value.Line.{Line}
-use Rattle.kahn_streams.specs.Network.{channel_names, network_of, role_at}
-use Rattle.kahn_session.specs.Live.{IsNamedAt, IsNamedLine, IsNoOther, is_other_input}
 
 pub there : (lines : List Line) (n : ℕ) (d : Line) → n < length lines → slice_get lines n ≡ Some (slice_index_or lines n d)
 there [] n d below = absurd (omega (arith, below))

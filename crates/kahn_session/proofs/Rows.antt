@@ -1,8 +1,5 @@
 -- Rows of what is new on several streams.
-use Rattle.std.proofs.Common.{arith, ◌≡◌, ◌∙◌, ℕ, suc, ◌+◌, ◌-◌, ◌<◌, ◌≤◌, List, ◌∷◌, ◌++◌, add-one, append_assoc, append-nil, sym, ap}
-use Rattle.std.specs.Prelude.{slice_get}
-use Rattle.kahn_streams.specs.declared.value.Value.{Value}
-use Rattle.kahn_session.specs.Forms.{cell_news, row_news, row_stop, rows_news}
+use Rattle.kahn_session.proofs.Common.{arith, ◌≡◌, ◌∙◌, ℕ, suc, ◌+◌, ◌-◌, ◌<◌, ◌≤◌, List, ◌∷◌, ◌++◌, add-one, append_assoc, append-nil, sym, ap, slice_get, Value, cell_news, row_news, row_stop, rows_news}
 
 module _ (values : ℕ → List Value) where
   -- one value more of a row

@@ -1,19 +1,6 @@
 -- What went out of the streams begins what they have later, so what is new stands behind it.
-use Rattle.std.proofs.Common.{arith, ◌≡◌, ◌∙◌, ◌⊎◌, inl, inr, ℕ, zero, suc, ◌+◌, ◌<◌, ◌≤◌, Bool, true, false, append-nil, subst, List, [], ◌∷◌, ◌++◌, length, map, drop, Some, refl, sym, ap, ap₂}
-use Rattle.std.specs.Prelude.{slice_get, slice_index_or}
-use Rattle.std.proofs.lemmas.Option.{same_Some}
-use Rattle.kahn_streams.specs.Network.{network_of}
-use Rattle.kahn_streams.specs.declared.value.Value.{Value}
-use Rattle.kahn_streams.specs.declared.value.Line.{Line}
-use Rattle.kahn_sequential.specs.HeldRuns.{GoesOn, HeldRun, so_far}
-use Rattle.kahn_sequential.specs.Flows.{AreNew, Flowing, flow_lines}
-use Rattle.kahn_streams.specs.Tokens.{token_value}
-use Rattle.kahn_streams.specs.declared.token.Token.{Token}
+use Rattle.kahn_session.proofs.Common.{arith, ◌≡◌, ◌∙◌, ◌⊎◌, inl, inr, ℕ, zero, suc, ◌+◌, ◌<◌, ◌≤◌, Bool, true, false, append-nil, subst, List, [], ◌∷◌, ◌++◌, length, map, drop, Some, refl, sym, ap, ap₂, slice_get, slice_index_or, same_Some, network_of, Value, Line, GoesOn, HeldRun, so_far, AreNew, Flowing, flow_lines, token_value, Token, joined, HasLetGoAt, let_go_but, news_of, values_behind, waiting_from, next_of, Pace, OutBegins}
 use Rattle.kahn_streams.specs.Answers.{stream_lines}
-use Rattle.kahn_texts.specs.News.{joined}
-use Rattle.kahn_session.specs.Forms.{HasLetGoAt, let_go_but, news_of, values_behind, waiting_from, next_of}
-use Rattle.kahn_session.specs.Pace.{Pace}
-use Rattle.kahn_session.specs.Live.{OutBegins}
 
 -- both have the same lines
 pub lines_stay : (a b : HeldRun) → GoesOn a b → flow_lines b ≡ flow_lines a

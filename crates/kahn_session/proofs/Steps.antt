@@ -1,18 +1,9 @@
 -- The sum of all bounds of a part, and the events so far.
-use Rattle.std.proofs.Common.{arith, ◌≡◌, ◌∙◌, ℕ, zero, suc, ◌+◌, ◌≤◌, List, [], ◌∷◌, MatchResult, Result, Ok, Err, sum_by, refl, sym, ap, subst}
-use Rattle.std.proofs.lemmas.List.Sums.{sum_by-cons}
-use Rattle.std.proofs.Math.Nat.{min-le_left, min-le_right}
-use Rattle.kahn_sequential.specs.HeldRuns.{HasResumed, HeldRun, Seen, seen_at, seen_events}
-use Rattle.kahn_sequential.specs.Flows.{Flowing, IsUnpoured}
+use Rattle.kahn_session.proofs.Common.{arith, ◌≡◌, ◌∙◌, ℕ, zero, suc, ◌+◌, ◌≤◌, List, [], ◌∷◌, MatchResult, Result, Ok, Err, sum_by, refl, sym, ap, subst, HasResumed, HeldRun, Seen, seen_at, seen_events, Flowing, IsUnpoured, IsNotMeant, Entry, Program, IsMeantLine, IsUnfedBy, Pace, events_of, most_bound, part_bound}
+use Rattle.std.proofs.{lemmas.List.Sums.sum_by-cons, Math.Nat.min-le_left, Math.Nat.min-le_right}
 use Rattle.kahn_streams.proofs.Fed.{not_many, not_memory}
-use Rattle.kahn_streams.specs.Feeds.{IsNotMeant}
-use Rattle.kahn_streams.specs.Inputs.{Entry}
-use Rattle.kahn_streams.specs.declared.tree.Program.{Program}
-use Rattle.kahn_streams.specs.declared.feeds.FeedFault.{FeedFault}
-use Rattle.kahn_streams.specs.declared.feeds.FeedFault.TheVariants.{NoMemory, NotAnInput, TooMany, UnknownName, WrongKind}
-use Rattle.kahn_session.specs.Live.{IsMeantLine, IsUnfedBy}
+use Rattle.kahn_streams.specs.{declared.feeds.FeedFault.FeedFault, declared.feeds.FeedFault.TheVariants.NoMemory, declared.feeds.FeedFault.TheVariants.NotAnInput, declared.feeds.FeedFault.TheVariants.TooMany, declared.feeds.FeedFault.TheVariants.UnknownName, declared.feeds.FeedFault.TheVariants.WrongKind}
 use Rattle.kahn_session.specs.declared.fault.TakeFault.{TakeFault}
-use Rattle.kahn_session.specs.Pace.{Pace, events_of, most_bound, part_bound}
 
 -- where no process has fewer events, neither have all together
 no_fewer : (xs ys : List Seen) → ((p : ℕ) → (seen_at xs p).events ≤ (seen_at ys p).events) → sum_by seen_events xs ≤ sum_by seen_events ys

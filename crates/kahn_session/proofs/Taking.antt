@@ -1,17 +1,7 @@
 -- What a line makes of a session.
-use Rattle.std.proofs.Common.{◌≡◌, ◌∙◌, inl, inr, ℕ, ◌+◌, Bool, List, map, sum_by, Option, refl, sym, ap, subst}
-use Rattle.std.specs.Prelude.{min}
-use Rattle.std.specs.Io.KnownBytes.{Appends}
-use Rattle.kahn_streams.specs.declared.value.Value.{Value}
-use Rattle.kahn_sequential.specs.HeldRuns.{GoesOn, HeldRun, IsRightSoFar, Seen, seen_events, so_far}
-use Rattle.kahn_sequential.specs.Flows.{Flowing, flow_lines}
+use Rattle.kahn_session.proofs.Common.{◌≡◌, ◌∙◌, inl, inr, ℕ, ◌+◌, Bool, List, map, sum_by, Option, refl, sym, ap, subst, min, Appends, Value, GoesOn, HeldRun, IsRightSoFar, Seen, seen_events, so_far, Flowing, flow_lines, Verdict, joined, HasLetGoBehind, form_text, is_uneven, news_of, next_of, row_count, HasAnswered, HasTaken, IsFedBy, Live, OutBegins, pace_after, IsPart, Pace, most_bound, part_bound}
 use Rattle.kahn_streams.specs.declared.answer.End.{End}
-use Rattle.kahn_streams.specs.declared.answer.Verdict.{Verdict}
 use Rattle.kahn_sequential.proofs.Held_calls.{goes_on_same, goes_on_then}
-use Rattle.kahn_texts.specs.News.{joined}
-use Rattle.kahn_session.specs.Forms.{HasLetGoBehind, form_text, is_uneven, news_of, next_of, row_count}
-use Rattle.kahn_session.specs.Live.{HasAnswered, HasTaken, IsFedBy, Live, OutBegins, pace_after}
-use Rattle.kahn_session.specs.Pace.{IsPart, Pace, most_bound, part_bound}
 use Rattle.kahn_session.proofs.Showing.{gone_begins, gone_run, news_fit}
 
 fed_on : (line : List ℕ) (a b : Flowing) → IsFedBy line a b → GoesOn a.run b.run

@@ -1,15 +1,6 @@
 -- What waits for the rows of several streams.
-use Rattle.std.proofs.Common.{◌≡◌, ◌∙◌, ℕ, zero, suc, ◌+◌, ◌<◌, List, [], ◌∷◌, ◌++◌, length, drop, add-one, append_assoc, append-nil, Some, None, refl, sym, ap, if◌then◌else◌}
-use Rattle.std.specs.Prelude.{◌==◌, slice_get}
-use Rattle.std.specs.List.{list_any}
-use Rattle.std.specs.declared.alloc.Global.{Global}
-use Rattle.std.specs.declared.vec.Vec.{Vec}
+use Rattle.kahn_session.proofs.Common.{◌≡◌, ◌∙◌, ℕ, zero, suc, ◌+◌, ◌<◌, List, [], ◌∷◌, ◌++◌, length, drop, add-one, append_assoc, append-nil, Some, None, refl, sym, ap, if◌then◌else◌, ◌==◌, slice_get, list_any, Global, Vec, Value, Line, Channel, waiting_from, kept_values}
 use Rattle.std.proofs.lemmas.List.{drop_more}
-use Rattle.kahn_streams.specs.declared.value.Value.{Value}
-use Rattle.kahn_streams.specs.declared.value.Line.{Line}
-use Rattle.kahn_streams.specs.declared.value.Line.TheVariants.{Channel}
-use Rattle.kahn_session.specs.Forms.{waiting_from}
-use Rattle.kahn_session.specs.inner.Kept.{kept_values}
 
 -- a value more of those that wait, and none
 pub one_waits : (values : List Value) (place : ℕ) (left all : List Value) (value : Value) → left ++ drop place values ≡ all → slice_get values place ≡ Some value

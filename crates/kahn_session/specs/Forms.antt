@@ -1,12 +1,8 @@
 -- Believed. In which form what is new on the streams goes out, and what is let go of then (this project's profile).
 use Rattle.std.specs.Prelude.{◌≡◌, ◌⊎◌, ℕ, zero, suc, ◌-◌, ◌==◌, ◌&&◌, Bool, true, false, List, [], ◌∷◌, ◌++◌, codes, drop, length, map, min, nat_lt, Option, None, Some, slice_get, slice_index_or, if◌then◌else◌}
 use Rattle.std.specs.List.{concat, list_any}
-use Rattle.kahn_streams.specs.declared.tree.Program.{Program}
-use Rattle.kahn_streams.specs.declared.value.Value.{Value}
-use Rattle.kahn_streams.specs.declared.value.Line.{Line}
-use Rattle.kahn_streams.specs.Written.{value_text}
-use Rattle.kahn_sequential.specs.HeldRuns.{HeldRun, so_far}
-use Rattle.kahn_sequential.specs.Flows.{Flowing, flow_lines}
+use Rattle.kahn_streams.specs.{declared.tree.Program.Program, declared.value.Value.Value, declared.value.Line.Line, Written.value_text}
+use Rattle.kahn_sequential.specs.{HeldRuns.HeldRun, HeldRuns.so_far, Flows.Flowing, Flows.flow_lines}
 use Rattle.kahn_texts.specs.News.{news_text, plain_text}
 use Rattle.kahn_session.specs.Pace.{Pace}
 

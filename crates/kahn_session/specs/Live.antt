@@ -1,38 +1,13 @@
 -- Believed. A session: a run that is fed line by line, and what it has shown of its streams (this project's profile).
 use Rattle.std.specs.Prelude.{◌≡◌, ◌⊎◌, ℕ, suc, ◌<◌, ◌≤◌, Bool, true, false, List, [], ◌∷◌, map, length, replicate, slice_get, slice_index_or, Option, None, Some, is_some, Result, Ok, Err, ◌&&◌, not, nat_lt, ◌++◌}
-use Rattle.std.specs.Io.KnownBytes.{Appends}
-use Rattle.std.specs.List.{list_any}
-use Rattle.std.specs.Str.{IsUtf8, bytes_eq}
-use Rattle.kahn_streams.specs.declared.config.Config.{Config}
-use Rattle.kahn_streams.specs.declared.tree.Program.{Program}
-use Rattle.kahn_streams.specs.declared.tree.Role.{Role}
-use Rattle.kahn_streams.specs.declared.value.Failure.{Failure}
-use Rattle.kahn_streams.specs.declared.value.Value.{Value}
-use Rattle.kahn_streams.specs.declared.value.Line.{Line}
+use Rattle.std.specs.{Io.KnownBytes.Appends, List.list_any, Str.IsUtf8, Str.bytes_eq}
+use Rattle.kahn_streams.specs.{declared.config.Config.Config, declared.tree.Program.Program, declared.tree.Role.Role, declared.value.Failure.Failure, declared.value.Value.Value, declared.value.Line.Line, Network.Network, Network.channel_names, Network.network_of, Network.role_at, declared.value.Line.TheVariants.Channel, Feeds.IsMeant, Inputs.Entry, Inputs.inputs_of, Answers.Settles, declared.answer.End.End, declared.answer.Outcome.Outcome, declared.answer.Outcome.TheVariants.Faulted, declared.answer.Outcome.TheVariants.Waits, declared.answer.Verdict.Verdict, declared.answer.Verdict.TheVariants.Finished, declared.fault.RunFault.RunFault, Written.AppendsFront}
 use Rattle.kahn_streams.specs.declared.tree.Role.TheVariants as role
-use Rattle.kahn_streams.specs.Network.{Network, channel_names, network_of, role_at}
-use Rattle.kahn_streams.specs.declared.value.Line.TheVariants.{Channel}
-use Rattle.kahn_streams.specs.Feeds.{IsMeant}
-use Rattle.kahn_streams.specs.Inputs.{Entry, inputs_of}
-use Rattle.kahn_streams.specs.Answers.{Settles}
 use Rattle.kahn_chain.specs.Chain.{HasRing, stands}
-use Rattle.kahn_sequential.specs.HeldRuns.{GoesOn, HeldRun, IsRightSoFar, IsUnstarted, so_far}
-use Rattle.kahn_sequential.specs.Flows.{Flowing, HasFlowed, HasPouredIn, IsUnpoured, flow_lines}
-use Rattle.kahn_streams.specs.declared.answer.End.{End}
-use Rattle.kahn_streams.specs.declared.answer.Outcome.{Outcome}
-use Rattle.kahn_streams.specs.declared.answer.Outcome.TheVariants.{Faulted, Waits}
-use Rattle.kahn_streams.specs.declared.answer.Verdict.{Verdict}
-use Rattle.kahn_streams.specs.declared.answer.Verdict.TheVariants.{Finished}
-use Rattle.kahn_streams.specs.declared.fault.RunFault.{RunFault}
+use Rattle.kahn_sequential.specs.{HeldRuns.GoesOn, HeldRuns.HeldRun, HeldRuns.IsRightSoFar, HeldRuns.IsUnstarted, HeldRuns.so_far, Flows.Flowing, Flows.HasFlowed, Flows.HasPouredIn, Flows.IsUnpoured, Flows.flow_lines}
 use Rattle.kahn_streams.specs.declared.fault.RunFault.TheVariants as fault
-use Rattle.kahn_texts.specs.Formats.{AreBlanks, IsEntry, HasNoHead, HasNoValues, content, most_input_bytes, channel_name}
-use Rattle.kahn_texts.specs.News.{closing_text, joined}
-use Rattle.kahn_session.specs.Forms.{HasLetGoBehind, form_text, is_uneven, news_of, next_of, row_count}
-use Rattle.kahn_streams.specs.Written.{AppendsFront}
-use Rattle.kahn_texts.specs.declared.bytes.WriteFault.{WriteFault}
-use Rattle.kahn_session.specs.Pace.{Pace, events_of, part_bound}
-use Rattle.kahn_session.specs.declared.fault.TakeFault.{TakeFault}
-use Rattle.kahn_session.specs.declared.fault.TakeFault.TheVariants.{TooLong, NotUtf8, BadLine, BadValue, BadRow, Feed, NoMemory, Write}
+use Rattle.kahn_texts.specs.{Formats.AreBlanks, Formats.IsEntry, Formats.HasNoHead, Formats.HasNoValues, Formats.content, Formats.most_input_bytes, Formats.channel_name, News.closing_text, News.joined, declared.bytes.WriteFault.WriteFault}
+use Rattle.kahn_session.specs.{Forms.HasLetGoBehind, Forms.form_text, Forms.is_uneven, Forms.news_of, Forms.next_of, Forms.row_count, Pace.Pace, Pace.events_of, Pace.part_bound, declared.fault.TakeFault.TakeFault, declared.fault.TakeFault.TheVariants.TooLong, declared.fault.TakeFault.TheVariants.NotUtf8, declared.fault.TakeFault.TheVariants.BadLine, declared.fault.TakeFault.TheVariants.BadValue, declared.fault.TakeFault.TheVariants.BadRow, declared.fault.TakeFault.TheVariants.Feed, declared.fault.TakeFault.TheVariants.NoMemory, declared.fault.TakeFault.TheVariants.Write}
 
 pub record Live : Type 0 where
   -- the run, and what was let go of each stream: all of it went out, but for what waits

@@ -1,12 +1,7 @@
 -- Believed. A run that is fed as it goes, each part of which may take so many events (this project's profile).
 use Rattle.std.specs.Prelude.{◌≡◌, ◌⊎◌, ◌<◌, ℕ, ◌+◌, ◌-◌, List, min, sum_by, Some}
-use Rattle.kahn_streams.specs.Network.{network_of}
-use Rattle.kahn_streams.specs.Inputs.{inputs_of}
-use Rattle.kahn_streams.specs.Answers.{Settles}
-use Rattle.kahn_streams.specs.declared.value.Value.{Value}
-use Rattle.kahn_sequential.specs.HeldRuns.{GoesOn, HeldRun, seen_events}
-use Rattle.kahn_sequential.specs.Flows.{Flowing}
-use Rattle.kahn_streams.specs.declared.answer.Verdict.{Verdict}
+use Rattle.kahn_streams.specs.{Network.network_of, Inputs.inputs_of, Answers.Settles, declared.value.Value.Value, declared.answer.Verdict.Verdict}
+use Rattle.kahn_sequential.specs.{HeldRuns.GoesOn, HeldRuns.HeldRun, HeldRuns.seen_events, Flows.Flowing}
 
 pub record Pace : Type 0 where
   pub flow : Flowing

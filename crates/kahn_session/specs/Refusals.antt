@@ -1,11 +1,8 @@
 -- Believed. What is said of lines of input that aren't taken, and of their parts (this project's profile).
 use Rattle.std.specs.Prelude.{ℕ, ◌-◌, ◌^◌, ◌==◌, ◌&&◌, ◌||◌, Bool, true, false, not, List, [], ◌∷◌, ◌++◌, Option, None, Some, codes, decimal, if◌then◌else◌, length, nat_lt}
 use Rattle.std.specs.List.{concat}
-use Rattle.kahn_streams.specs.declared.feeds.FeedFault.{FeedFault}
+use Rattle.kahn_streams.specs.{declared.feeds.FeedFault.FeedFault, declared.tree.Program.Program, declared.value.Failure.Failure, declared.value.Failure.TheVariants.Overflow, declared.value.Failure.TheVariants.Division}
 use Rattle.kahn_streams.specs.declared.feeds.FeedFault.TheVariants as feed
-use Rattle.kahn_streams.specs.declared.tree.Program.{Program}
-use Rattle.kahn_streams.specs.declared.value.Failure.{Failure}
-use Rattle.kahn_streams.specs.declared.value.Failure.TheVariants.{Overflow, Division}
 use Rattle.kahn_marks.specs.Shown.{shown_part}
 use Rattle.kahn_texts.specs.Formats.{process_name}
 use Rattle.kahn_session.specs.declared.fault.TakeFault.{TakeFault}

@@ -2,13 +2,11 @@
 
 ghost use Rattle.std.specs.Prelude.{◌≡◌, ◌==◌, ◌-◌, ◌<◌, ◌≤◌, [], IfOk, MatchOption, drop, if◌then◌else◌, length, map, nat_lt, slice_get};
 ghost use Rattle.std.specs.List.{list_any};
-ghost use Rattle.kahn_streams.specs.Tokens.{token_value};
-ghost use Rattle.kahn_streams.specs.Written.{Writes, value_text};
+ghost use Rattle.kahn_streams.specs.{Tokens.token_value, Written.Writes, Written.value_text};
 ghost use Rattle.kahn_sequential.specs.Flows.{flow_lines};
 ghost use Rattle.kahn_texts.specs.News.{plain_text};
 ghost use Rattle.kahn_session.specs.Forms.{HasLetGoBehind, are_rows, cell_news, fewest, form_text, is_uneven, news_of, news_on, next_of, row_count, row_news, row_stop, rows_news, waiting_from};
-ghost use Rattle.kahn_session.specs.Live.{OutBegins};
-ghost use Rattle.kahn_session.specs.inner.Kept.{AreStale, kept_values, lines_text};
+ghost use Rattle.kahn_session.specs.{Live.OutBegins, inner.Kept.AreStale, inner.Kept.kept_values, inner.Kept.lines_text};
 
 use crate::pace::Paced;
 use itoa::Buffer;

@@ -1,12 +1,9 @@
 //! A run that is fed as it goes, each part of which may take so many events.
 
 ghost use Rattle.std.specs.Prelude.{◌≡◌, ◌↔◌, ℕ, ◌+◌, ◌≤◌, [], Some, IfErr, IfOk, IsTrue, MatchResult};
-ghost use Rattle.kahn_sequential.specs.HeldRuns.{IsLineOf, IsRightSoFar, IsUnstarted};
+ghost use Rattle.kahn_sequential.specs.{HeldRuns.IsLineOf, HeldRuns.IsRightSoFar, HeldRuns.IsUnstarted, Flows.AreNew, Flows.HasFlowed, Flows.HasPouredIn, Flows.IsUnpoured, Flows.flow_lines};
 ghost use Rattle.kahn_streams.specs.declared.answer.Verdict.{Verdict as VerdictOf};
-ghost use Rattle.kahn_sequential.specs.Flows.{AreNew, HasFlowed, HasPouredIn, IsUnpoured, flow_lines};
-ghost use Rattle.kahn_session.specs.Forms.{let_go_but, news_on};
-ghost use Rattle.kahn_session.specs.inner.Kept.{AreStale, kept_values};
-ghost use Rattle.kahn_session.specs.Pace.{IsPart, MayBeSlow, events_of, part_bound};
+ghost use Rattle.kahn_session.specs.{Forms.let_go_but, Forms.news_on, inner.Kept.AreStale, inner.Kept.kept_values, Pace.IsPart, Pace.MayBeSlow, Pace.events_of, Pace.part_bound};
 
 use kahn_sequential::Flow;
 use kahn_streams::{

@@ -2,8 +2,7 @@
 
 ghost use Rattle.std.specs.Prelude.{◌≡◌, ◌↔◌, ◌&&◌, not, ℕ, Some, false, map, true, IsTrue, MatchOption, MatchResult, option_copied};
 ghost use Rattle.std.specs.List.{list_any};
-ghost use Rattle.kahn_streams.specs.Network.{network_of};
-ghost use Rattle.kahn_streams.specs.declared.answer.Verdict.{Verdict as VerdictOf};
+ghost use Rattle.kahn_streams.specs.{Network.network_of, declared.answer.Verdict.Verdict as VerdictOf};
 ghost use Rattle.kahn_chain.specs.Chain.{AreStandings, stands};
 ghost use Rattle.kahn_sequential.specs.HeldRuns.{IsRightSoFar};
 ghost use Rattle.kahn_texts.specs.Formats.{channel_name};

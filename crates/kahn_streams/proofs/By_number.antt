@@ -1,15 +1,9 @@
 -- The channels and processes of a program by name and by number.
-use Rattle.std.proofs.Common.{◌≡◌, ℕ, zero, suc, ◌<◌, Bool, true, false, cond, List, [], ◌∷◌, ◌++◌, map, length, Option, Some, refl, ap, sym, ◌∙◌, subst, arith, bytes_eq}
+use Rattle.kahn_streams.proofs.Common.{◌≡◌, ℕ, zero, suc, ◌<◌, Bool, true, false, cond, List, [], ◌∷◌, ◌++◌, map, length, Option, Some, refl, ap, sym, ◌∙◌, subst, arith, bytes_eq, lookup, AllByRecursion, map-append, Name, Kind, Role, Process, Declaration, Scope, place_of, bytes_of, channels_of, process_of, entries, Global, IsChannel, IsProcess, declared_of, declared_channels, processes_of}
 use Rattle.std.specs.Prelude.{slice_get, slice_index_or, ◌==◌}
-use Rattle.std.specs.Map.{lookup}
 use Rattle.std.proofs.Math.Dec.{eqb-suc-zero, eqb-suc-suc, eqb-zero-suc}
-use Rattle.std.specs.List.{IsDistinct, AllByRecursion}
-use Rattle.std.proofs.lemmas.List.{map-append}
-use Rattle.kahn_streams.specs.Types.{Name, Kind, Role, Process, Declaration}
+use Rattle.std.specs.List.{IsDistinct}
 use Rattle.kahn_streams.specs.declared.tree.Declaration.TheVariants as D
-use Rattle.kahn_streams.specs.View.{Scope, place_of, bytes_of}
-use Rattle.kahn_streams.specs.Network.{channels_of, process_of}
-use Rattle.kahn_streams.specs.Wiring.{entries, Global, IsChannel, IsProcess, declared_of, declared_channels, processes_of}
 use Rattle.kahn_streams.proofs.Handed.{Table, keys, as_channels, bytes_true, bytes_turned, bytes_self}
 
 -- ---- members of a list by number

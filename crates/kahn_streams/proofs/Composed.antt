@@ -1,13 +1,5 @@
 -- Continuations are no more than doing one thing after another.
-use mathlib.Core.Path.{fun_ext}
-use Rattle.std.proofs.Common.{◌≡◌, ℕ, zero, suc, ◌-◌, Bool, true, false, List, [], ◌∷◌, refl, ap, ◌∙◌, Result, Ok, Err, neg_ℤ, not, slice_set, arith, zero-add, suc-add}
-use Rattle.kahn_streams.specs.Types.{Value, Failure}
-use Rattle.kahn_streams.specs.declared.value.Value.TheVariants.{Logical}
-use Rattle.kahn_streams.specs.Syntax.{Expr, Literal, Variable, Wait, Negate, Not, Binary, Conditional, Stmt, Skip, Assign, Send, Print, Seq, If, While, Repeat}
-use Rattle.kahn_streams.specs.Arithmetic.{number, truth, ranged, apply}
-use Rattle.kahn_streams.specs.Script.{Port, Parameter, Printer, Tapes, Script, Give, Fail, Waits, Sends, Turns, Rest, ScriptOutcome, Got, Dry, Fault, Cut, Reached, after_event, after_send, put, wait_at, play}
-use Rattle.kahn_streams.specs.Meaning.{Store, constant, settle, value_of, turns_of, script_of}
-use Rattle.kahn_streams.specs.Compose.{go_on, and_so, ExpressionsCompose, StatementsCompose}
+use Rattle.kahn_streams.proofs.Common.{fun_ext, ◌≡◌, ℕ, zero, suc, ◌-◌, Bool, true, false, List, [], ◌∷◌, refl, ap, ◌∙◌, Result, Ok, Err, neg_ℤ, not, slice_set, arith, zero-add, suc-add, Value, Failure, Logical, Expr, Literal, Variable, Wait, Negate, Not, Binary, Conditional, Stmt, Skip, Assign, Send, Print, Seq, If, While, Repeat, number, truth, ranged, apply, Port, Parameter, Printer, Tapes, Script, Give, Fail, Waits, Sends, Turns, Rest, ScriptOutcome, Got, Dry, Fault, Cut, Reached, after_event, after_send, put, wait_at, play, Store, constant, settle, value_of, turns_of, script_of, go_on, and_so, ExpressionsCompose, StatementsCompose}
 
 -- x, and f on what it gives
 abbrev graft : {A B : Type 0} → Script A → (A → Script B) → Script B

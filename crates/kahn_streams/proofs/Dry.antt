@@ -1,19 +1,8 @@
 -- A process of a well wired program runs dry only at a parameter that reads a channel.
-use Rattle.std.proofs.Common.{◌≡◌, ℕ, zero, suc, pos, neg_ℤ, Bool, true, false, not, List, [], ◌∷◌, ◌++◌, map, Some, Result, Ok, Err, refl, subst, slice_get, slice_index_or}
-use Rattle.std.specs.List.{AllByRecursion}
-use Rattle.kahn_streams.specs.Types.{Kind, Taking, Program, Value, Failure}
+use Rattle.kahn_streams.proofs.Common.{◌≡◌, ℕ, zero, suc, pos, neg_ℤ, Bool, true, false, not, List, [], ◌∷◌, ◌++◌, map, Some, Result, Ok, Err, refl, subst, slice_get, slice_index_or, AllByRecursion, Kind, Taking, Program, Value, Failure, In, Number, Expr, Literal, Variable, Wait, Negate, Not, Binary, Conditional, Stmt, Skip, Assign, Send, Print, Seq, If, While, Repeat, HasKind, Agrees, IsWellWired, Actual, Reads, Writes, Hands, Instance, Network, idle, instance_at, actual_at, network_of, taking_of, takings_of, IsFit, Logical, number, truth, ranged, apply, Tapes, Dry, Script, Give, Fail, Waits, Sends, Turns, Rest, Reached, put, wait_at, play, Store, constant, read, settle, value_of, turns_of, script_of, exec, opening}
 use Rattle.kahn_streams.specs.declared.tree.Kind.TheVariants as K
-use Rattle.kahn_streams.specs.declared.tree.Direction.TheVariants.{In}
 use Rattle.kahn_streams.specs.declared.tree.Taking.TheVariants as T
-use Rattle.kahn_streams.specs.Syntax.{Number, Expr, Literal, Variable, Wait, Negate, Not, Binary, Conditional, Stmt, Skip, Assign, Send, Print, Seq, If, While, Repeat}
-use Rattle.kahn_streams.specs.Wiring.{HasKind, Agrees, IsWellWired}
-use Rattle.kahn_streams.specs.Network.{Actual, Reads, Writes, Hands, Instance, Network, idle, instance_at, actual_at, network_of, taking_of, takings_of, IsFit}
 use Rattle.kahn_streams.proofs.Fitted.{instances_fit}
-use Rattle.kahn_streams.specs.declared.value.Value.TheVariants.{Logical}
-use Rattle.kahn_streams.specs.Arithmetic.{number, truth, ranged, apply}
-use Rattle.kahn_streams.specs.Script.{Tapes, Dry, Script, Give, Fail, Waits, Sends, Turns, Rest, Reached, put, wait_at, play}
-use Rattle.kahn_streams.specs.Meaning.{Store, constant, read, settle, value_of, turns_of, script_of, exec}
-use Rattle.kahn_streams.specs.Solution.{opening}
 
 -- ---- scripts
 

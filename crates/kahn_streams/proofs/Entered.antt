@@ -1,17 +1,8 @@
 -- Entries, one by one: the number of a name, what is given, and the lists.
-use Rattle.std.proofs.Common.{arith, ◌≡◌, ◌≢◌, ◌⊎◌, inl, inr, ℕ, zero, suc, ◌+◌, ◌<◌, ◌==◌, Bool, true, false, List, [], ◌∷◌, ◌++◌, length, map, take, drop, replicate, set, get_or, Some, refl, sym, ap, ◌∙◌, subst, slice_get, slice_index_or, if◌then◌else◌, Result, Ok, Err, add-one, bytes_eq, eq-eqb, length-set, get_or-set_same, get_or-set_other}
-use Rattle.std.specs.Prelude.{MatchResult}
-use Rattle.std.proofs.lemmas.Bool.{cases_eq, eqb-true}
-use Rattle.std.proofs.lemmas.List.{length-map, length-replicate, take-append-le, take-map}
-use Rattle.std.proofs.lemmas.Option.{slice_get_read, slice_get-map}
+use Rattle.kahn_streams.proofs.Common.{arith, ◌≡◌, ◌≢◌, ◌⊎◌, inl, inr, ℕ, zero, suc, ◌+◌, ◌<◌, ◌==◌, Bool, true, false, List, [], ◌∷◌, ◌++◌, length, map, take, drop, replicate, set, get_or, Some, refl, sym, ap, ◌∙◌, subst, slice_get, slice_index_or, if◌then◌else◌, Result, Ok, Err, add-one, bytes_eq, eq-eqb, length-set, get_or-set_same, get_or-set_other, MatchResult, cases_eq, length-map, length-replicate, take-append-le, take-map, slice_get_read, slice_get-map, Program, InputFault, Input, Scope, place_of, network_of, kind_at, role_at, channels_of, channel_names, AreOfKind, IsInputFor, Lists, inputs_of, Entry, FailsFirst, asked_of_entry, channel_of, is_given, list_for, AreFit, IsFirstRefused, IsInputOf, IsFitHere}
+use Rattle.std.proofs.lemmas.Bool.{eqb-true}
 use Rattle.std.specs.Option.{option_map}
-use Rattle.kahn_streams.specs.Types.{Program, InputFault}
-use Rattle.kahn_streams.specs.declared.tree.Role.TheVariants.{Input}
-use Rattle.kahn_streams.specs.View.{Scope, place_of}
-use Rattle.kahn_streams.specs.Network.{network_of, kind_at, role_at, channels_of, channel_names}
 use Rattle.kahn_streams.specs.declared.entries.InputFault.TheVariants.{NoMemory}
-use Rattle.kahn_streams.specs.Inputs.{AreOfKind, IsInputFor, Lists, inputs_of, Entry, FailsFirst, asked_of_entry, channel_of, is_given, list_for, AreFit, IsFirstRefused, IsInputOf}
-use Rattle.kahn_streams.specs.inner.Marked.{IsFitHere}
 
 -- ---- the number of a name
 

@@ -1,18 +1,7 @@
 -- Values that are fed: what they leave, and tokens of the input before.
-use Rattle.std.proofs.Common.{arith, ◌≡◌, ◌≢◌, inl, inr, ℕ, ◌<◌, ◌≤◌, ◌==◌, Bool, true, false, List, [], ◌∷◌, ◌++◌, length, map, set, get_or, refl, sym, ap, ◌∙◌, subst, eq-eqb, eqb-true, append-nil, length-set, get_or-set_same, get_or-set_other, if◌then◌else◌}
-use Rattle.std.proofs.Math.Logic.{∥∥₁_elim, ∥∥₁_prop}
-use Rattle.std.proofs.lemmas.Bool.{cases_eq}
-use Rattle.std.proofs.lemmas.List.{get_or-map, get_or_past, length-map, map-set, set-get_or}
-use Rattle.kahn_streams.specs.Types.{Kind, Program, Value, Line, FeedFault}
-use Rattle.kahn_streams.specs.declared.tree.Role.TheVariants.{Input}
-use Rattle.kahn_streams.specs.Network.{Network, network_of, kind_at, role_at, channel_names}
-use Rattle.kahn_streams.specs.Inputs.{Entry, channel_of, most_values, AreOfKind, IsListFor, IsInputFor, Lists, inputs_of, Holds}
-use Rattle.kahn_streams.specs.Feeds.{IsMeant, IsNotMeant, IsUnwelcome, IsEntryFed, fed_to, total_after}
+use Rattle.kahn_streams.proofs.Common.{arith, ◌≡◌, ◌≢◌, inl, inr, ℕ, ◌<◌, ◌≤◌, ◌==◌, Bool, true, false, List, [], ◌∷◌, ◌++◌, length, map, set, get_or, refl, sym, ap, ◌∙◌, subst, eq-eqb, eqb-true, append-nil, length-set, get_or-set_same, get_or-set_other, if◌then◌else◌, ∥∥₁_elim, ∥∥₁_prop, cases_eq, get_or-map, get_or_past, length-map, map-set, set-get_or, Kind, Program, Value, Line, FeedFault, Input, Network, network_of, kind_at, role_at, channel_names, Entry, channel_of, most_values, AreOfKind, IsListFor, IsInputFor, Lists, inputs_of, Holds, IsMeant, IsNotMeant, IsUnwelcome, IsEntryFed, fed_to, total_after, AreInputsExtended, Stands}
 use Rattle.kahn_streams.specs.declared.feeds.FeedFault.TheVariants.{UnknownName, NotAnInput, WrongKind, TooMany, NoMemory}
-use Rattle.kahn_streams.specs.Solution.{AreInputsExtended, Stands}
-use Rattle.kahn_streams.proofs.Proved.{prefix_get}
-use Rattle.kahn_streams.proofs.Finished.{inputs_grow}
-use Rattle.kahn_streams.proofs.Entered.{names_count}
+use Rattle.kahn_streams.proofs.{Proved.prefix_get, Finished.inputs_grow, Entered.names_count}
 
 fed_same : (t : Program) (e : Entry) → fed_to t e (channel_of t e) ≡ e.1
 fed_same t e = ap (λ b. if b then e.1 else []) (eq-eqb (channel_of t e) (channel_of t e) refl)

@@ -1,15 +1,8 @@
 -- From a truncated fact that a value stands to where it stands: the first iterate that is long enough has it.
-use mathlib.Core.HLevel.{is_prop→PathP}
+use Rattle.kahn_streams.proofs.Common.{is_prop→PathP, ∥∥₁_elim, ∥∥₁_prop, ltb-true, lt-ltb, slice_get_within, slice_get-get_or, arith, ◌≡◌, ◌⊎◌, inl, inr, ℕ, zero, suc, ◌<◌, ltb, get_or, length, Bool, true, false, not, ◌&&◌, refl, sym, ap, ◌∙◌, subst, Some, slice_get, Value, Line, Network, Inputs, iterate, Stands}
 use Rattle.std.specs.Coded.{Coded-set}
-use Rattle.std.proofs.Math.Logic.{∥∥₁_elim, ∥∥₁_prop}
 use Rattle.std.proofs.Math.Bool.{Bool-set}
-use Rattle.std.proofs.lemmas.Bool.{ltb-true, lt-ltb}
-use Rattle.std.proofs.lemmas.Option.{slice_get_within, slice_get-get_or}
-use Rattle.std.proofs.Common.{arith, ◌≡◌, ◌⊎◌, inl, inr, ℕ, zero, suc, ◌<◌, ltb, get_or, length, Bool, true, false, not, ◌&&◌, refl, sym, ap, ◌∙◌, subst, Some, slice_get}
-use Rattle.kahn_streams.specs.Types.{Value, Line}
 use Rattle.kahn_streams.specs.contracts.value.Value as value
-use Rattle.kahn_streams.specs.Network.{Network}
-use Rattle.kahn_streams.specs.Solution.{Inputs, iterate, Stands}
 use Rattle.kahn_streams.proofs.Proved.{one_value}
 
 -- none of the numbers below n

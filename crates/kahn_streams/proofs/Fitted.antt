@@ -1,17 +1,10 @@
 -- What an instance's names stand for, by what is handed to it.
-use Rattle.std.proofs.Common.{◌≡◌, List, [], ◌∷◌, ◌++◌, map, Some, refl, ap, sym, ◌∙◌, subst}
+use Rattle.kahn_streams.proofs.Common.{◌≡◌, List, [], ◌∷◌, ◌++◌, map, Some, refl, ap, sym, ◌∙◌, subst, AllByRecursion, get_or_from_slice_get, Name, Kind, Role, Taking, OneVariable as Variable, Process, Argument, Program, Inner, In, Out, bytes_of, names_of, body_of, number_of, Agrees, scope_of, entries, IsChannel, global, Fits, AllFit, IsMade, IsSound, IsWellWired, actual_of, actuals_of, process_of, instance_from, network_of, kind_at, channel_names, taking_of, IsListed, IsFit}
 use Rattle.std.specs.Prelude.{slice_get}
-use Rattle.std.specs.List.{AllByRecursion}
-use Rattle.std.proofs.lemmas.Option.{get_or_from_slice_get}
-use Rattle.kahn_streams.specs.Types.{Name, Kind, Role, Taking, Parameter, OneVariable as Variable, Process, Argument, Instance, Program}
+use Rattle.kahn_streams.specs.Types.{Parameter, Instance}
 use Rattle.kahn_streams.specs.declared.tree.Kind.TheVariants as K
-use Rattle.kahn_streams.specs.declared.tree.Role.TheVariants.{Inner}
-use Rattle.kahn_streams.specs.declared.tree.Direction.TheVariants.{In, Out}
 use Rattle.kahn_streams.specs.declared.tree.Taking.TheVariants as T
 use Rattle.kahn_streams.specs.declared.tree.Argument.TheVariants as A
-use Rattle.kahn_streams.specs.View.{bytes_of, names_of, body_of, number_of}
-use Rattle.kahn_streams.specs.Wiring.{Agrees, scope_of, entries, IsChannel, global, Fits, AllFit, IsMade, IsSound, IsWellWired}
-use Rattle.kahn_streams.specs.Network.{actual_of, actuals_of, process_of, instance_from, network_of, kind_at, channel_names, taking_of, IsListed, IsFit}
 use Rattle.kahn_streams.proofs.By_number.{declared_at, within, the_process, of_process}
 
 -- a channel that is handed over is one of the network's and has its kind

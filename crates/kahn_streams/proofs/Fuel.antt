@@ -1,11 +1,5 @@
 -- How far a loop is unrolled makes no difference to n events, where it is unrolled to n turns.
-use Rattle.std.proofs.Common.{◌≡◌, ℕ, zero, suc, ◌≤◌, Bool, true, false, List, [], ◌∷◌, refl, ap, Result, Ok, Err, neg_ℤ, not, slice_set, le_of_suc-le-suc, not-suc-le-zero, arith}
-use Rattle.kahn_streams.specs.Types.{Value, Failure}
-use Rattle.kahn_streams.specs.declared.value.Value.TheVariants.{Logical}
-use Rattle.kahn_streams.specs.Syntax.{Expr, Literal, Variable, Wait, Negate, Not, Binary, Conditional, Stmt, Skip, Assign, Send, Print, Seq, If, While, Repeat}
-use Rattle.kahn_streams.specs.Arithmetic.{number, truth, ranged, apply}
-use Rattle.kahn_streams.specs.Script.{Port, Parameter, Printer, Tapes, Script, Give, Fail, Waits, Sends, Turns, Reached, after_event, after_send, put, wait_at, play}
-use Rattle.kahn_streams.specs.Meaning.{Store, constant, read, settle, value_of, turns_of, script_of}
+use Rattle.kahn_streams.proofs.Common.{◌≡◌, ℕ, zero, suc, ◌≤◌, Bool, true, false, List, [], ◌∷◌, refl, ap, Result, Ok, Err, neg_ℤ, not, slice_set, le_of_suc-le-suc, not-suc-le-zero, arith, Value, Failure, Logical, Expr, Literal, Variable, Wait, Negate, Not, Binary, Conditional, Stmt, Skip, Assign, Send, Print, Seq, If, While, Repeat, number, truth, ranged, apply, Port, Parameter, Printer, Tapes, Script, Give, Fail, Waits, Sends, Turns, Reached, after_event, after_send, put, wait_at, play, Store, constant, read, settle, value_of, turns_of, script_of}
 
 -- two scripts that n events can't tell apart
 pub data Alike {A : Type 0} : ℕ → Script A → Script A → Type 0 where

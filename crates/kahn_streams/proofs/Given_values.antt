@@ -1,13 +1,6 @@
 -- What is given to the input channels stands.
-use Rattle.std.proofs.Common.{◌≡◌, ◌≤◌, ℕ, Some, ap, sym, ◌∙◌, slice_get, length, List, []}
-use Rattle.std.proofs.lemmas.List.{get_or_past}
+use Rattle.kahn_streams.proofs.Common.{◌≡◌, ◌≤◌, ℕ, Some, ap, sym, ◌∙◌, slice_get, length, List, [], get_or_past, Program, Value, Inner, Input, Network, network_of, role_at, source_by, first_writer, Given, Channel, fed, iterate, Lists, inputs_of, Holds}
 use Rattle.kahn_streams.specs.declared.tree.Kind.TheVariants as KindOf
-use Rattle.kahn_streams.specs.Types.{Program, Value}
-use Rattle.kahn_streams.specs.declared.tree.Role.TheVariants.{Inner, Input}
-use Rattle.kahn_streams.specs.Network.{Network, network_of, role_at, source_by, first_writer, Given}
-use Rattle.kahn_streams.specs.declared.value.Line.TheVariants.{Channel}
-use Rattle.kahn_streams.specs.Solution.{fed, iterate}
-use Rattle.kahn_streams.specs.Inputs.{Lists, inputs_of, Holds}
 
 pub stands_given : (t : Program) (lists : Lists) (c k : ℕ) (v : Value) → role_at (network_of t) c ≡ Input →
     slice_get (inputs_of lists c) k ≡ Some v → Holds t lists (Channel c) k v

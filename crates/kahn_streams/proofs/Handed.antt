@@ -1,11 +1,5 @@
 -- What is handed over, and by which names.
-use Rattle.std.proofs.Common.{◌≡◌, ℕ, Bool, true, false, cond, ◌&&◌, List, [], ◌∷◌, ◌++◌, map, refl, ap, sym, ◌∙◌, subst, bytes_eq, true≢false}
-use Rattle.std.proofs.lemmas.Slice.Eq.{bytes_eq-Decides}
-use Rattle.kahn_streams.specs.Types.{Name, Kind, Role, Direction, Program, Side}
-use Rattle.kahn_streams.specs.declared.tree.Role.TheVariants.{Inner, Input, Output}
-use Rattle.kahn_streams.specs.declared.tree.Direction.TheVariants.{In, Out}
-use Rattle.kahn_streams.specs.View.{bytes_of}
-use Rattle.kahn_streams.specs.Wiring.{Global, IsChannel, Handover, handed_from, same_direction, ends, writers, readers, IsOne, IsWired, is_closed}
+use Rattle.kahn_streams.proofs.Common.{◌≡◌, ℕ, Bool, true, false, cond, ◌&&◌, List, [], ◌∷◌, ◌++◌, map, refl, ap, sym, ◌∙◌, subst, bytes_eq, true≢false, bytes_eq-Decides, Name, Kind, Role, Direction, Program, Side, Inner, Input, Output, In, Out, bytes_of, Global, IsChannel, Handover, handed_from, same_direction, ends, writers, readers, IsOne, IsWired, is_closed}
 
 abbrev pub keys : {A : Type 0} → List (List ℕ × A) → List (List ℕ)
 keys xs = map (λ e. e.0) xs

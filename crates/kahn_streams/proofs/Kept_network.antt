@@ -1,19 +1,10 @@
 -- What the tables of a network say of it.
-use Rattle.std.proofs.Common.{◌≡◌, ℕ, ◌<◌, List, map, length, Option, None, Some, refl, ap, sym, ◌∙◌, subst}
-use Rattle.std.specs.Prelude.{slice_get, string_bytes}
-use Rattle.std.proofs.lemmas.List.{length-map}
-use Rattle.std.proofs.lemmas.Option.{get_or_from_slice_get}
-use Rattle.kahn_streams.specs.Types.{Name, Kind, Role, Process, Instance, Declaration, Program}
+use Rattle.kahn_streams.proofs.Common.{◌≡◌, ℕ, ◌<◌, List, map, length, Option, None, Some, refl, ap, sym, ◌∙◌, subst, string_bytes, length-map, get_or_from_slice_get, Name, Kind, Role, Process, Declaration, Program, bytes_of, IsMadeOf, network_of, instance_at, instance_from, kind_at, role_at, channel_source, process_of, idle, IsOnly, IsWriter, IsReader, source_of, channel_names, the_process as the_declared, shown, channel_line, lines_of, first, process_at, IsKept, declared_channels, writers, readers, IsMade, IsWellWired}
+use Rattle.std.specs.Prelude.{slice_get}
+use Rattle.kahn_streams.specs.{Types.Instance, Wires.Line, declared.wires.Wire.Wire}
 use Rattle.kahn_streams.specs.declared.tree.Declaration.TheVariants as D
-use Rattle.kahn_streams.specs.View.{bytes_of}
-use Rattle.kahn_streams.specs.Made.{IsMadeOf}
 use Rattle.kahn_streams.specs.Network as N
-use Rattle.kahn_streams.specs.Network.{network_of, instance_at, instance_from, kind_at, role_at, channel_source, process_of, idle, IsOnly, IsWriter, IsReader, source_of, channel_names}
-use Rattle.kahn_streams.specs.Wires.{the_process as the_declared, Line, shown, channel_line, lines_of, first, process_at, IsKept}
-use Rattle.kahn_streams.specs.Wiring.{declared_channels, writers, readers, IsMade, IsWellWired}
-use Rattle.kahn_streams.specs.declared.wires.Wire.{Wire}
-use Rattle.kahn_streams.proofs.By_number.{there, within, mapped, the_process, all_at}
-use Rattle.kahn_streams.proofs.Sided.{declared_there, channel_count, named_at, line_kind, line_role, one_writer, one_reader, sourced}
+use Rattle.kahn_streams.proofs.{By_number.there, By_number.within, By_number.mapped, By_number.the_process, By_number.all_at, Sided.declared_there, Sided.channel_count, Sided.named_at, Sided.line_kind, Sided.line_role, Sided.one_writer, Sided.one_reader, Sided.sourced}
 
 -- the number of wires
 pub wire_count : (t : Program) (ws : List Wire) → map shown ws ≡ lines_of t → length ws ≡ length (network_of t).channels

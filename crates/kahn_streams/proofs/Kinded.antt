@@ -1,20 +1,10 @@
 -- What a process does keeps kinds: from values of the right kinds, on tapes of the right kinds, it sends values of
 -- the right kinds.
-use Rattle.std.proofs.Common.{◌≡◌, ℕ, zero, suc, ◌+ℤ◌, ◌-ℤ◌, ◌*ℤ◌, ◌==◌, ℤ, neg_ℤ, int_div, int_rem, Bool, true, false, not, List, [], ◌∷◌, Option, Some, Result, Ok, Err, refl, sym, ◌∙◌, subst, eqb-true, slice_get, slice_set, if◌then◌else◌}
-use Rattle.std.specs.List.{AllByRecursion}
-use Rattle.kahn_streams.specs.Types.{Kind, Operator, Taking, Value, Failure}
+use Rattle.kahn_streams.proofs.Common.{◌≡◌, ℕ, zero, suc, ◌+ℤ◌, ◌-ℤ◌, ◌*ℤ◌, ◌==◌, ℤ, neg_ℤ, int_div, int_rem, Bool, true, false, not, List, [], ◌∷◌, Option, Some, Result, Ok, Err, refl, sym, ◌∙◌, subst, eqb-true, slice_get, slice_set, if◌then◌else◌, AllByRecursion, Kind, Operator, Taking, Value, Failure, In, Out, Constant, Number, Truth, Expr, Literal, Variable, Wait, Negate, Not, Binary, Conditional, Stmt, Skip, Assign, Send, Print, Seq, If, While, Repeat, gives, constant_kind, HasKind, Agrees, Integer, Logical, number, truth, fits_64, is_zero, ranged, apply, Port, Parameter, Printer, Tapes, Script, Give, Fail, Waits, Sends, Turns, Rest, Reached, put, wait_at, play, Store, constant, read, settle, value_of, turns_of, script_of, kind_of_value}
 use Rattle.kahn_streams.specs.declared.tree.Kind.TheVariants as K
 use Rattle.kahn_streams.specs.declared.tree.Operator.TheVariants.{Or, And, Equal, Unequal, Less, AtMost, Greater, AtLeast, Add, Subtract, Multiply, Divide, Remainder}
-use Rattle.kahn_streams.specs.declared.tree.Direction.TheVariants.{In, Out}
 use Rattle.kahn_streams.specs.declared.tree.Taking.TheVariants as T
-use Rattle.kahn_streams.specs.Syntax.{Constant, Number, Truth, Expr, Literal, Variable, Wait, Negate, Not, Binary, Conditional, Stmt, Skip, Assign, Send, Print, Seq, If, While, Repeat}
-use Rattle.kahn_streams.specs.Wiring.{gives, constant_kind, HasKind, Agrees}
-use Rattle.kahn_streams.specs.declared.value.Value.TheVariants.{Integer, Logical}
 use Rattle.kahn_streams.specs.declared.value.Failure.TheVariants.{Overflow, Division}
-use Rattle.kahn_streams.specs.Arithmetic.{number, truth, fits_64, is_zero, ranged, apply}
-use Rattle.kahn_streams.specs.Script.{Port, Parameter, Printer, Tapes, Script, Give, Fail, Waits, Sends, Turns, Rest, Reached, put, wait_at, play}
-use Rattle.kahn_streams.specs.Meaning.{Store, constant, read, settle, value_of, turns_of, script_of}
-use Rattle.kahn_streams.specs.Inputs.{kind_of_value}
 
 -- ---- stores
 

@@ -1,26 +1,11 @@
 -- The instances of a well wired program keep kinds, and so do the iterates.
-use Rattle.std.proofs.Common.{◌≡◌, ◌≢◌, ℕ, zero, suc, pos, Bool, true, false, cond, List, [], ◌∷◌, ◌++◌, map, Some, refl, sym, ap, ◌∙◌, subst, eqb-true, bytes_eq, slice_get, slice_index_or, if◌then◌else◌}
-use Rattle.std.specs.List.{AllByRecursion}
-use Rattle.std.specs.Map.{lookup}
-use Rattle.kahn_streams.specs.Types.{Name, Kind, Role, Direction, Taking, OneVariable as Variable, Process, Declaration, Argument, Program, Value}
+use Rattle.kahn_streams.proofs.Common.{◌≡◌, ◌≢◌, ℕ, zero, suc, pos, Bool, true, false, cond, List, [], ◌∷◌, ◌++◌, map, Some, refl, sym, ap, ◌∙◌, subst, eqb-true, bytes_eq, slice_get, slice_index_or, if◌then◌else◌, AllByRecursion, lookup, Name, Kind, Role, Direction, Taking, OneVariable as Variable, Process, Declaration, Argument, Program, Value, Inner, Input, Output, In, Out, Number, Scope, place_of, number_of, bytes_of, names_of, body_of, Agrees, entries, Global, IsChannel, IsProcess, declared_of, processes_of, global, Fits, AllFit, IsMade, IsSound, IsWellWired, Hands, Instance, Network, idle, instance_at, actual_at, kind_at, role_at, is_written, any_written, first_writer, source_by, Source, Given, Written, Nobody, channels_of, process_of, actual_of, actuals_of, instance_from, network_of, Channel, Port, Parameter, Printer, Give, Store, script_of, Histories, opening_of, default_of, opening, tape_of, tapes_of, exec_at, goes_to, values_at, out, source, fed, iterate, kind_of_value, AreOfKind, IsListFor, IsInputFor, Lists, inputs_of, AreKinded}
 use Rattle.kahn_streams.specs.declared.tree.Kind.TheVariants as K
-use Rattle.kahn_streams.specs.declared.tree.Role.TheVariants.{Inner, Input, Output}
-use Rattle.kahn_streams.specs.declared.tree.Direction.TheVariants.{In, Out}
 use Rattle.kahn_streams.specs.declared.tree.Taking.TheVariants as T
 use Rattle.kahn_streams.specs.declared.tree.Parameter as P
 use Rattle.kahn_streams.specs.declared.tree.Declaration.TheVariants as D
 use Rattle.kahn_streams.specs.declared.tree.Argument.TheVariants as A
 use Rattle.kahn_streams.specs.declared.tree.Instance as I
-use Rattle.kahn_streams.specs.Syntax.{Number}
-use Rattle.kahn_streams.specs.View.{Scope, place_of, number_of, bytes_of, names_of, body_of}
-use Rattle.kahn_streams.specs.Wiring.{Agrees, entries, Global, IsChannel, IsProcess, declared_of, processes_of, global, Fits, AllFit, IsMade, IsSound, IsWellWired}
-use Rattle.kahn_streams.specs.Network.{Hands, Instance, Network, idle, instance_at, actual_at, kind_at, role_at, is_written, any_written, first_writer, source_by, Source, Given, Written, Nobody, channels_of, process_of, actual_of, actuals_of, instance_from, network_of}
-use Rattle.kahn_streams.specs.declared.value.Line.TheVariants.{Channel}
-use Rattle.kahn_streams.specs.Script.{Port, Parameter, Printer, Give}
-use Rattle.kahn_streams.specs.Meaning.{Store, script_of}
-use Rattle.kahn_streams.specs.Solution.{Histories, opening_of, default_of, opening, tape_of, tapes_of, exec_at, goes_to, values_at, out, source, fed, iterate}
-use Rattle.kahn_streams.specs.Inputs.{kind_of_value, AreOfKind, IsListFor, IsInputFor, Lists, inputs_of}
-use Rattle.kahn_streams.specs.Laws.{AreKinded}
 use Rattle.kahn_streams.proofs.Kinded.{HoldsKind, IsStored, IsTaken, IsSent, IsKept, AreTapesKept, script_kept, play_kept}
 
 all_from : {X : Type 0} (P Q : X → Type 0) → ((x : X) → P x → Q x) → (xs : List X) → AllByRecursion P xs → AllByRecursion Q xs

@@ -25,3 +25,4 @@ pub mod Given_values
 pub mod Entered
 pub mod Fed
 pub mod Few
+pub mod Common

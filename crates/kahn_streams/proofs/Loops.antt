@@ -1,11 +1,5 @@
 -- The rules of the loops, with nothing said of unrolling.
-use Rattle.std.proofs.Common.{◌≡◌, ℕ, suc, true, refl, ap, le_refl, arith}
-use Rattle.kahn_streams.specs.declared.value.Value.TheVariants.{Logical}
-use Rattle.kahn_streams.specs.Syntax.{Expr, Stmt, While, Repeat, Seq, If, Skip}
-use Rattle.kahn_streams.specs.Arithmetic.{truth}
-use Rattle.kahn_streams.specs.Script.{Tapes, Give, after_event}
-use Rattle.kahn_streams.specs.Meaning.{Store, exec}
-use Rattle.kahn_streams.specs.Compose.{LoopsUnroll}
+use Rattle.kahn_streams.proofs.Common.{◌≡◌, ℕ, suc, true, refl, ap, le_refl, arith, Logical, Expr, Stmt, While, Repeat, Seq, If, Skip, truth, Tapes, Give, after_event, Store, exec, LoopsUnroll}
 use Rattle.kahn_streams.proofs.Fuel.{gives, play_alike, alike_by, value_alike, script_alike, turns_alike}
 
 while_turn : (t : Expr) (b : Stmt) (n : ℕ) (s : Store) (T : Tapes) →

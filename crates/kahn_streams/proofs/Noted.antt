@@ -1,11 +1,5 @@
 -- A table of numbers while names are noted in it, one after another.
-use Rattle.std.proofs.Common.{◌≡◌, ℕ, suc, ◌+◌, Bool, true, false, List, [], ◌∷◌, length, Option, None, Some, refl, sym, ap, subst, ◌∙◌, arith, cond, if◌then◌else◌, bytes_eq}
-use Rattle.std.proofs.lemmas.Grind.{common_steps}
-use Rattle.std.proofs.lemmas.Slice.Eq.{bytes_eq-Decides}
-use Rattle.std.specs.Map.{update}
-use Rattle.kahn_streams.specs.Types.{Process}
-use Rattle.kahn_streams.specs.View.{Scope, place_of, names_of}
-use Rattle.kahn_streams.specs.inner.Numbers.{number_in, noted}
+use Rattle.kahn_streams.proofs.Common.{◌≡◌, ℕ, suc, ◌+◌, Bool, true, false, List, [], ◌∷◌, length, Option, None, Some, refl, sym, ap, subst, ◌∙◌, arith, cond, if◌then◌else◌, bytes_eq, common_steps, bytes_eq-Decides, update, Process, Scope, place_of, names_of, number_in, noted}
 
 -- what stands for a name once all these are noted, the first with the number n
 abbrev pub noted_all : Scope → ℕ → List ℕ → Option ℕ → Option ℕ

@@ -1,11 +1,7 @@
 -- The actuals of a network that pass a test, by their places.
-use Rattle.std.proofs.Common.{◌≡◌, ℕ, zero, suc, ◌+◌, ◌<◌, Bool, true, false, cond, ◌⊎◌, inl, inr, List, [], ◌∷◌, ◌++◌, length, Option, None, Some, refl, ap, sym, ◌∙◌, subst, arith}
+use Rattle.kahn_streams.proofs.Common.{◌≡◌, ℕ, zero, suc, ◌+◌, ◌<◌, Bool, true, false, cond, ◌⊎◌, inl, inr, List, [], ◌∷◌, ◌++◌, length, Option, None, Some, refl, ap, sym, ◌∙◌, subst, arith, Network, Instance, Actual, Hands, Source, Written, Nobody, idle, actual_at, first_writer, any_written, is_written, IsWithin, handed_at, IsOnly, first, side_at, Side}
 use Rattle.std.specs.Prelude.{slice_index_or, pos}
 use Rattle.kahn_streams.specs.Syntax as S
-use Rattle.kahn_streams.specs.Network.{Network, Instance, Actual, Hands, Source, Written, Nobody, idle, actual_at, first_writer, any_written, is_written, IsWithin, handed_at, IsOnly}
-use Rattle.kahn_streams.specs.Wires.{first}
-use Rattle.kahn_streams.specs.Wiring.{side_at}
-use Rattle.kahn_streams.specs.Types.{Side}
 use Rattle.kahn_streams.proofs.Handed.{AtMostOne}
 
 -- ---- members of a list

@@ -1,9 +1,5 @@
 -- A run is its steps.
-use mathlib.Core.Path.{fun_ext}
-use Rattle.std.proofs.Common.{◌≡◌, ℕ, zero, suc, ◌==◌, Bool, true, false, List, [], ◌∷◌, ◌++◌, length, refl, sym, ap, ◌∙◌, subst, eqb-true, if◌then◌else◌, append-nil, arith}
-use Rattle.kahn_streams.specs.Types.{Value}
-use Rattle.kahn_streams.specs.Script.{Tapes, Script, Give, Fail, Waits, Sends, Turns, Rest, ScriptOutcome, Dry, Cut, Reached, at_once, after_event, after_send, put, wait_at, play}
-use Rattle.kahn_streams.specs.Steps.{Step, Took, Sent, Turned, Follows, here, took, sent, turned, empty, values_taken, sends_of, and_then, since, halted, RanBy}
+use Rattle.kahn_streams.proofs.Common.{fun_ext, ◌≡◌, ℕ, zero, suc, ◌==◌, Bool, true, false, List, [], ◌∷◌, ◌++◌, length, refl, sym, ap, ◌∙◌, subst, eqb-true, if◌then◌else◌, append-nil, arith, Value, Tapes, Script, Give, Fail, Waits, Sends, Turns, Rest, ScriptOutcome, Dry, Cut, Reached, at_once, after_event, after_send, put, wait_at, play, Step, Took, Sent, Turned, Follows, here, took, sent, turned, empty, values_taken, sends_of, and_then, since, halted, RanBy}
 use Rattle.kahn_streams.proofs.Framed.{and_more}
 use Rattle.kahn_streams.proofs.Fuel.{Alike, gives, fails, waits_last, waits, sends_last, sends, turns_last, turns}
 

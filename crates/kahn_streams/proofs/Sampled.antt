@@ -1,21 +1,8 @@
 -- The history on X of the sample network.
-use Rattle.std.proofs.Common.{◌≡◌, ℕ, zero, suc, ◌+◌, ◌*◌, ◌-◌, ◌%◌, ◌≤◌, true, List, [], ◌∷◌, ◌++◌, length, refl, sym, ap, ◌∙◌, subst, slice_get, Some, pos, arith}
-use mathlib.Core.Path.{fun_ext}
-use Rattle.kahn_streams.specs.Types.{Value, Line}
-use Rattle.kahn_streams.specs.declared.value.Value.TheVariants.{Integer, Logical}
-use Rattle.kahn_streams.specs.declared.value.Line.TheVariants.{Channel}
-use Rattle.kahn_streams.specs.Script.{Parameter, Printer, Tapes, Script, Give, play}
-use Rattle.kahn_streams.specs.Meaning.{Store, turns_of, script_of}
-use Rattle.kahn_streams.specs.Steps.{Step, Took, Sent, Turned, Follows, here, took, sent, turned, values_taken, sends_of, and_then}
-use Rattle.kahn_streams.specs.Network.{Network, instance_at, Written}
-use Rattle.kahn_streams.specs.Solution.{Histories, tapes_of, out, values_at, goes_to, iterate, IsPrefix, Stands, source}
+use Rattle.kahn_streams.proofs.Common.{◌≡◌, ℕ, zero, suc, ◌+◌, ◌*◌, ◌-◌, ◌%◌, ◌≤◌, true, List, [], ◌∷◌, ◌++◌, length, refl, sym, ap, ◌∙◌, subst, slice_get, Some, pos, arith, fun_ext, Value, Line, Integer, Logical, Channel, Parameter, Printer, Tapes, Script, Give, play, Store, turns_of, script_of, Step, Took, Sent, Turned, Follows, here, took, sent, turned, values_taken, sends_of, and_then, Network, instance_at, Written, Histories, tapes_of, out, values_at, goes_to, iterate, IsPrefix, Stands, source, le-max_left, le-max_right, max, ne_eqb, ◌==◌, if◌then◌else◌}
 use Rattle.kahn_streams.specs.Syntax as S
-use Rattle.kahn_streams.proofs.Proved.{values_append, prefix_trans, prefix_get, script_at, solves, one_value, iterates_rise}
-use Rattle.std.proofs.Math.Nat.{le-max_left, le-max_right}
-use Rattle.std.proofs.Common.{max, ne_eqb, ◌==◌, if◌then◌else◌}
+use Rattle.kahn_streams.proofs.{Proved.values_append, Proved.prefix_trans, Proved.prefix_get, Proved.script_at, Proved.solves, Proved.one_value, Proved.iterates_rise, Runs.play_on, Runs.follows_append, Framed.and_more}
 use Rattle.kahn_streams.specs.Sample.{no_input, f_turn, g_turn, h_turn, sample_network, Sample}
-use Rattle.kahn_streams.proofs.Runs.{play_on, follows_append}
-use Rattle.kahn_streams.proofs.Framed.{and_more}
 
 abbrev number : ℕ → Value
 number n = Integer (pos n)

@@ -1,25 +1,14 @@
 -- The sides of a channel by names and by numbers.
-use Rattle.std.proofs.Common.{◌≡◌, ℕ, suc, ◌<◌, Bool, true, false, cond, List, [], ◌∷◌, ◌++◌, map, length, Some, refl, ap, sym, ◌∙◌, subst, arith, bytes_eq}
+use Rattle.kahn_streams.proofs.Common.{◌≡◌, ℕ, suc, ◌<◌, Bool, true, false, cond, List, [], ◌∷◌, ◌++◌, map, length, Some, refl, ap, sym, ◌∙◌, subst, arith, bytes_eq, AllByRecursion, length-map, get_or_from_slice_get, Name, Kind, Role, Direction, Taking, Argument, Program, Side, Inner, Input, Output, In, Out, Scope, place_of, bytes_of, Actual, Reads, Writes, Hands, is_written, actual_of, actuals_of, channels_of, process_of, instance_from, network_of, channel_source, source_by, role_at, kind_at, first_writer, IsWriter, IsReader, IsOnly, HasOne, HasNone, IsServed, source_of, channel_names, first, Handover, declared_channels, handed, handed_in, handed_by, handed_from, parameters_of, ends, writers, readers, IsOne, IsWired, IsMade, IsWellWired, side_at}
 use Rattle.std.specs.Prelude.{slice_get, ◌==◌}
-use Rattle.std.specs.List.{AllByRecursion}
 use Rattle.std.proofs.lemmas.Bool.{eq-eqb}
-use Rattle.std.proofs.lemmas.List.{length-map}
-use Rattle.std.proofs.lemmas.Option.{get_or_from_slice_get}
-use Rattle.kahn_streams.specs.Types.{Name, Kind, Role, Direction, Taking, Parameter, Argument, Instance, Program, Side}
+use Rattle.kahn_streams.specs.Types.{Parameter, Instance}
 use Rattle.kahn_streams.specs.declared.tree.Kind.TheVariants as K
-use Rattle.kahn_streams.specs.declared.tree.Role.TheVariants.{Inner, Input, Output}
-use Rattle.kahn_streams.specs.declared.tree.Direction.TheVariants.{In, Out}
 use Rattle.kahn_streams.specs.declared.tree.Taking.TheVariants as T
 use Rattle.kahn_streams.specs.declared.tree.Argument.TheVariants as A
-use Rattle.kahn_streams.specs.View.{Scope, place_of, bytes_of}
-use Rattle.kahn_streams.specs.Network.{Actual, Reads, Writes, Hands, is_written, actual_of, actuals_of, channels_of, process_of, instance_from, network_of, channel_source, source_by, role_at, kind_at, first_writer, IsWriter, IsReader, IsOnly, HasOne, HasNone, IsServed, source_of, channel_names}
 use Rattle.kahn_streams.specs.Network as N
-use Rattle.kahn_streams.specs.Wires.{first}
-use Rattle.kahn_streams.specs.Wiring.{Handover, declared_channels, handed, handed_in, handed_by, handed_from, parameters_of, ends, writers, readers, IsOne, IsWired, IsMade, IsWellWired, side_at}
-use Rattle.kahn_streams.proofs.Handed.{ends_append}
+use Rattle.kahn_streams.proofs.{Handed.ends_append, Picked.picks, Picked.picked, Picked.Passes, Picked.only, Picked.only_as, Picked.first_source, Picked.first_picked, By_number.all_at, By_number.there, By_number.mapped, By_number.the_process, By_number.channels_same, By_number.distinct_channels, By_number.number_test}
 use Rattle.kahn_streams.proofs.Handed as Handed
-use Rattle.kahn_streams.proofs.Picked.{picks, picked, Passes, only, only_as, first_source, first_picked}
-use Rattle.kahn_streams.proofs.By_number.{all_at, there, mapped, the_process, channels_same, distinct_channels, number_test}
 
 -- ---- a test for each direction
 

@@ -1,16 +1,7 @@
 -- Where the values of each channel come from that is handed to an instance of a well wired program.
-use Rattle.std.proofs.Common.{arith, ◌≡◌, inl, inr, ℕ, zero, suc, ◌<◌, ◌≤◌, length, Option, Some, None, refl, sym, ap, ◌∙◌, subst, slice_get, pos}
-use Rattle.std.proofs.lemmas.Option.{slice_get-get_or}
-use Rattle.std.proofs.lemmas.List.{get_or_past}
-use Rattle.kahn_streams.specs.Types.{Program, Role, Side}
-use Rattle.kahn_streams.specs.declared.tree.Role.TheVariants.{Inner, Input, Output}
-use Rattle.kahn_streams.specs.Syntax.{Number}
-use Rattle.kahn_streams.specs.Network.{Network, Instance, Actual, Reads, Writes, Hands, network_of, instance_at, actual_at, role_at, idle, Given, Written, first_writer, source_by, channel_source, IsWithin, IsWriter, IsReader, IsOnly, HasOne, IsServed, IsListed, IsFit, source_of}
+use Rattle.kahn_streams.proofs.Common.{arith, ◌≡◌, inl, inr, ℕ, zero, suc, ◌<◌, ◌≤◌, length, Option, Some, None, refl, sym, ap, ◌∙◌, subst, slice_get, pos, slice_get-get_or, get_or_past, Program, Role, Side, Inner, Input, Output, Number, Network, Instance, Actual, Reads, Writes, Hands, network_of, instance_at, actual_at, role_at, idle, Given, Written, first_writer, source_by, channel_source, IsWithin, IsWriter, IsReader, IsOnly, HasOne, IsServed, IsListed, IsFit, source_of, IsWellWired}
 use Rattle.kahn_streams.specs.inner.Sources.{HasSender, IsFed}
-use Rattle.kahn_streams.specs.Wiring.{IsWellWired}
-use Rattle.kahn_streams.proofs.Fitted.{instances_fit}
-use Rattle.kahn_streams.proofs.By_number.{all_at}
-use Rattle.kahn_streams.proofs.Sided.{one_writer, sourced, declared_there, channel_served}
+use Rattle.kahn_streams.proofs.{Fitted.instances_fit, By_number.all_at, Sided.one_writer, Sided.sourced, Sided.declared_there, Sided.channel_served}
 
 below : (q n : ℕ) → (n ≤ q → ⊥) → q < n
 below q zero h = absurd (h (omega arith))

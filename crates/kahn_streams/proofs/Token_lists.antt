@@ -1,11 +1,6 @@
 -- Lists of tokens.
-use Rattle.std.proofs.Common.{◌≡◌, ℕ, zero, suc, ◌+◌, List, [], ◌∷◌, ◌++◌, length, Some, slice_get, ◌∙◌, arith, subst}
-use Rattle.std.proofs.Math.Nat.{suc-add, add-suc, zero-add, add-zero}
-use Rattle.std.proofs.Math.Logic.{∥∥₁_prop}
-use mathlib.Core.HLevel.{is_prop→PathP}
-use Rattle.kahn_streams.specs.Types.{Line, Program}
-use Rattle.kahn_streams.specs.declared.token.Token.{Token}
-use Rattle.kahn_streams.specs.Inputs.{Lists, Holds}
+use Rattle.kahn_streams.proofs.Common.{◌≡◌, ℕ, zero, suc, ◌+◌, List, [], ◌∷◌, ◌++◌, length, Some, slice_get, ◌∙◌, arith, subst, add-suc, add-zero, ∥∥₁_prop, is_prop→PathP, Line, Program, Token, Lists, Holds}
+use Rattle.std.proofs.Math.Nat.{suc-add, zero-add}
 use Rattle.kahn_streams.specs.Tokens.{IsOf, Follow, AllOf, IsRightStream}
 
 pub follow_push : (line : Line) (from : ℕ) (ts : List Token) (t : Token) → Follow line from ts → t.line ≡ line → t.place ≡ from + length ts → Follow line from (ts ++ t ∷ [])

@@ -1,28 +1,13 @@
 -- Believed. The right answer of a run, and what it is asked for: what an answer says of streams, events and ends, for a network, an
 -- input, a bound and a watched channel. It names no schedule. (This project's profile, over the solution of Kahn's paper.)
 use Rattle.std.specs.Prelude.{◌≡◌, ℕ, suc, ◌≤◌, ◌||◌, List, [], ◌∷◌, ◌++◌, length, map, sum_by, Option, Some, slice_get, if◌then◌else◌, ◌==◌, Bool, true, false, None, ◌<◌, ◌↔◌, ◌^◌, string_bytes}
-use Rattle.kahn_streams.specs.Types.{Value, Line, Role, Kind, Program, Config}
-use Rattle.kahn_streams.specs.declared.value.Line.TheVariants.{Channel, Print}
-use Rattle.kahn_streams.specs.Syntax.{prints_in}
-use Rattle.kahn_streams.specs.Script.{Dry}
+use Rattle.kahn_streams.specs.{Types.Value, Types.Line, Types.Role, Types.Kind, Types.Program, Types.Config, declared.value.Line.TheVariants.Channel, declared.value.Line.TheVariants.Print, Syntax.prints_in, Script.Dry, Tokens.token_value, Tokens.IsOwn, declared.answer.Answer.Answer, declared.answer.Stream.Stream, declared.answer.End.End, declared.token.Token.Token, declared.answer.Verdict.Verdict, declared.answer.Verdict.TheVariants.Finished, declared.answer.Verdict.TheVariants.Bound, declared.answer.Verdict.TheVariants.Memory, declared.answer.Outcome.Outcome, declared.answer.Outcome.TheVariants.Ended, declared.answer.Outcome.TheVariants.Waits, declared.answer.Outcome.TheVariants.Faulted, declared.answer.Outcome.TheVariants.More, Inputs.inputs_of, Inputs.Lists, declared.fault.RunFault.RunFault}
 use Rattle.kahn_streams.specs.Solution as net
 use Rattle.kahn_streams.specs.Network.{Network, Instance, Reads, instance_at, actual_at, Given, Written, network_of, channel_names}
 use Rattle.kahn_streams.specs.Solution.{Histories, Inputs, exec_at, out, source, input_list, iterate, IsPrefix, Stands, IsWhole, HasEnd, ending, HasSize, IsExtended}
-use Rattle.kahn_streams.specs.Tokens.{token_value, IsOwn}
-use Rattle.kahn_streams.specs.declared.answer.Answer.{Answer}
-use Rattle.kahn_streams.specs.declared.answer.Stream.{Stream}
-use Rattle.kahn_streams.specs.declared.answer.End.{End}
-use Rattle.kahn_streams.specs.declared.token.Token.{Token}
-use Rattle.kahn_streams.specs.declared.answer.Verdict.{Verdict}
-use Rattle.kahn_streams.specs.declared.answer.Verdict.TheVariants.{Finished, Bound, Memory}
-use Rattle.kahn_streams.specs.declared.answer.Outcome.{Outcome}
-use Rattle.kahn_streams.specs.declared.answer.Outcome.TheVariants.{Ended, Waits, Faulted, More}
 use Rattle.kahn_streams.specs.declared.tree.Role.TheVariants as role
-use Rattle.kahn_streams.specs.Inputs.{inputs_of, Lists}
-use Rattle.kahn_streams.specs.declared.fault.RunFault.{RunFault}
 use Rattle.kahn_streams.specs.declared.fault.RunFault.TheVariants as fault
-use Rattle.std.specs.declared.string.String.{String}
-use Rattle.std.specs.declared.alloc.Global.{Global}
+use Rattle.std.specs.{declared.string.String.String, declared.alloc.Global.Global}
 
 abbrev pub is_output : Role → Bool
 is_output role.Inner = false

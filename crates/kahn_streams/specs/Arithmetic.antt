@@ -2,9 +2,7 @@
 use Rattle.std.specs.Prelude.{◌^◌, ℤ, pos, negsuc, ◌+ℤ◌, ◌-ℤ◌, ◌*ℤ◌, Bool, false, not, ◌&&◌, ◌||◌, nat_lt, int_lt, int_le, int_div, int_rem, Result, Ok, Err, if◌then◌else◌}
 use Rattle.std.proofs.Common.{int_eq}
 use Rattle.std.specs.Bool.{beq}
-use Rattle.kahn_streams.specs.Types.{Value, Failure, Operator}
-use Rattle.kahn_streams.specs.declared.value.Value.TheVariants.{Integer, Logical}
-use Rattle.kahn_streams.specs.declared.value.Failure.TheVariants.{Overflow, Division}
+use Rattle.kahn_streams.specs.{Types.Value, Types.Failure, Types.Operator, declared.value.Value.TheVariants.Integer, declared.value.Value.TheVariants.Logical, declared.value.Failure.TheVariants.Overflow, declared.value.Failure.TheVariants.Division}
 use Rattle.kahn_streams.specs.declared.tree.Operator.TheVariants.{Or, And, Equal, Unequal, Less, AtMost, Greater, Add, Subtract, Multiply, Divide, Remainder}
 
 -- a checked program asks a number only of an integer, and a truth value only of a logical one

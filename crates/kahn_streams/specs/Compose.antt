@@ -1,9 +1,7 @@
 -- Believed. The meaning of a whole by the meanings of its parts, without their continuations.
 use Rattle.std.specs.Prelude.{◌≡◌, ℕ, ◌+◌, ◌-◌, ◌++◌, suc}
-use Rattle.kahn_streams.specs.Types.{Value}
-use Rattle.kahn_streams.specs.Syntax.{Expr, Stmt, While, If, Seq, Skip, Repeat}
+use Rattle.kahn_streams.specs.{Types.Value, Syntax.Expr, Syntax.Stmt, Syntax.While, Syntax.If, Syntax.Seq, Syntax.Skip, Syntax.Repeat, Meaning.Store, Meaning.value_of, Meaning.script_of, Meaning.eval, Meaning.exec}
 use Rattle.kahn_streams.specs.Script.{Tapes, Script, Give, ScriptOutcome, Got, Dry, Fault, Cut, Reached, play, at_once, after_event}
-use Rattle.kahn_streams.specs.Meaning.{Store, value_of, script_of, eval, exec}
 
 -- what was reached, and from there what is reached by f on the tapes and the events that are left
 abbrev pub added : {A B : Type 0} → Reached A → Reached B → Reached B

@@ -1,15 +1,9 @@
 -- Believed. The definitions at work on small networks. Each statement holds by computation.
 use Rattle.std.specs.Prelude.{◌≡◌, true, ℕ, zero, suc, [], ◌∷◌, pos, Some, None}
-use Rattle.kahn_streams.specs.declared.value.Value.TheVariants.{Integer}
-use Rattle.kahn_streams.specs.declared.value.Failure.TheVariants.{Overflow}
-use Rattle.kahn_streams.specs.declared.value.Line.TheVariants.{Channel, Print}
+use Rattle.kahn_streams.specs.{declared.value.Value.TheVariants.Integer, declared.value.Failure.TheVariants.Overflow, declared.value.Line.TheVariants.Channel, declared.value.Line.TheVariants.Print, declared.tree.Role.TheVariants.Inner, declared.tree.Role.TheVariants.Input, declared.tree.Role.TheVariants.Output, Sample.no_input, Sample.g_body, Sample.h_of, Network.Network, Network.Reads, Network.Writes, Network.Hands, Solution.Inputs, Solution.iterate, Solution.exec_at, Solution.ending, Solution.Ended, Solution.Waiting, Solution.Faulted}
 use Rattle.kahn_streams.specs.declared.tree.Kind.TheVariants as KindOf
-use Rattle.kahn_streams.specs.declared.tree.Role.TheVariants.{Inner, Input, Output}
 use Rattle.kahn_streams.specs.declared.tree.Operator.TheVariants as Op
 use Rattle.kahn_streams.specs.Syntax as S
-use Rattle.kahn_streams.specs.Sample.{no_input, g_body, h_of}
-use Rattle.kahn_streams.specs.Network.{Network, Reads, Writes, Hands}
-use Rattle.kahn_streams.specs.Solution.{Inputs, iterate, exec_at, ending, Ended, Waiting, Faulted}
 
 abbrev pub number_literal : ℕ → S.Expr
 number_literal n = S.Literal (S.Number (pos n))

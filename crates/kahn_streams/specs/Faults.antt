@@ -4,32 +4,12 @@ use Rattle.kahn_streams.specs.Wiring.{Locals, is_closed, locals_of, scope_of, en
 use Rattle.std.specs.Prelude.{◌≡◌, ◌⊎◌, ℕ, Bool, true, false, List, [], ◌∷◌, ◌++◌, Option, None, Some, Result, Ok, Err, MatchResult, IsSome, if◌then◌else◌, suc, ◌+◌, map, length, nat_lt, nat_eq}
 use Rattle.std.proofs.Common.{bytes_eq}
 use Rattle.std.specs.Map.{lookup}
-use Rattle.kahn_streams.specs.declared.span.Span.{Span}
-use Rattle.kahn_streams.specs.declared.tree.Name.{Name}
-use Rattle.kahn_streams.specs.declared.tree.Kind.{Kind}
-use Rattle.kahn_streams.specs.declared.tree.Direction.{Direction}
-use Rattle.kahn_streams.specs.declared.tree.Taking.{Taking}
+use Rattle.kahn_streams.specs.{declared.span.Span.Span, declared.tree.Name.Name, declared.tree.Kind.Kind, declared.tree.Direction.Direction, declared.tree.Taking.Taking, declared.tree.Expression.Expression, declared.tree.Statement.Statement, declared.tree.Role.Role, declared.tree.Parameter.Parameter, declared.tree.Process.Process, declared.tree.Declaration.Declaration, declared.tree.Argument.Argument, declared.tree.Instance.Instance, declared.tree.Program.Program, declared.sides.Side.Side, declared.tree.Kind.TheVariants.Integer, declared.tree.Kind.TheVariants.Logical, declared.tree.Direction.TheVariants.In, declared.tree.Direction.TheVariants.Out, declared.tree.Taking.TheVariants.Channel, declared.tree.Taking.TheVariants.Value, View.bytes_of, declared.fault.CheckFault.CheckFault, declared.tree.Role.TheVariants.Inner, declared.tree.Role.TheVariants.Input, declared.tree.Role.TheVariants.Output}
 use Rattle.kahn_streams.specs.declared.tree.Form.{Form, Number, Variable, Wait, Negate', Not', Bracket', Level', Conditional', Row_of-Operand, end_of-Operand, more_of-Operand}
-use Rattle.kahn_streams.specs.declared.tree.Expression.{Expression}
 use Rattle.kahn_streams.specs.declared.tree.Action.{Action, Empty, Assign, Send, Print, Block', If', While', Repeat', Row_of-Statement, end_of-Statement, more_of-Statement, Held-Action-If-2, None', Some'}
-use Rattle.kahn_streams.specs.declared.tree.Statement.{Statement}
-use Rattle.kahn_streams.specs.declared.tree.Role.{Role}
-use Rattle.kahn_streams.specs.declared.tree.Parameter.{Parameter}
-use Rattle.kahn_streams.specs.declared.tree.Process.{Process}
-use Rattle.kahn_streams.specs.declared.tree.Declaration.{Declaration}
-use Rattle.kahn_streams.specs.declared.tree.Argument.{Argument}
-use Rattle.kahn_streams.specs.declared.tree.Instance.{Instance}
-use Rattle.kahn_streams.specs.declared.tree.Program.{Program}
-use Rattle.kahn_streams.specs.declared.sides.Side.{Side}
-use Rattle.kahn_streams.specs.declared.tree.Kind.TheVariants.{Integer, Logical}
-use Rattle.kahn_streams.specs.declared.tree.Direction.TheVariants.{In, Out}
-use Rattle.kahn_streams.specs.declared.tree.Taking.TheVariants.{Channel, Value}
 use Rattle.kahn_streams.specs.declared.tree.Form as F
-use Rattle.kahn_streams.specs.View.{bytes_of}
-use Rattle.kahn_streams.specs.declared.fault.CheckFault.{CheckFault}
 use Rattle.kahn_streams.specs.declared.fault.CheckFault.TheVariants.{DeclaredTwice, Unknown, WrongKind, ChannelExpected, ValueExpected, WrongDirection, NoMemory, WrongCount, NoWriter, TwoWriters, NoReader, TwoReaders, TooMany}
 use Rattle.kahn_streams.specs.declared.tree.Kind.TheVariants as K
-use Rattle.kahn_streams.specs.declared.tree.Role.TheVariants.{Inner, Input, Output}
 use Rattle.kahn_streams.specs.declared.tree.Taking.TheVariants as T
 use Rattle.kahn_streams.specs.declared.tree.Declaration.TheVariants as D
 use Rattle.kahn_streams.specs.declared.tree.Argument.TheVariants as A

@@ -1,10 +1,6 @@
 -- Believed. Values that are appended to an input (this project's profile).
 use Rattle.std.specs.Prelude.{◌≡◌, ℕ, ◌+◌, ◌<◌, ◌≤◌, ◌==◌, List, [], ◌∷◌, ◌++◌, length, if◌then◌else◌, MatchResult, Result}
-use Rattle.kahn_streams.specs.Types.{Program, Value, FeedFault}
-use Rattle.kahn_streams.specs.declared.tree.Role.TheVariants.{Input}
-use Rattle.kahn_streams.specs.Network.{network_of, kind_at, role_at, channel_names}
-use Rattle.kahn_streams.specs.declared.feeds.FeedFault.TheVariants.{UnknownName, NotAnInput, WrongKind, TooMany, NoMemory}
-use Rattle.kahn_streams.specs.Inputs.{AllHold, Entry, FailsFirst, channel_of, most_values, AreOfKind, Lists, inputs_of}
+use Rattle.kahn_streams.specs.{Types.Program, Types.Value, Types.FeedFault, declared.tree.Role.TheVariants.Input, Network.network_of, Network.kind_at, Network.role_at, Network.channel_names, declared.feeds.FeedFault.TheVariants.UnknownName, declared.feeds.FeedFault.TheVariants.NotAnInput, declared.feeds.FeedFault.TheVariants.WrongKind, declared.feeds.FeedFault.TheVariants.TooMany, declared.feeds.FeedFault.TheVariants.NoMemory, Inputs.AllHold, Inputs.Entry, Inputs.FailsFirst, Inputs.channel_of, Inputs.most_values, Inputs.AreOfKind, Inputs.Lists, Inputs.inputs_of}
 
 -- what the entry has to be, in this order: its name that of an input channel, and its values of the channel's kind
 abbrev pub asked_of_feed : Program → Entry → List (Type 0 × FeedFault)

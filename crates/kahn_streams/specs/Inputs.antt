@@ -2,18 +2,9 @@
 -- names of channels, each with the values that it is fed. Which entries are refused, and which list a channel gets, are this
 -- project's profile.
 use Rattle.std.specs.Prelude.{ℕ, List, [], slice_index_or, ◌≡◌, ◌≢◌, length, ◌⊎◌, ◌+◌, ◌<◌, ◌≤◌, ◌==◌, Bool, true, false, ◌∷◌, take, Some, slice_get, string_bytes, if◌then◌else◌}
-use Rattle.kahn_streams.specs.Types.{Program, Value, Line, Kind, InputFault}
-use Rattle.kahn_streams.specs.Network.{network_of, Network, kind_at, role_at, channel_names}
-use Rattle.kahn_streams.specs.Solution.{Inputs, Stands}
-use Rattle.std.specs.List.{AllByRecursion}
+use Rattle.kahn_streams.specs.{Types.Program, Types.Value, Types.Line, Types.Kind, Types.InputFault, Network.network_of, Network.Network, Network.kind_at, Network.role_at, Network.channel_names, Solution.Inputs, Solution.Stands, declared.tree.Role.TheVariants.Input, declared.value.Value.TheVariants.Integer, declared.value.Value.TheVariants.Logical, View.place_of, declared.entries.InputFault.TheVariants.UnknownName, declared.entries.InputFault.TheVariants.NotAnInput, declared.entries.InputFault.TheVariants.GivenTwice, declared.entries.InputFault.TheVariants.WrongKind, declared.entries.InputFault.TheVariants.TooMany, declared.entries.InputFault.TheVariants.NoMemory}
+use Rattle.std.specs.{List.AllByRecursion, declared.string.String.String, declared.vec.Vec.Vec, declared.alloc.Global.Global}
 use Rattle.kahn_streams.specs.declared.tree.Kind.TheVariants as KindOf
-use Rattle.kahn_streams.specs.declared.tree.Role.TheVariants.{Input}
-use Rattle.kahn_streams.specs.declared.value.Value.TheVariants.{Integer, Logical}
-use Rattle.std.specs.declared.string.String.{String}
-use Rattle.std.specs.declared.vec.Vec.{Vec}
-use Rattle.std.specs.declared.alloc.Global.{Global}
-use Rattle.kahn_streams.specs.View.{place_of}
-use Rattle.kahn_streams.specs.declared.entries.InputFault.TheVariants.{UnknownName, NotAnInput, GivenTwice, WrongKind, TooMany, NoMemory}
 
 -- the lists of an input, one for each channel in order of declaration
 abbrev pub Lists : Type 0

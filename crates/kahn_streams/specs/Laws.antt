@@ -1,13 +1,8 @@
 -- Believed. The laws of the meaning.
 use Rattle.std.specs.Prelude.{◌≡◌, ◌≤◌, ℕ, suc, ◌+◌, max, List, ◌++◌, slice_get, Some}
-use Rattle.kahn_streams.specs.Types.{Value, Line}
+use Rattle.kahn_streams.specs.{Types.Value, Types.Line, Meaning.Store, Meaning.script_of, Meaning.exec, Syntax.Stmt, Inputs.AreOfKind, Network.kind_at, Network.Network, Network.Instance, Network.Reads, Network.actual_at, Network.instance_at, Network.Given, Network.Written, declared.value.Line.TheVariants.Channel}
 use Rattle.kahn_streams.specs.Script.{Give, Tapes, play, Port, ScriptOutcome, Got, Dry, Fault, Cut, Reached}
-use Rattle.kahn_streams.specs.Meaning.{Store, script_of, exec}
-use Rattle.kahn_streams.specs.Syntax.{Stmt}
-use Rattle.kahn_streams.specs.Inputs.{AreOfKind}
-use Rattle.kahn_streams.specs.Network.{kind_at, Network, Instance, Reads, actual_at, instance_at, Given, Written}
 use Rattle.kahn_streams.specs.Solution.{Histories, Inputs, tapes_of, exec_at, out, source, input_list, iterate, opening, IsPrefix, Stands, IsWhole, HasEnd, HasSize, Ending, ending, IsExtended, AreInputsExtended}
-use Rattle.kahn_streams.specs.declared.value.Line.TheVariants.{Channel}
 
 -- each iterate is a prefix of the next
 abbrev pub IsChain : Network → Inputs → Type 0

@@ -1,8 +1,6 @@
 -- Believed. What the instances of a program are made of.
 use Rattle.std.specs.Prelude.{◌≡◌, ℕ, List, Some, slice_get}
-use Rattle.kahn_streams.specs.Types.{Process, Argument, Instance, Program}
-use Rattle.kahn_streams.specs.View.{bytes_of}
-use Rattle.kahn_streams.specs.Network.{process_of}
+use Rattle.kahn_streams.specs.{Types.Process, Types.Argument, Types.Instance, Types.Program, View.bytes_of, Network.process_of}
 
 -- instance p of the program names that process, which the program declares, and has these arguments
 abbrev pub IsMadeOf : Program → ℕ → Process → List Argument → Type 0

@@ -1,9 +1,7 @@
 -- Believed. The meaning of expressions and statements, by cases on the syntax. `next` is what is done with the result.
 use Rattle.std.specs.Prelude.{ℕ, zero, suc, true, false, not, neg_ℤ, List, Result, Ok, Err, slice_index_or, slice_set, pos}
-use Rattle.kahn_streams.specs.Types.{Value, Failure}
-use Rattle.kahn_streams.specs.declared.value.Value.TheVariants.{Integer, Logical}
+use Rattle.kahn_streams.specs.{Types.Value, Types.Failure, declared.value.Value.TheVariants.Integer, declared.value.Value.TheVariants.Logical, Arithmetic.number, Arithmetic.truth, Arithmetic.ranged, Arithmetic.apply}
 use Rattle.kahn_streams.specs.Syntax.{Constant, Number, Truth, Expr, Literal, Variable, Wait, Negate, Not, Binary, Conditional, Stmt, Skip, Assign, Send, Print, Seq, If, While, Repeat}
-use Rattle.kahn_streams.specs.Arithmetic.{number, truth, ranged, apply}
 use Rattle.kahn_streams.specs.Script.{Parameter, Printer, Tapes, Script, Give, Fail, Waits, Sends, Turns, Rest, Reached, play}
 
 -- the values of a process's names

@@ -5,16 +5,12 @@ use Rattle.std.specs.Prelude.{ℕ, suc, List, [], ◌∷◌, ◌++◌, map, Opti
 use Rattle.std.proofs.Common.{bytes_eq}
 use Rattle.kahn_streams.specs.Types.{Kind, Role, Taking, Parameter, Process, Declaration, Argument, Program, Side}
 use Rattle.kahn_streams.specs.declared.tree.Kind.TheVariants as KindOf
-use Rattle.kahn_streams.specs.declared.tree.Role.TheVariants.{Inner, Input, Output}
-use Rattle.kahn_streams.specs.declared.tree.Direction.TheVariants.{In, Out}
+use Rattle.kahn_streams.specs.{declared.tree.Role.TheVariants.Inner, declared.tree.Role.TheVariants.Input, declared.tree.Role.TheVariants.Output, declared.tree.Direction.TheVariants.In, declared.tree.Direction.TheVariants.Out, Syntax.Stmt, View.Scope, View.number_of, View.bytes_of, View.names_of, View.body_of, Wiring.constant_kind, Wiring.Agrees}
 use Rattle.kahn_streams.specs.declared.tree.Taking.TheVariants as T
 use Rattle.kahn_streams.specs.declared.tree.Declaration.TheVariants as D
 use Rattle.kahn_streams.specs.declared.tree.Argument.TheVariants as A
 use Rattle.kahn_streams.specs.Syntax as S
-use Rattle.kahn_streams.specs.Syntax.{Stmt}
-use Rattle.kahn_streams.specs.View.{Scope, number_of, bytes_of, names_of, body_of}
 use Rattle.std.specs.List.{AllByRecursion}
-use Rattle.kahn_streams.specs.Wiring.{constant_kind, Agrees}
 
 -- what an instance hands to a parameter: a channel to read, a channel to write, or a value
 pub data Actual : Type 0 where

@@ -1,9 +1,7 @@
 -- Believed. Which processes print, reached or not.
 use Rattle.std.specs.Prelude.{Bool, false}
-use Rattle.kahn_streams.specs.Types.{Declaration, Process}
+use Rattle.kahn_streams.specs.{Types.Declaration, Types.Process, Syntax.prints_in, View.body_of, View.names_of}
 use Rattle.kahn_streams.specs.declared.tree.Declaration.TheVariants as D
-use Rattle.kahn_streams.specs.Syntax.{prints_in}
-use Rattle.kahn_streams.specs.View.{body_of, names_of}
 
 abbrev pub process_prints : Process → Bool
 process_prints p = prints_in (body_of (names_of p) p.statements.items)

@@ -1,14 +1,9 @@
 -- Believed. The network of the sample text as its text gives it, statement for statement and the empty ones too: its history on X is
 -- 0 1 0 1 and so on.
 use Rattle.std.specs.Prelude.{ℕ, [], ◌∷◌, pos, ◌%◌, ◌↔◌, ◌≡◌, true}
-use Rattle.kahn_streams.specs.Types.{Value}
-use Rattle.kahn_streams.specs.declared.value.Value.TheVariants.{Integer}
-use Rattle.kahn_streams.specs.declared.value.Line.TheVariants.{Channel}
+use Rattle.kahn_streams.specs.{Types.Value, declared.value.Value.TheVariants.Integer, declared.value.Line.TheVariants.Channel, declared.tree.Role.TheVariants.Inner, Network.Network, Network.Instance, Network.Reads, Network.Writes, Network.Hands, Solution.Inputs, Solution.Stands}
 use Rattle.kahn_streams.specs.declared.tree.Kind.TheVariants as KindOf
-use Rattle.kahn_streams.specs.declared.tree.Role.TheVariants.{Inner}
 use Rattle.kahn_streams.specs.Syntax as S
-use Rattle.kahn_streams.specs.Network.{Network, Instance, Reads, Writes, Hands}
-use Rattle.kahn_streams.specs.Solution.{Inputs, Stands}
 
 abbrev pub no_input : Inputs
 no_input c = []

@@ -2,13 +2,10 @@
 -- as the limit of the iterates that start from empty histories (Kahn's paper, section 3). Events, ends and the
 -- size are this project's profile.
 use Rattle.std.specs.Prelude.{◌≡◌, ℕ, zero, suc, ◌+◌, ◌≤◌, ◌==◌, Bool, false, List, [], ◌∷◌, ◌++◌, map, Option, Some, None, pos, if◌then◌else◌, slice_get}
-use Rattle.kahn_streams.specs.Types.{Value, Failure, Line, Kind}
-use Rattle.kahn_streams.specs.declared.value.Value.TheVariants.{Integer, Logical}
-use Rattle.kahn_streams.specs.declared.value.Line.TheVariants.{Channel, Print}
+use Rattle.kahn_streams.specs.{Types.Value, Types.Failure, Types.Line, Types.Kind, declared.value.Value.TheVariants.Integer, declared.value.Value.TheVariants.Logical, declared.value.Line.TheVariants.Channel, declared.value.Line.TheVariants.Print, Meaning.Store, Meaning.constant, Meaning.exec}
 use Rattle.kahn_streams.specs.declared.tree.Kind.TheVariants as KindOf
 use Rattle.kahn_streams.specs.Network.{Actual, Instance, Network, Reads, Writes, Hands, instance_at, actual_at, is_written, Source, Given, Written, Nobody, channel_source}
 use Rattle.kahn_streams.specs.Script.{Port, Parameter, Printer, Tapes, ScriptOutcome, Got, Dry, Fault, Cut, Reached}
-use Rattle.kahn_streams.specs.Meaning.{Store, constant, exec}
 
 -- a history for each line
 abbrev pub Histories : Type 0

@@ -1,11 +1,7 @@
 -- Believed. What contracts say of tokens and of lists of them. A token is a value with its place on its line (this project's profile);
 -- that its value stands there in the least solution is what its type keeps.
 use Rattle.std.specs.Prelude.{ℕ, List, [], ◌≡◌, suc, ◌∷◌, Some, slice_get}
-use Rattle.kahn_streams.specs.Types.{Program, Value, Line}
-use Rattle.kahn_streams.specs.Network.{network_of, Network}
-use Rattle.kahn_streams.specs.Solution.{Inputs, AreInputsExtended}
-use Rattle.kahn_streams.specs.declared.token.Token.{Token}
-use Rattle.kahn_streams.specs.Inputs.{Holds, Lists, inputs_of}
+use Rattle.kahn_streams.specs.{Types.Program, Types.Value, Types.Line, Network.network_of, Network.Network, Solution.Inputs, Solution.AreInputsExtended, declared.token.Token.Token, Inputs.Holds, Inputs.Lists, Inputs.inputs_of}
 
 -- the value alone
 abbrev pub token_value : Token → Value

@@ -1,11 +1,7 @@
 -- Believed. The tables of a network, as its program has them.
 use Rattle.std.specs.Prelude.{◌≡◌, ℕ, List, [], ◌∷◌, map, Option, None, Some, slice_get, string_bytes}
-use Rattle.kahn_streams.specs.Types.{Name, Kind, Role, Process, Declaration, Program, Side}
+use Rattle.kahn_streams.specs.{Types.Name, Types.Kind, Types.Role, Types.Process, Types.Declaration, Types.Program, Types.Side, View.bytes_of, Network.process_of, Wiring.declared_channels, Wiring.writers, Wiring.readers, Wiring.IsWellWired, declared.wires.Wire.Wire}
 use Rattle.kahn_streams.specs.declared.tree.Declaration.TheVariants as D
-use Rattle.kahn_streams.specs.View.{bytes_of}
-use Rattle.kahn_streams.specs.Network.{process_of}
-use Rattle.kahn_streams.specs.Wiring.{declared_channels, writers, readers, IsWellWired}
-use Rattle.kahn_streams.specs.declared.wires.Wire.{Wire}
 
 -- a channel's name, kind and role, its writer and its reader
 abbrev pub Line : Type 0

@@ -2,21 +2,15 @@
 -- and direction: a relation by cases on the abstract syntax.
 use Rattle.std.specs.Prelude.{◌≡◌, List, Option, None, Some, slice_get, ℕ, suc, ◌≤◌, Bool, true, false, ◌&&◌, [], ◌∷◌, ◌++◌, map, length, if◌then◌else◌}
 use Rattle.kahn_streams.specs.Types.{Kind, Operator, Taking, Name, Role, Direction, Parameter, Process, Declaration, Argument, Instance, Program, Side}
-use Rattle.kahn_streams.specs.declared.tree.Kind.TheVariants.{Integer, Logical}
+use Rattle.kahn_streams.specs.{declared.tree.Kind.TheVariants.Integer, declared.tree.Kind.TheVariants.Logical, declared.tree.Direction.TheVariants.In, declared.tree.Direction.TheVariants.Out, declared.tree.Taking.TheVariants.Channel, declared.tree.Taking.TheVariants.Value, Syntax.Constant, Syntax.Expr, Syntax.Stmt, declared.tree.Role.TheVariants.Inner, declared.tree.Role.TheVariants.Input, declared.tree.Role.TheVariants.Output, View.bytes_of, View.body_of}
 use Rattle.kahn_streams.specs.declared.tree.Operator.TheVariants.{Or, And, Equal, Unequal, Less, AtMost, Greater, AtLeast, Add, Subtract, Multiply, Divide, Remainder}
-use Rattle.kahn_streams.specs.declared.tree.Direction.TheVariants.{In, Out}
-use Rattle.kahn_streams.specs.declared.tree.Taking.TheVariants.{Channel, Value}
 use Rattle.kahn_streams.specs.Syntax as S
-use Rattle.kahn_streams.specs.Syntax.{Constant, Expr, Stmt}
 use Rattle.std.proofs.Common.{bytes_eq}
-use Rattle.std.specs.Map.{lookup}
-use Rattle.std.specs.List.{IsDistinct, AllByRecursion}
+use Rattle.std.specs.{Map.lookup, List.IsDistinct, List.AllByRecursion}
 use Rattle.kahn_streams.specs.declared.tree.Kind.TheVariants as K
-use Rattle.kahn_streams.specs.declared.tree.Role.TheVariants.{Inner, Input, Output}
 use Rattle.kahn_streams.specs.declared.tree.Taking.TheVariants as T
 use Rattle.kahn_streams.specs.declared.tree.Declaration.TheVariants as D
 use Rattle.kahn_streams.specs.declared.tree.Argument.TheVariants as A
-use Rattle.kahn_streams.specs.View.{bytes_of, body_of}
 
 -- the kind that an operator takes; nothing if it takes two operands of any one kind
 abbrev pub takes : Operator → Option Kind

@@ -4,8 +4,7 @@
 //! place. Contracts see the token, so the one that comes out has the same fact as the one that went in.
 
 ghost use Rattle.std.specs.Prelude.{◌≡◌, ◌<◌, ◌^◌};
-ghost use Rattle.kahn_streams.specs.Inputs.{Holds, Names};
-ghost use Rattle.kahn_streams.specs.declared.token.Token.{Token};
+ghost use Rattle.kahn_streams.specs.{Inputs.Holds, Inputs.Names, declared.token.Token.Token};
 
 use crate::about::About;
 use crate::token::Token;

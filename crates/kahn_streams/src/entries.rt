@@ -1,9 +1,7 @@
 //! The entries from which an input is made: names of channels, each with its values.
 
 ghost use Rattle.std.specs.Prelude.{◌≡◌, ◌↔◌, IsTrue, MatchOption, MatchResult, length};
-ghost use Rattle.kahn_streams.specs.Network.{network_of};
-ghost use Rattle.kahn_streams.specs.Inputs.{IsNameOf, IsNoName, AreOfKind};
-ghost use Rattle.kahn_streams.specs.inner.Marked.{IsRefusedAt, IsTakenAt};
+ghost use Rattle.kahn_streams.specs.{Network.network_of, Inputs.IsNameOf, Inputs.IsNoName, Inputs.AreOfKind, inner.Marked.IsRefusedAt, inner.Marked.IsTakenAt};
 
 use crate::memory::NoMemory;
 use crate::network::Network;

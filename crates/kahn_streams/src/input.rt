@@ -1,12 +1,7 @@
 //! The lists that are fed to the input channels.
 
 ghost use Rattle.std.specs.Prelude.{◌≡◌, ◌+◌, ◌++◌, ◌<◌, ◌≤◌, ◌↔◌, if◌then◌else◌, is_ok, IsTrue, IfSome, IfNone, IfOk, IfErr, OnErr, MatchResult, false, length, map, slice_get, slice_index_or, slice_set, [], replicate, vec_capacity};
-ghost use Rattle.kahn_streams.specs.Inputs.{entry_of, most_values, IsInputOf, IsNotMade, IsFirstRefused, IsListFor, IsInputFor, inputs_of};
-ghost use Rattle.kahn_streams.specs.Feeds.{LeavesFed};
-ghost use Rattle.kahn_streams.specs.Solution.{AreInputsExtended};
-ghost use Rattle.kahn_streams.specs.declared.value.Line.TheVariants.{Channel};
-ghost use Rattle.kahn_streams.specs.Network.{network_of, role_at};
-ghost use Rattle.kahn_streams.specs.declared.tree.Role.TheVariants.{Input as InputRole};
+ghost use Rattle.kahn_streams.specs.{Inputs.entry_of, Inputs.most_values, Inputs.IsInputOf, Inputs.IsNotMade, Inputs.IsFirstRefused, Inputs.IsListFor, Inputs.IsInputFor, Inputs.inputs_of, Feeds.LeavesFed, Solution.AreInputsExtended, declared.value.Line.TheVariants.Channel, Network.network_of, Network.role_at, declared.tree.Role.TheVariants.Input as InputRole};
 
 use crate::entries::{InputFault, MOST_VALUES, are_of_kind, channel_for};
 use crate::feeds::{FeedFault, channel_meant};

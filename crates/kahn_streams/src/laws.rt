@@ -1,24 +1,10 @@
 //! The laws of the meaning. Each function does nothing: its contract is the law.
 
-ghost use Rattle.kahn_streams.specs.Compose.{ExpressionsCompose, StatementsCompose, LoopsUnroll};
-ghost use Rattle.kahn_streams.specs.Examples.{Counting, Doubling, Overflowing, Ring, OwnChannel, Alternating, Silent, LimitedSample};
-ghost use Rattle.kahn_streams.specs.Inputs.{IsInputFor, Lists, inputs_of};
+ghost use Rattle.kahn_streams.specs.{Compose.ExpressionsCompose, Compose.StatementsCompose, Compose.LoopsUnroll, Examples.Counting, Examples.Doubling, Examples.Overflowing, Examples.Ring, Examples.OwnChannel, Examples.Alternating, Examples.Silent, Examples.LimitedSample, Inputs.IsInputFor, Inputs.Lists, Inputs.inputs_of, Meaning.Store, Wiring.IsWellWired, Solution.Inputs, Solution.Histories, Solution.Ending, Solution.Stands, Sample.Sample, Script.Script, Script.Tapes, Script.play, Steps.Step, Steps.Follows, Steps.RanBy, Steps.Replays, Syntax.Expr, Syntax.Stmt, declared.tree.Program.Program, declared.value.Line.Line, declared.value.Value.Value, declared.tree.Role.TheVariants.Input, inner.Sources.IsFed, inner.Sources.IsSentBy, inner.Sources.OutputsHaveSenders};
 ghost use Rattle.kahn_streams.specs.Laws.{AreIteratesKinded, IsChain, HasOneValue, IsSolved, IsSolution, IsBelow, Frame, IsQuiet, IsSettled, SendsStand, InputsGrow, RunsDryAtReads, IsCounted, IsUnrolled, SaysSoAgain, IsDetermined};
-ghost use Rattle.kahn_streams.specs.Meaning.{Store};
 ghost use Rattle.kahn_streams.specs.Network.{Network, network_of, Given, Reads, Writes, actual_at, channel_source, instance_at, role_at, IsServed, IsFit};
-ghost use Rattle.kahn_streams.specs.Wiring.{IsWellWired};
-ghost use Rattle.kahn_streams.specs.Solution.{Inputs, Histories, Ending, Stands};
-ghost use Rattle.kahn_streams.specs.Sample.{Sample};
-ghost use Rattle.kahn_streams.specs.Script.{Script, Tapes, play};
-ghost use Rattle.kahn_streams.specs.Steps.{Step, Follows, RanBy, Replays};
-ghost use Rattle.kahn_streams.specs.Syntax.{Expr, Stmt};
-ghost use Rattle.kahn_streams.specs.declared.tree.Program.{Program};
-ghost use Rattle.kahn_streams.specs.declared.value.Line.{Line};
-ghost use Rattle.kahn_streams.specs.declared.value.Value.{Value};
 ghost use Rattle.std.specs.Prelude.{ℕ, List, ◌≡◌, ◌<◌, length};
-ghost use Rattle.kahn_streams.specs.declared.tree.Role.TheVariants.{Input};
 ghost use Rattle.std.specs.List.{AllByRecursion};
-ghost use Rattle.kahn_streams.specs.inner.Sources.{IsFed, IsSentBy, OutputsHaveSenders};
 
 /// Each iterate is a prefix of the next.
 pub fn chain()

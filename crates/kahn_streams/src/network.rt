@@ -1,11 +1,8 @@
 //! A checked network.
 
 ghost use Rattle.std.specs.Prelude.{◌≡◌, ◌<◌, Some, length, slice_get, slice_index_or, ℕ};
-ghost use Rattle.kahn_streams.specs.View.{bytes_of};
-ghost use Rattle.kahn_streams.specs.Made.{IsMadeOf};
+ghost use Rattle.kahn_streams.specs.{View.bytes_of, Made.IsMadeOf, Wires.IsKept, Wires.process_at, Wiring.IsWellWired};
 ghost use Rattle.kahn_streams.specs.Network.{network_of, instance_at, instance_from, kind_at, role_at, channel_source, process_of, IsOnly, IsWriter, IsReader, source_of, channel_names};
-ghost use Rattle.kahn_streams.specs.Wires.{IsKept, process_at};
-ghost use Rattle.kahn_streams.specs.Wiring.{IsWellWired};
 
 use crate::sides::Side;
 use crate::tree::{Argument, Declaration, Kind, Process, Program, Role};

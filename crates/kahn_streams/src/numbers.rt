@@ -3,8 +3,7 @@
 ghost use Rattle.std.specs.Prelude.{◌≡◌, List, ℕ, IfOk, OnOk};
 ghost use Rattle.std.proofs.Common.{bytes_eq};
 ghost use Rattle.std.specs.BTreeMap.{get_by_text};
-ghost use Rattle.kahn_streams.specs.View.{bytes_of, names_of, number_of};
-ghost use Rattle.kahn_streams.specs.inner.Numbers.{noted};
+ghost use Rattle.kahn_streams.specs.{View.bytes_of, View.names_of, View.number_of, inner.Numbers.noted};
 
 use crate::memory::NoMemory;
 use crate::tree::{Name, Process};

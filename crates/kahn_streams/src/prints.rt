@@ -1,9 +1,7 @@
 //! Which processes print.
 
 ghost use Rattle.std.specs.Prelude.{◌≡◌};
-ghost use Rattle.kahn_streams.specs.Prints.{declaration_prints, process_prints};
-ghost use Rattle.kahn_streams.specs.Syntax.{prints_in};
-ghost use Rattle.kahn_streams.specs.View.{Scope, statement_of};
+ghost use Rattle.kahn_streams.specs.{Prints.declaration_prints, Prints.process_prints, Syntax.prints_in, View.Scope, View.statement_of};
 
 use crate::tree::{Action, Declaration, Process, Statement};
 

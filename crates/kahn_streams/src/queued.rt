@@ -3,8 +3,7 @@
 //! They are stored as in `carried`, but in 16 bytes, which two moves copy: few wait at a time, and each is put and taken.
 
 ghost use Rattle.std.specs.Prelude.{◌≡◌, ◌<◌, ◌^◌};
-ghost use Rattle.kahn_streams.specs.Inputs.{Holds, Names};
-ghost use Rattle.kahn_streams.specs.declared.token.Token.{Token};
+ghost use Rattle.kahn_streams.specs.{Inputs.Holds, Inputs.Names, declared.token.Token.Token};
 
 use crate::about::About;
 use crate::token::Token;

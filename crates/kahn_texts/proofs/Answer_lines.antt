@@ -1,18 +1,6 @@
 -- The streams of a right answer are of lines of the network: what `work` shows for `write_report`.
-use Rattle.std.proofs.Common.{◌≡◌, ◌+◌, ◌≤◌, ◌||◌, ℕ, zero, suc, Bool, true, false, if◌then◌else◌, Option, List, [], ◌∷◌, ◌++◌, length, map, All, arith, subst, sym}
-use Rattle.std.proofs.lemmas.List.{length-map}
-use Rattle.std.specs.List.{AllByRecursion}
-use Rattle.kahn_streams.specs.declared.tree.Kind.{Kind}
-use Rattle.kahn_streams.specs.declared.tree.Role.{Role}
-use Rattle.kahn_streams.specs.declared.tree.Program.{Program}
-use Rattle.kahn_streams.specs.declared.value.Line.{Line}
-use Rattle.kahn_streams.specs.Syntax.{prints_in}
-use Rattle.kahn_streams.specs.Network.{Instance, network_of, channels_of}
-use Rattle.kahn_streams.specs.declared.value.Line.TheVariants.{Channel, Print}
-use Rattle.kahn_streams.specs.declared.answer.Stream.{Stream}
-use Rattle.kahn_streams.specs.declared.answer.Answer.{Answer}
-use Rattle.kahn_streams.specs.Answers.{is_output, is_watched, channel_lines, print_lines, stream_lines, stream_line}
-use Rattle.kahn_texts.specs.Formats.{channel_count, instance_count, IsLine, HasItsLines}
+use Rattle.kahn_texts.proofs.Common.{◌≡◌, ◌+◌, ◌≤◌, ◌||◌, ℕ, zero, suc, Bool, true, false, if◌then◌else◌, Option, List, [], ◌∷◌, ◌++◌, length, map, All, arith, subst, sym, length-map, AllByRecursion, Program, Line, Instance, network_of, channels_of, Stream, channel_count, instance_count, IsLine, HasItsLines}
+use Rattle.kahn_streams.specs.{declared.tree.Kind.Kind, declared.tree.Role.Role, Syntax.prints_in, declared.value.Line.TheVariants.Channel, declared.value.Line.TheVariants.Print, declared.answer.Answer.Answer, Answers.is_output, Answers.is_watched, Answers.channel_lines, Answers.print_lines, Answers.stream_lines, Answers.stream_line}
 
 each_if : (P : Line → Type 0) (b : Bool) (x : Line) (r : List Line) → P x → AllByRecursion P r → AllByRecursion P (if b then x ∷ r else r)
 each_if P true x r p h = (p, h)

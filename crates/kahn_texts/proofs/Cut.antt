@@ -1,16 +1,5 @@
 -- Lines that are cut into pieces.
-use Rattle.std.proofs.Common.{◌≡◌, ℕ, ◌<◌, List, [], ◌∷◌, ◌++◌, length, drop, flat_map, All, Result, Ok, Err, OnOk, ap, sym, subst, ◌∙◌, append_assoc, append-nil, arith, length-append}
-use Rattle.std.proofs.lemmas.Grind.{flat_map-append}
-use Rattle.std.proofs.lemmas.List.{flat_map_more}
-use Rattle.std.proofs.Math.Seq.{drop-append_seam}
-use Rattle.std.proofs.lemmas.List.Elements.{All-nil, All-push, All-rest, All-same, All-drop}
-use Rattle.kahn_streams.specs.declared.answer.Stream.{Stream}
-use Rattle.kahn_streams.specs.declared.token.Token.{Token}
-use Rattle.kahn_streams.specs.declared.tree.Program.{Program}
-use Rattle.kahn_streams.specs.Written.{line_feed}
-use Rattle.kahn_texts.specs.Formats.{IsLine, stream_text, token_text}
-use Rattle.kahn_texts.specs.declared.pieces.Piece.{Piece}
-use Rattle.kahn_texts.specs.inner.Pieces.{AreAdded, ArePieces, IsMovedOn, IsPiece, piece_text}
+use Rattle.kahn_texts.proofs.Common.{◌≡◌, ℕ, ◌<◌, List, [], ◌∷◌, ◌++◌, length, drop, flat_map, All, Result, Ok, Err, OnOk, ap, sym, subst, ◌∙◌, append_assoc, append-nil, arith, length-append, flat_map-append, flat_map_more, drop-append_seam, All-nil, All-push, All-rest, All-same, All-drop, Stream, Token, Program, line_feed, IsLine, stream_text, token_text, Piece, AreAdded, ArePieces, IsMovedOn, IsPiece, piece_text}
 
 -- one piece more
 pub one_added : (t : Program) (old new : List Piece) (piece : Piece) → new ≡ old ++ piece ∷ [] → IsPiece t piece → AreAdded t old new (piece_text t piece)

@@ -1,8 +1,5 @@
 -- The lines of the ends, one after another.
-use Rattle.std.proofs.Common.{◌≡◌, ℕ, ◌+◌, ◌<◌, List, ◌∷◌, ◌++◌, length, drop, get_or, ap, sym, ◌∙◌, append_assoc, add-one, drop-cons}
-use Rattle.kahn_texts.specs.Formats.{end_text, ends_text}
-use Rattle.kahn_streams.specs.declared.answer.End.{End}
-use Rattle.kahn_streams.specs.declared.tree.Program.{Program}
+use Rattle.kahn_texts.proofs.Common.{◌≡◌, ℕ, ◌+◌, ◌<◌, List, ◌∷◌, ◌++◌, length, drop, get_or, ap, sym, ◌∙◌, append_assoc, add-one, drop-cons, end_text, ends_text, End, Program}
 
 -- the line of the end at i, and those that follow
 pub ends_split : (program : Program) (ends : List End) (i : ℕ) (d : End) → i < length ends

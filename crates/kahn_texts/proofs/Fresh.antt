@@ -1,12 +1,6 @@
 -- What is new on a stream.
-use Rattle.std.proofs.Common.{◌≡◌, List, [], ◌∷◌, ◌++◌, map, flat_map, refl, ap, sym}
-use Rattle.std.proofs.lemmas.List.Folds.{flat_map-map}
-use Rattle.kahn_streams.specs.declared.tree.Program.{Program}
-use Rattle.kahn_streams.specs.declared.value.Line.{Line}
-use Rattle.kahn_streams.specs.declared.token.Token.{Token}
+use Rattle.kahn_texts.proofs.Common.{◌≡◌, List, [], ◌∷◌, ◌++◌, map, flat_map, refl, ap, sym, flat_map-map, Program, Line, Token, line_feed, plain_line, spaced_text, line_head, tokens_text}
 use Rattle.kahn_streams.specs.Tokens.{token_value}
-use Rattle.kahn_streams.specs.Written.{line_feed, plain_line, spaced_text}
-use Rattle.kahn_texts.specs.Formats.{line_head, tokens_text}
 use Rattle.kahn_texts.specs.News.{more_text, plain_text}
 
 -- the line of tokens is that of their values

@@ -1,19 +1,8 @@
 -- The first entries of a text, one more than there are channels, which tell all that is asked of the whole.
-use Rattle.std.proofs.Common.{arith, ◌≡◌, inl, inr, ℕ, zero, suc, ◌+◌, ◌<◌, ◌≤◌, ◌==◌, ◌||◌, Bool, true, false, if◌then◌else◌, List, [], ◌∷◌, ◌++◌, length, map, take, drop, refl, sym, ap, ◌∙◌, subst, Some, slice_get, eqb-true, length-take}
-use Rattle.std.specs.List.{AllByRecursion, IsDistinct, list_any}
-use Rattle.std.proofs.lemmas.Bool.{cases_lt}
-use Rattle.std.proofs.lemmas.List.{length-map, map-append, take-append-le}
+use Rattle.kahn_texts.proofs.Common.{arith, ◌≡◌, inl, inr, ℕ, zero, suc, ◌+◌, ◌<◌, ◌≤◌, ◌==◌, ◌||◌, Bool, true, false, if◌then◌else◌, List, [], ◌∷◌, ◌++◌, length, map, take, drop, refl, sym, ap, ◌∙◌, subst, Some, slice_get, eqb-true, length-take, AllByRecursion, list_any, cases_lt, length-map, map-append, take-append-le, Global, Vec, Program, Value, InputFault, channel_names, network_of, AreFit, Entry, FailsFirst, IsFirstRefused, IsInputOf, Lists, asked_of_entry, channel_of, entry_of, is_given, AreEntries, AreFirstEntries, StandsFor}
+use Rattle.std.specs.{List.IsDistinct, declared.string.String.String}
 use Rattle.std.proofs.lemmas.Map.Steps.{length-le_from_distinct_below}
-use Rattle.std.specs.declared.alloc.Global.{Global}
-use Rattle.std.specs.declared.string.String.{String}
-use Rattle.std.specs.declared.vec.Vec.{Vec}
-use Rattle.kahn_streams.specs.declared.tree.Program.{Program}
-use Rattle.kahn_streams.specs.declared.value.Value.{Value}
-use Rattle.kahn_streams.specs.declared.entries.InputFault.{InputFault}
-use Rattle.kahn_streams.specs.Network.{channel_names, network_of}
-use Rattle.kahn_streams.specs.Inputs.{AreFit, Entry, FailsFirst, IsFirstRefused, IsInputOf, Lists, asked_of_entry, channel_of, entry_of, is_given}
 use Rattle.kahn_streams.proofs.Entered.{names_count}
-use Rattle.kahn_texts.specs.Formats.{AreEntries, AreFirstEntries, StandsFor}
 
 -- ---- one entry more
 

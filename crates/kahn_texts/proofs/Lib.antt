@@ -12,3 +12,4 @@ pub mod Told
 pub mod Same_inputs
 pub mod Cut
 pub mod Placed
+pub mod Common

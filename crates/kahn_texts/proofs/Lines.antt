@@ -1,8 +1,5 @@
 -- The lines of a text, one after another.
-use Rattle.std.proofs.Common.{◌≡◌, ◌∙◌, inl, inr, ℕ, zero, suc, ◌+◌, ◌≤◌, ◌<◌, List, [], ◌∷◌, ◌++◌, length, take, drop, All, arith, ap, sym, subst, add-one, append_assoc, append-nil, take-append-drop, drop_of_length-le, length-take-le}
-use Rattle.std.proofs.lemmas.List.Elements.{All-append}
-use Rattle.kahn_streams.specs.Inputs.{Entry}
-use Rattle.kahn_texts.specs.Formats.{AreEntries, IsEntry, AreBlanks, IsGood, content}
+use Rattle.kahn_texts.proofs.Common.{◌≡◌, ◌∙◌, inl, inr, ℕ, zero, suc, ◌+◌, ◌≤◌, ◌<◌, List, [], ◌∷◌, ◌++◌, length, take, drop, All, arith, ap, sym, subst, add-one, append_assoc, append-nil, take-append-drop, drop_of_length-le, length-take-le, All-append, Entry, AreEntries, IsEntry, AreBlanks, IsGood, content}
 
 take_more : (xs : List (List ℕ)) (k : ℕ) (x : List ℕ) (rest : List (List ℕ)) → drop k xs ≡ x ∷ rest → take (suc k) xs ≡ take k xs ++ (x ∷ [])
 take_more [] zero x rest e = absurd cc

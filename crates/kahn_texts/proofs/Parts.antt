@@ -1,7 +1,5 @@
 -- The parts of a line, one after another.
-use Rattle.std.proofs.Common.{◌≡◌, ℕ, ◌+◌, ◌<◌, List, [], ◌∷◌, ◌++◌, length, drop, get_or, ap, sym, ◌∙◌, subst, add-one, drop-cons, arith, append_assoc, append-nil, drop_of_length-le, ◌≤◌}
-use Rattle.kahn_texts.specs.Formats.{IsValue, SpellsValues}
-use Rattle.kahn_streams.specs.declared.value.Value.{Value}
+use Rattle.kahn_texts.proofs.Common.{◌≡◌, ℕ, ◌+◌, ◌<◌, List, [], ◌∷◌, ◌++◌, length, drop, get_or, ap, sym, ◌∙◌, subst, add-one, drop-cons, arith, append_assoc, append-nil, drop_of_length-le, ◌≤◌, IsValue, SpellsValues, Value}
 
 -- the parts from k on, the first of which is the word
 pub from_part : (parts : List (List ℕ)) (k : ℕ) (word : List ℕ) → (k < length parts) × (word ≡ get_or parts k word) → drop k parts ≡ word ∷ drop (k + 1) parts

@@ -1,13 +1,6 @@
 -- Texts at the numbers of their pieces.
-use Rattle.std.proofs.Common.{◌≡◌, ℕ, ◌<◌, List, [], ◌∷◌, ◌++◌, length, get_or, set, All, Option, None, Some, replicate, refl, sym, ap, subst, ◌∙◌, arith, ⊎_elim, length-set, get_or-set_same, get_or-set_other}
-use Rattle.std.proofs.lemmas.Bool.{cases_eq}
-use Rattle.std.proofs.lemmas.List.Elements.{All-pop, All-replicate}
-use Rattle.std.specs.declared.alloc.Global.{Global}
-use Rattle.std.specs.declared.vec.Vec.{Vec}
-use Rattle.kahn_streams.specs.declared.tree.Program.{Program}
+use Rattle.kahn_texts.proofs.Common.{◌≡◌, ℕ, ◌<◌, List, [], ◌∷◌, ◌++◌, length, get_or, set, All, Option, None, Some, replicate, refl, sym, ap, subst, ◌∙◌, arith, ⊎_elim, length-set, get_or-set_same, get_or-set_other, cases_eq, All-pop, All-replicate, Global, Vec, Program, Piece, AreAllMadeTexts, AreMadeTexts, AreNoTexts, ArePieceTexts, IsMadeText, IsPieceText}
 use Rattle.kahn_texts.specs.declared.made.Made.{Made}
-use Rattle.kahn_texts.specs.declared.pieces.Piece.{Piece}
-use Rattle.kahn_texts.specs.inner.Pieces.{AreAllMadeTexts, AreMadeTexts, AreNoTexts, ArePieceTexts, IsMadeText, IsPieceText}
 
 -- the last text, and those before it
 pub last_made : (t : Program) (pieces : List Piece) (all rest : List Made) (one : Made) → all ≡ rest ++ one ∷ [] → AreMadeTexts t pieces all

@@ -1,22 +1,10 @@
 -- One text spells one list of entries, and they give one input.
-use Rattle.std.proofs.Common.{arith, codes, nat_lt, ◌≡◌, ◌≢◌, inl, inr, ◌+◌, ◌<◌, ◌==◌, ℕ, ℤ, suc, List, [], ◌∷◌, ◌++◌, length, slice_index, Bool, true, false, cond, refl, sym, ap, ◌∙◌, subst, eqb-true, drop, if◌then◌else◌}
+use Rattle.kahn_texts.proofs.Common.{arith, codes, nat_lt, ◌≡◌, ◌≢◌, inl, inr, ◌+◌, ◌<◌, ◌==◌, ℕ, ℤ, suc, List, [], ◌∷◌, ◌++◌, length, slice_index, Bool, true, false, cond, refl, sym, ap, ◌∙◌, subst, eqb-true, drop, if◌then◌else◌, lt-ltb, to_ascii_lowercase, slice_split, str_eq_ignore_ascii_case, str_to_ascii_lowercase, AllDigits, Program, Value, channel_names, Integer, Logical, Entry, IsInputOf, list_for, Lists, inputs_of, IsName, AreBlanks, IsValue, SpellsValues, AreValues, IsEntry, AreEntries, is_blank, content}
 use mathlib.Core.Path.{fun_ext}
-use Rattle.std.proofs.lemmas.Bool.{lt-ltb}
 use Rattle.std.proofs.lemmas.Str.Parse.{digit_from_value}
-use Rattle.std.specs.Char.{to_ascii_lowercase}
-use Rattle.std.specs.List.{slice_split}
-use Rattle.std.specs.Str.{str_eq_ignore_ascii_case, str_to_ascii_lowercase}
-use Rattle.std.specs.Str.Parse.{AllDigits}
-use Rattle.kahn_streams.specs.declared.tree.Program.{Program}
-use Rattle.kahn_streams.specs.declared.value.Value.{Value}
 use Rattle.kahn_streams.specs.View.{Scope, place_of}
-use Rattle.kahn_streams.specs.Network.{channel_names}
 use Rattle.kahn_streams.proofs.Handed.{bytes_true}
-use Rattle.kahn_streams.specs.declared.value.Value.TheVariants.{Integer, Logical}
-use Rattle.kahn_streams.specs.Inputs.{Entry, IsInputOf, list_for, Lists, inputs_of}
-use Rattle.kahn_texts.specs.Formats.{IsName, AreBlanks, IsValue, SpellsValues, AreValues, IsEntry, AreEntries, is_blank, content}
-use Rattle.kahn_texts.proofs.Scanned.{scanned, same_tail}
-use Rattle.kahn_texts.proofs.Words.{letter_dark}
+use Rattle.kahn_texts.proofs.{Scanned.scanned, Scanned.same_tail, Words.letter_dark}
 
 -- ---- a word is at most one value
 

@@ -1,12 +1,6 @@
 -- A line read from the left: blanks, a word, blanks, a colon.
-use Rattle.std.proofs.Common.{inl, inr, le_antisymm, Some, None, nat_lt, ◌≤◌, arith, ◌≡◌, ◌∙◌, ◌+◌, ◌<◌, ℕ, zero, suc, List, [], ◌∷◌, ◌++◌, length, take, drop, Bool, true, false, not, cond, All, refl, sym, ap, subst, take-append-drop}
-use Rattle.std.specs.List.{position, position_or_len, prefix_len}
-use Rattle.std.specs.Option.{unwrap_or}
-use Rattle.std.proofs.lemmas.Bool.Decides.{leb_tells}
-use Rattle.std.proofs.lemmas.Bool.{lt-ltb}
+use Rattle.kahn_texts.proofs.Common.{inl, inr, le_antisymm, Some, None, nat_lt, ◌≤◌, arith, ◌≡◌, ◌∙◌, ◌+◌, ◌<◌, ℕ, zero, suc, List, [], ◌∷◌, ◌++◌, length, take, drop, Bool, true, false, not, cond, All, refl, sym, ap, subst, take-append-drop, position, position_or_len, prefix_len, unwrap_or, leb_tells, lt-ltb, take-append_seam, drop-append_seam, HasHead, IsName, AreBlanks, is_blank, is_word_byte}
 use Rattle.std.proofs.lemmas.List.Sums.{prefix_len-le-length}
-use Rattle.std.proofs.Math.Seq.{take-append_seam, drop-append_seam}
-use Rattle.kahn_texts.specs.Formats.{HasHead, IsName, AreBlanks, is_blank, is_word_byte}
 use Rattle.kahn_texts.proofs.Words.{letter_dark, blank_apart}
 
 -- the place of the first byte that fails a test

@@ -1,13 +1,9 @@
 -- Faults of the entries and of the input, as faults of the text.
-use Rattle.std.proofs.Common.{◌≡◌, ◌⊎◌, inl, inr, ℕ, List, subst}
-use Rattle.kahn_streams.specs.declared.tree.Program.{Program}
-use Rattle.kahn_streams.specs.declared.entries.InputFault.{InputFault}
+use Rattle.kahn_texts.proofs.Common.{◌≡◌, ◌⊎◌, inl, inr, ℕ, List, subst, Program, InputFault, Entry, IsFirstRefused, AreFirstEntries, IsInputText, IsEntriesFault, IsInputTextFault, told_of_input}
 use Rattle.kahn_streams.specs.declared.entries.InputFault.TheVariants.{UnknownName, NotAnInput, GivenTwice, WrongKind, TooMany, NoMemory}
-use Rattle.kahn_streams.specs.Inputs.{Entry, IsFirstRefused}
 use Rattle.kahn_texts.specs.declared.input.TextFault.{TextFault}
 use Rattle.kahn_texts.specs.declared.input.TextFault.TheVariants as text_fault
 use Rattle.kahn_texts.proofs.Kept.{refused_of_all}
-use Rattle.kahn_texts.specs.Formats.{AreFirstEntries, IsInputText, IsEntriesFault, IsInputTextFault, told_of_input}
 
 pub entries_told : (t : Program) (text : List ℕ) (fault : TextFault) → IsEntriesFault text fault → IsInputTextFault t text fault
 entries_told t text (text_fault.BadLine n) h = h

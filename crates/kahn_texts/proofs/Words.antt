@@ -1,15 +1,7 @@
 -- The words of an input text: what spells a number or a name is ASCII.
-use Rattle.std.proofs.Common.{nat_le, ◌&&◌, ◌≤◌, Option, Some, None, MatchOption, Bor, arith, ◌≡◌, ◌≢◌, ◌==◌, ◌||◌, ◌⊎◌, ◌<◌, inl, inr, ℕ, ℤ, suc, List, [], ◌∷◌, length, drop, get_or, slice_index, Bool, true, false, cond, All, refl, sym, subst, eqb-true}
-use Rattle.std.specs.Char.{is_ascii_alphabetic, is_ascii_alphanumeric}
+use Rattle.kahn_texts.proofs.Common.{nat_le, ◌&&◌, ◌≤◌, Option, Some, None, MatchOption, Bor, arith, ◌≡◌, ◌≢◌, ◌==◌, ◌||◌, ◌⊎◌, ◌<◌, inl, inr, ℕ, ℤ, suc, List, [], ◌∷◌, length, drop, get_or, slice_index, Bool, true, false, cond, All, refl, sym, subst, eqb-true, is_ascii_alphabetic, is_ascii_alphanumeric, leb-true, IsUtf8, IsAscii, AllDigits, without_leading_sign, IsAscii-from_digits, Integer, IsValue, IsName, is_blank, is_word_byte}
 use Rattle.std.specs.Int.{is_in_range}
-use Rattle.std.proofs.lemmas.Bool.{leb-true}
-use Rattle.std.specs.Str.{IsUtf8, IsAscii}
-use Rattle.std.specs.Str.Parse.{AllDigits, without_leading_sign}
-use Rattle.std.proofs.lemmas.Str.{IsUtf8-from_ascii}
-use Rattle.std.proofs.lemmas.Str.Ascii.{IsAscii-nil, IsAscii-cons}
-use Rattle.std.proofs.lemmas.Fmt.{IsAscii-from_digits}
-use Rattle.kahn_streams.specs.declared.value.Value.TheVariants.{Integer}
-use Rattle.kahn_texts.specs.Formats.{IsValue, IsName, is_blank, is_word_byte}
+use Rattle.std.proofs.{lemmas.Str.IsUtf8-from_ascii, lemmas.Str.Ascii.IsAscii-nil, lemmas.Str.Ascii.IsAscii-cons}
 
 signed : (b : ℕ) (bs : List ℕ) (m p : Bool) → (b == 45) ≡ m → (b == 43) ≡ p → b ≢ 43 → AllDigits 10 (cond m bs (drop (cond p 1 0) (b ∷ bs))) → IsAscii (b ∷ bs)
 signed b bs true p e f first digits =

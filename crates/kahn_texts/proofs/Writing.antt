@@ -1,12 +1,5 @@
 -- Texts that are written piece by piece.
-use Rattle.std.proofs.Common.{◌≡◌, ℕ, ◌+◌, ◌≤◌, List, [], ◌++◌, length, Option, Result, Ok, Err, IsErr, refl, sym, ap, ◌∙◌, append_assoc, append-nil, arith, length-append, length-take, take, drop, ◌-◌, ◌<◌, ◌^◌, decimal, take-append-drop, drop-cons, flat_map, get_or, subst, suc}
-use Rattle.std.proofs.lemmas.Fmt.{length-decimal-le}
-use Rattle.std.proofs.lemmas.Grind.{flat_map-append}
-use Rattle.std.proofs.lemmas.List.Folds.{length-flat_map-take}
-use Rattle.std.proofs.lemmas.List.{take_rest}
-use Rattle.std.specs.Io.KnownBytes.{Appends, Keeps}
-use Rattle.std.proofs.KnownBytes.{Appends-nil, Appends-trans, Appends-kept}
-use Rattle.kahn_streams.specs.Written.{AppendsFront, Writes}
+use Rattle.kahn_texts.proofs.Common.{◌≡◌, ℕ, ◌+◌, ◌≤◌, List, [], ◌++◌, length, Option, Result, Ok, Err, IsErr, refl, sym, ap, ◌∙◌, append_assoc, append-nil, arith, length-append, length-take, take, drop, ◌-◌, ◌<◌, ◌^◌, decimal, take-append-drop, drop-cons, flat_map, get_or, subst, suc, length-decimal-le, flat_map-append, length-flat_map-take, take_rest, Appends, Keeps, Appends-nil, Appends-trans, Appends-kept, AppendsFront, Writes}
 
 -- a fault in the text's first piece
 pub stops : (a b : Option (List ℕ)) (t u : List ℕ) → AppendsFront a b t → AppendsFront a b (t ++ u)

@@ -1,7 +1,6 @@
 -- Believed. How a report ends, and how often the writer is flushed.
 use Rattle.std.specs.Prelude.{◌≡◌, ℕ, ◌+◌, ◌≤◌, List, ◌++◌, MatchResult, Result}
-use Rattle.kahn_streams.specs.declared.answer.Answer.{Answer}
-use Rattle.kahn_streams.specs.declared.tree.Program.{Program}
+use Rattle.kahn_streams.specs.{declared.answer.Answer.Answer, declared.tree.Program.Program}
 use Rattle.kahn_texts.specs.Formats.{ends_text, last_text}
 
 -- the lines behind those of the streams

@@ -2,41 +2,14 @@
 -- describes, and why one describes none; and the report of an answer, a function of the program and the answer. Each of its lines ends
 -- with a line feed and has no blank at its end.
 use Rattle.std.specs.Prelude.{◌≡◌, ◌≢◌, ℕ, ◌+◌, ◌-◌, ◌≤◌, ◌<◌, List, [], ◌∷◌, ◌++◌, length, slice_index, Bool, true, false, ◌==◌, ◌||◌, codes, All, take, if◌then◌else◌, ◌⊎◌, MatchOption, Option, map, slice_index_or, decimal, flat_map}
-use Rattle.std.specs.List.{slice_split, concat}
-use Rattle.std.specs.Char.{is_ascii_alphabetic, is_ascii_alphanumeric}
-use Rattle.std.specs.Str.{str_eq_ignore_ascii_case}
-use Rattle.std.specs.Str.Parse.{IsNumeral, without_leading_sign, signed_digits_value}
-use Rattle.std.specs.declared.alloc.Global.{Global}
-use Rattle.std.specs.declared.string.String.{String}
-use Rattle.std.specs.declared.vec.Vec.{Vec}
-use Rattle.kahn_streams.specs.declared.value.Value.{Value}
-use Rattle.kahn_streams.specs.declared.tree.Program.{Program}
-use Rattle.kahn_streams.specs.declared.entries.InputFault.{InputFault}
-use Rattle.kahn_streams.specs.declared.value.Value.TheVariants.{Integer, Logical}
-use Rattle.kahn_streams.specs.Inputs.{Entry, entry_of, IsFirstRefused, IsInputOf, Lists}
-use Rattle.kahn_texts.specs.declared.entries.EntryFault.{EntryFault}
-use Rattle.kahn_texts.specs.declared.entries.EntryFault.TheVariants.{NoHead, NoValues}
+use Rattle.std.specs.{List.slice_split, List.concat, Char.is_ascii_alphabetic, Char.is_ascii_alphanumeric, Str.str_eq_ignore_ascii_case, Str.Parse.IsNumeral, Str.Parse.without_leading_sign, Str.Parse.signed_digits_value, declared.alloc.Global.Global, declared.string.String.String, declared.vec.Vec.Vec}
+use Rattle.kahn_streams.specs.{declared.value.Value.Value, declared.tree.Program.Program, declared.entries.InputFault.InputFault, declared.value.Value.TheVariants.Integer, declared.value.Value.TheVariants.Logical, Inputs.Entry, Inputs.entry_of, Inputs.IsFirstRefused, Inputs.IsInputOf, Inputs.Lists, declared.value.Line.Line, View.bytes_of, Network.channel_names, Network.channels_of, Written.line_feed, Written.spaced_text, declared.value.Line.TheVariants.Channel, declared.value.Line.TheVariants.Print, declared.value.Failure.TheVariants.Overflow, declared.value.Failure.TheVariants.Division, declared.token.Token.Token, declared.answer.Stream.Stream, declared.answer.Outcome.Outcome, declared.answer.Outcome.TheVariants.Ended, declared.answer.Outcome.TheVariants.Waits, declared.answer.Outcome.TheVariants.Faulted, declared.answer.Outcome.TheVariants.More, declared.answer.End.End, declared.answer.Verdict.Verdict, declared.answer.Verdict.TheVariants.Finished, declared.answer.Verdict.TheVariants.Bound, declared.answer.Verdict.TheVariants.Memory, declared.answer.Answer.Answer}
+use Rattle.kahn_texts.specs.{declared.entries.EntryFault.EntryFault, declared.entries.EntryFault.TheVariants.NoHead, declared.entries.EntryFault.TheVariants.NoValues, declared.input.TextFault.TextFault, declared.input.TextFault.TheVariants.BadLine, declared.input.TextFault.TheVariants.BadValue, declared.input.TextFault.TheVariants.Input, declared.input.TextFault.TheVariants.TooLong, declared.input.TextFault.TheVariants.NoMemory}
 use Rattle.kahn_texts.specs.declared.entries.EntryFault.TheVariants as line_fault
-use Rattle.kahn_texts.specs.declared.input.TextFault.{TextFault}
-use Rattle.kahn_texts.specs.declared.input.TextFault.TheVariants.{BadLine, BadValue, Input, TooLong, NoMemory}
 use Rattle.kahn_texts.specs.declared.input.TextFault.TheVariants as text_fault
 use mir.Val.{SFits as FitsSigned}
 use mir.Syntax.{w64}
 use Rattle.kahn_streams.specs.declared.entries.InputFault.TheVariants as input_fault
-use Rattle.kahn_streams.specs.declared.value.Line.{Line}
-use Rattle.kahn_streams.specs.View.{bytes_of}
-use Rattle.kahn_streams.specs.Network.{channel_names, channels_of}
-use Rattle.kahn_streams.specs.Written.{line_feed, spaced_text}
-use Rattle.kahn_streams.specs.declared.value.Line.TheVariants.{Channel, Print}
-use Rattle.kahn_streams.specs.declared.value.Failure.TheVariants.{Overflow, Division}
-use Rattle.kahn_streams.specs.declared.token.Token.{Token}
-use Rattle.kahn_streams.specs.declared.answer.Stream.{Stream}
-use Rattle.kahn_streams.specs.declared.answer.Outcome.{Outcome}
-use Rattle.kahn_streams.specs.declared.answer.Outcome.TheVariants.{Ended, Waits, Faulted, More}
-use Rattle.kahn_streams.specs.declared.answer.End.{End}
-use Rattle.kahn_streams.specs.declared.answer.Verdict.{Verdict}
-use Rattle.kahn_streams.specs.declared.answer.Verdict.TheVariants.{Finished, Bound, Memory}
-use Rattle.kahn_streams.specs.declared.answer.Answer.{Answer}
 
 -- ---- the input
 

@@ -1,11 +1,6 @@
 -- Believed. The text of what is new on streams, and of how a run ended (this project's profile).
 use Rattle.std.specs.Prelude.{ℕ, List, [], ◌∷◌, ◌++◌, flat_map}
-use Rattle.kahn_streams.specs.declared.tree.Program.{Program}
-use Rattle.kahn_streams.specs.declared.value.Value.{Value}
-use Rattle.kahn_streams.specs.declared.value.Line.{Line}
-use Rattle.kahn_streams.specs.declared.answer.End.{End}
-use Rattle.kahn_streams.specs.declared.answer.Verdict.{Verdict}
-use Rattle.kahn_streams.specs.Written.{line_feed, plain_line, spaced_text}
+use Rattle.kahn_streams.specs.{declared.tree.Program.Program, declared.value.Value.Value, declared.value.Line.Line, declared.answer.End.End, declared.answer.Verdict.Verdict, Written.line_feed, Written.plain_line, Written.spaced_text}
 use Rattle.kahn_texts.specs.Formats.{line_head, ends_text, last_line}
 
 -- the line of a stream with these new values, or nothing if there are none

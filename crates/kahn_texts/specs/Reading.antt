@@ -1,11 +1,7 @@
 -- Believed. What reading a text to its end says of the reader.
 use Rattle.std.specs.Prelude.{◌≡◌, ℕ, ◌+◌, ◌≤◌, List, length, MatchResult, Option, Result, string_bytes}
-use Rattle.std.specs.declared.alloc.Global.{Global}
-use Rattle.std.specs.declared.string.String.{String}
-use Rattle.std.specs.Str.{IsUtf8}
-use Rattle.std.specs.Io.KnownBytes.{Consumes, IsAtEnd}
-use Rattle.kahn_texts.specs.declared.read.ReadFault.{ReadFault}
-use Rattle.kahn_texts.specs.declared.read.ReadFault.TheVariants.{Failed, TooLong, NotUtf8, NoMemory}
+use Rattle.std.specs.{declared.alloc.Global.Global, declared.string.String.String, Str.IsUtf8, Io.KnownBytes.Consumes, Io.KnownBytes.IsAtEnd}
+use Rattle.kahn_texts.specs.{declared.read.ReadFault.ReadFault, declared.read.ReadFault.TheVariants.Failed, declared.read.ReadFault.TheVariants.TooLong, declared.read.ReadFault.TheVariants.NotUtf8, declared.read.ReadFault.TheVariants.NoMemory}
 
 -- the bytes are all that the reader had, and are within the limit
 abbrev pub GivesAll : Option (List ℕ) → Option (List ℕ) → ℕ → List ℕ → Type 0

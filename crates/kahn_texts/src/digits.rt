@@ -2,8 +2,7 @@
 
 ghost use Rattle.std.specs.Prelude.{◌≡◌, ℕ, List, ◌+◌, ◌*◌, ◌≤◌, length, drop, ◌++◌, flat_map};
 ghost use Rattle.std.specs.Fmt.{signed_decimal};
-ghost use Rattle.kahn_streams.specs.declared.value.Value.{Value as ValueView};
-ghost use Rattle.kahn_streams.specs.Written.{value_text, Writes};
+ghost use Rattle.kahn_streams.specs.{declared.value.Value.Value as ValueView, Written.value_text, Written.Writes};
 
 use crate::bytes::{WriteFault, put};
 use itoa::write_digits;

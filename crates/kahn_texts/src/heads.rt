@@ -1,8 +1,7 @@
 //! The name of an entry, before its colon.
 
 ghost use Rattle.std.specs.Prelude.{◌≡◌, ◌≤◌, length, ◌≢◌, ◌∷◌, ℕ, List, MatchOption, take, drop, not, IsTrue, ◌↔◌, All, true};
-ghost use Rattle.std.specs.List.{position, position_or_len};
-ghost use Rattle.std.specs.Str.{IsUtf8};
+ghost use Rattle.std.specs.{List.position, List.position_or_len, Str.IsUtf8};
 ghost use Rattle.kahn_texts.specs.Formats.{IsHead, IsHeadless, IsName, is_blank as blank, is_word_byte as word_byte};
 
 use std::str;

@@ -1,8 +1,7 @@
 //! The input that an input text describes.
 
 ghost use Rattle.std.specs.Prelude.{IfOk, MatchResult};
-ghost use Rattle.kahn_streams.specs.Network.{network_of};
-ghost use Rattle.kahn_streams.specs.Inputs.{IsInputFor};
+ghost use Rattle.kahn_streams.specs.{Network.network_of, Inputs.IsInputFor};
 ghost use Rattle.kahn_texts.specs.Formats.{IsInputTextFault, StandsFor};
 
 use crate::entries::read_entries;

@@ -1,10 +1,8 @@
 //! What goes out while a run goes on: what is new on a stream, and at its end how it ended.
 
 ghost use Rattle.std.specs.Prelude.{◌≡◌, ◌+◌, ◌<◌, ◌≤◌, length, map};
-ghost use Rattle.kahn_streams.specs.Tokens.{token_value};
-ghost use Rattle.kahn_texts.specs.Formats.{IsLine};
-ghost use Rattle.kahn_texts.specs.News.{more_text, closing_text};
-ghost use Rattle.kahn_streams.specs.Written.{Writes};
+ghost use Rattle.kahn_streams.specs.{Tokens.token_value, Written.Writes};
+ghost use Rattle.kahn_texts.specs.{Formats.IsLine, News.more_text, News.closing_text};
 
 use crate::bytes::{WriteFault, flush};
 use crate::write::{put_ends, put_last, put_tokens};

@@ -2,8 +2,7 @@
 
 ghost use Rattle.std.specs.Prelude.{◌≡◌, ◌+◌, ◌<◌, ◌≤◌, ◌∷◌, ◌++◌, length, flat_map, All, IfOk, OnOk};
 ghost use Rattle.kahn_streams.specs.Written.{line_feed, Writes};
-ghost use Rattle.kahn_texts.specs.Formats.{IsLine, line_head, stream_text, token_text};
-ghost use Rattle.kahn_texts.specs.inner.Pieces.{AreAdded, ArePieces, IsMovedOn, IsPiece, piece_text};
+ghost use Rattle.kahn_texts.specs.{Formats.IsLine, Formats.line_head, Formats.stream_text, Formats.token_text, inner.Pieces.AreAdded, inner.Pieces.ArePieces, inner.Pieces.IsMovedOn, inner.Pieces.IsPiece, inner.Pieces.piece_text};
 
 use crate::bytes::{WriteFault, put};
 use crate::digits::{Spaced, put_values};

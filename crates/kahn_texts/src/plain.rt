@@ -1,9 +1,8 @@
 //! What is new on a stream, its values alone, one a line.
 
 ghost use Rattle.std.specs.Prelude.{◌≡◌, ◌<◌, map};
-ghost use Rattle.kahn_streams.specs.Tokens.{token_value};
+ghost use Rattle.kahn_streams.specs.{Tokens.token_value, Written.Writes};
 ghost use Rattle.kahn_texts.specs.News.{plain_text};
-ghost use Rattle.kahn_streams.specs.Written.{Writes};
 
 use crate::bytes::WriteFault;
 use crate::digits::{Lined, put_values};

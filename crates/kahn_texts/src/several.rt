@@ -2,10 +2,8 @@
 
 ghost use Rattle.std.specs.Prelude.{◌≡◌, ℕ, ◌+◌, ◌<◌, ◌≤◌, length, flat_map, All, IfOk, IfSome, slice_index_or};
 ghost use Rattle.kahn_streams.specs.Written.{Writes};
-ghost use Rattle.kahn_texts.specs.Flushes.{FlushesOnce};
-ghost use Rattle.kahn_texts.specs.Formats.{HasItsLines, IsLine, report_text, stream_text};
+ghost use Rattle.kahn_texts.specs.{Flushes.FlushesOnce, Formats.HasItsLines, Formats.IsLine, Formats.report_text, Formats.stream_text, inner.Pieces.AreAllMadeTexts, inner.Pieces.AreMadeTexts, inner.Pieces.ArePieceTexts, inner.Pieces.IsMadeText, inner.Pieces.IsPiece, inner.Pieces.IsPieceText, inner.Pieces.piece_text};
 ghost use denote.Param.Send.{IsSync};
-ghost use Rattle.kahn_texts.specs.inner.Pieces.{AreAllMadeTexts, AreMadeTexts, ArePieceTexts, IsMadeText, IsPiece, IsPieceText, piece_text};
 
 use crate::bytes::{WriteFault, put};
 use crate::made::{Made, placed, with_one};

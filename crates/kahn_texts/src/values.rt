@@ -2,8 +2,7 @@
 
 ghost use Rattle.std.specs.Prelude.{◌≡◌, ℤ, MatchOption, MatchResult};
 ghost use Rattle.kahn_texts.specs.Formats.{AreNoValues, AreValues, IsValue};
-ghost use Rattle.kahn_streams.specs.declared.value.Value.{Value};
-ghost use Rattle.kahn_streams.specs.declared.value.Value.TheVariants.{Integer};
+ghost use Rattle.kahn_streams.specs.{declared.value.Value.Value, declared.value.Value.TheVariants.Integer};
 
 use kahn_streams::Value;
 use std::alloc::Global;

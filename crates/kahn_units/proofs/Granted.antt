@@ -1,20 +1,6 @@
 -- `grants` at a call: what it is handed, and what a caller has of it. Assumes `Logic`.
-use Rattle.std.proofs.Common.{◌≡◌, ℕ, Bool, List, [], ◌∷◌, refl, ap}
-use seplogic.Ra.Ura.{Ura}
-use mir.Val.{Val, vbool, vptr}
-use base.Logic.{SProp, ent, sep, ex, guard, id⊢}
-use base.Fml.{Lft, Share, ftrue, fsep, flft}
-use prog.Memory.{Memory}
-use prog.Routine.{Routine}
-use types.Logic.{Logic, sem}
-use contract.Monad.{Fun}
-use types.Kit.{‵, ◌⊛◌, some, later, ◌$◌, ◌∵◌, !, qed, move, keep, use1, split, join, pick, fjoin, feq_i, feq_l, check, show, await, updating, now as at_once, done}
-use denote.RattleType.{RattleType}
+use Rattle.kahn_units.proofs.Common.{◌≡◌, ℕ, Bool, List, [], ◌∷◌, refl, ap, Ura, Val, vbool, vptr, SProp, ent, sep, ex, guard, id⊢, Lft, Share, ftrue, fsep, flft, Memory, Routine, Logic, sem, Fun, ‵, ◌⊛◌, some, later, ◌$◌, ◌∵◌, !, qed, move, keep, use1, split, join, pick, fjoin, feq_i, feq_l, check, show, await, updating, now as at_once, done, RattleType, u64, bool, nothing, only, Contract, triple_of}
 use denote.Memory.{hidden_shr}
-use denote.Builtin.{u64, bool}
-use denote.Steps.{nothing, only}
-use denote.Triple.Statement.{Contract}
-use denote.Triple.Spec.{triple_of}
 use Rattle.std.specs.contracts.cell.Cell as CE
 use Rattle.kahn_units.specs.contracts.rationed.grants as GR
 

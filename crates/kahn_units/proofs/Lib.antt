@@ -1,2 +1,3 @@
 mod Granted
 mod Opening
+pub mod Common

@@ -1,16 +1,9 @@
 -- A cell and plain queues at their openings.
-use Rattle.std.proofs.Common.{arith, ◌≡◌, ℕ, ◌<◌, length, replicate, refl, sym, ap, ◌∙◌, subst, slice_index_or}
-use Rattle.kahn_streams.specs.declared.tree.Program.{Program}
-use Rattle.kahn_streams.specs.Network.{Writes, network_of, instance_at, actual_at, role_at}
-use Rattle.kahn_streams.specs.Wiring.{IsWellWired}
-use Rattle.kahn_streams.proofs.Sourced.{writes}
-use Rattle.kahn_streams.specs.Inputs.{Lists}
-use Rattle.kahn_streams.specs.Answers.{is_output}
-use Rattle.kahn_code.specs.Lines.{Lines as Queues, AreFirst, next_at}
-use Rattle.kahn_code.specs.Progress.{CellView}
-use Rattle.kahn_streams.proofs.Entered.{none_of}
+use Rattle.kahn_units.proofs.Common.{arith, ◌≡◌, ℕ, ◌<◌, length, replicate, refl, sym, ap, ◌∙◌, subst, slice_index_or, IsOfSite}
+use Rattle.kahn_streams.specs.{declared.tree.Program.Program, Network.Writes, Network.network_of, Network.instance_at, Network.actual_at, Network.role_at, Wiring.IsWellWired, Inputs.Lists, Answers.is_output}
+use Rattle.kahn_streams.proofs.{Sourced.writes, Entered.none_of}
+use Rattle.kahn_code.specs.{Lines.Lines as Queues, Lines.AreFirst, Lines.next_at, Progress.CellView}
 use Rattle.kahn_code.proofs.Queued.{given_zero, taken_zero}
-use Rattle.kahn_units.specs.inner.Standing.{IsOfSite}
 
 -- the first cell stands where the queues stand, as the first instance's ports
 pub stands_first : (t : Program) (lists : Lists) (c : CellView) (q : Queues) → IsWellWired t → 0 < length (network_of t).instances →

@@ -1,8 +1,7 @@
 //! The cell of a process that doubles numbers, over the plain queues of its network.
 
 ghost use Rattle.std.specs.Prelude.{◌≡◌, ◌<◌, length, IfOk, replicate};
-ghost use Rattle.kahn_streams.specs.Network.{network_of, instance_at};
-ghost use Rattle.kahn_streams.specs.Inputs.{Lists};
+ghost use Rattle.kahn_streams.specs.{Network.network_of, Network.instance_at, Inputs.Lists};
 ghost use Rattle.kahn_units.specs.inner.Standing.{IsOfSite};
 
 use crate::rationed::Rationed;

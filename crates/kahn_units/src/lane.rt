@@ -2,8 +2,7 @@
 
 ghost use Rattle.std.specs.Prelude.{◌≡◌, ◌<◌, Some, IfOk, length};
 ghost use Rattle.kahn_streams.specs.Network.{network_of};
-ghost use Rattle.kahn_lane.specs.Places.{lane_name};
-ghost use Rattle.kahn_lane.specs.LaneEnds.{sender_name, sent, CanPut, SameSender, SameReceiver};
+ghost use Rattle.kahn_lane.specs.{Places.lane_name, LaneEnds.sender_name, LaneEnds.sent, LaneEnds.CanPut, LaneEnds.SameSender, LaneEnds.SameReceiver};
 
 use crate::rationed::Rationed;
 use kahn_check::{Network, check};

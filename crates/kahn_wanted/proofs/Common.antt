@@ -2,7 +2,7 @@
 pub use Rattle.kahn_streams.specs.declared.span.Span.{Span}
 pub use Rattle.kahn_syntax.proofs.Meaning.{terminals_append}
 pub use Rattle.kahn_syntax.proofs.OneList.{comment_dark, comment_grows, same_comment, same_lexemes}
-pub use Rattle.kahn_syntax.proofs.Reached.{go_far, go_none, le_or, whole_far, whole_refuses}
+pub use Rattle.kahn_syntax.proofs.{Reached.go_far, Reached.go_none, Reached.whole_far, Reached.whole_refuses, Unique.le_or}
 pub use Rattle.kahn_syntax.proofs.Steps.{go}
 pub use Rattle.kahn_syntax.proofs.Viable.{Fits, fits_some, further}
 pub use Rattle.kahn_syntax.proofs.WholePrograms.{whole_program}

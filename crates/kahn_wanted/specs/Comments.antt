@@ -1,7 +1,6 @@
 -- Believed. The comments of a text.
 use Rattle.std.specs.Prelude.{◌≡◌, ℕ, ◌+◌, ◌≤◌, ◌<◌, List, [], ◌∷◌, Some, length, slice_get, slice_index}
-use Rattle.kahn_syntax.specs.Texts.{IsBlank, IsComment, IsLexemeAt}
-use Rattle.kahn_syntax.specs.declared.lexeme.Lexeme.{Lexeme}
+use Rattle.kahn_syntax.specs.{Texts.IsBlank, Texts.IsComment, Texts.IsLexemeAt, declared.lexeme.Lexeme.Lexeme}
 use Rattle.kahn_streams.specs.declared.span.Span.{Span}
 
 abbrev pub span_of : ℕ → ℕ → Span

@@ -1,14 +1,11 @@
 -- Believed. Which lexemes may stand at a place of a text.
 use Rattle.std.specs.Prelude.{◌≡◌, ◌↔◌, ℕ, List, [], ◌∷◌, ◌++◌, pos, Some, None, Contains, flat_map, length, slice_get}
 use Rattle.kahn_streams.specs.declared.span.Span.{Span}
-use Rattle.kahn_syntax.specs.declared.{lexeme.Class.Class, lexeme.Keyword.Keyword, lexeme.Sign.Sign, lexeme.Lexeme.Lexeme, fault.What.What}
-use Rattle.kahn_syntax.specs.declared.fault.What.TheVariants.{More}
+use Rattle.kahn_syntax.specs.{declared.lexeme.Class.Class, declared.lexeme.Keyword.Keyword, declared.lexeme.Sign.Sign, declared.lexeme.Lexeme.Lexeme, declared.fault.What.What, declared.fault.What.TheVariants.More, Grammar.Terminal, Texts.terminal, Texts.terminals, Texts.AreLexemes, Texts.Begins}
 use Rattle.kahn_syntax.specs.declared.lexeme.Class.TheVariants as class
 use Rattle.kahn_syntax.specs.declared.lexeme.Keyword.TheVariants as word
 use Rattle.kahn_syntax.specs.declared.lexeme.Sign.TheVariants as sign
 use Rattle.kahn_syntax.specs.Grammar as grammar
-use Rattle.kahn_syntax.specs.Grammar.{Terminal}
-use Rattle.kahn_syntax.specs.Texts.{terminal, terminals, AreLexemes, Begins}
 use Rattle.kahn_wanted.specs.declared.{groups.LexemeGroup.LexemeGroup, groups.Wanted.Wanted, found.Unexpected.Unexpected}
 use Rattle.kahn_wanted.specs.declared.groups.LexemeGroup.TheVariants as group
 

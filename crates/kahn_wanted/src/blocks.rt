@@ -1,8 +1,7 @@
 //! The blocks that are open at a place of a text.
 
 ghost use Rattle.std.specs.Prelude.{◌≡◌, IfOk};
-ghost use Rattle.kahn_wanted.specs.Blocks.{bytes_between, open_blocks};
-ghost use Rattle.kahn_wanted.specs.inner.Open.{blocks_after, without_last};
+ghost use Rattle.kahn_wanted.specs.{Blocks.bytes_between, Blocks.open_blocks, inner.Open.blocks_after, inner.Open.without_last};
 
 use kahn_syntax::{Class, Keyword, Lexeme};
 use std::alloc::{AllocError, Global};

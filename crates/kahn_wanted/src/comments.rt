@@ -2,8 +2,7 @@
 
 ghost use Rattle.std.specs.Prelude.{ℕ, ◌≤◌, IfOk, length};
 ghost use Rattle.kahn_syntax.specs.Texts.{Gap, IsComment};
-ghost use Rattle.kahn_wanted.specs.Comments.{AreComments};
-ghost use Rattle.kahn_wanted.specs.inner.Passing.{Passed};
+ghost use Rattle.kahn_wanted.specs.{Comments.AreComments, inner.Passing.Passed};
 
 use crate::swallowing::{is_blank, swallows};
 use kahn_streams::NoMemory;

@@ -1,9 +1,7 @@
 //! What stands where a text goes wrong, and what may stand there.
 
 ghost use Rattle.std.specs.Prelude.{◌≡◌, ◌≤◌, ◌<◌, List, ℕ, IfOk, length, slice_get, slice_index_or, take};
-ghost use Rattle.kahn_syntax.specs.declared.fault.SyntaxFault.TheVariants.{Expected};
-ghost use Rattle.kahn_syntax.specs.declared.lexeme.Lexeme.{Lexeme};
-ghost use Rattle.kahn_syntax.specs.Texts.{BeginsWithin, IsFault, IsTextFault, terminals};
+ghost use Rattle.kahn_syntax.specs.{declared.fault.SyntaxFault.TheVariants.Expected, declared.lexeme.Lexeme.Lexeme, Texts.BeginsWithin, Texts.IsFault, Texts.IsTextFault, Texts.terminals};
 ghost use Rattle.kahn_wanted.specs.Wanted.{AreWanted, IsPlace, IsUnexpected};
 
 use crate::asked::{CLASSES, coming};

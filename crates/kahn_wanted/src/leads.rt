@@ -2,8 +2,7 @@
 
 ghost use Rattle.std.specs.Prelude.{◌≡◌, List, ℕ, ℤ, option_map};
 ghost use Rattle.std.proofs.Common.{bytes_eq};
-ghost use Rattle.kahn_syntax.specs.Grammar.{rank, word as word_terminal};
-ghost use Rattle.kahn_syntax.specs.Texts.{bytes_of_sign, letters_of, sign_terminal};
+ghost use Rattle.kahn_syntax.specs.{Grammar.rank, Grammar.word as word_terminal, Texts.bytes_of_sign, Texts.letters_of, Texts.sign_terminal};
 ghost use Rattle.kahn_syntax.specs.inner.Machine.{a_name, a_number, a_sign, a_word, accepts, an_operator, enters, operator_of, rank_or};
 ghost use Rattle.kahn_wanted.specs.inner.Walk.{lead_of, awaited_parts, rules_as, rules_by, terminal_with};
 

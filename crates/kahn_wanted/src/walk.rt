@@ -1,8 +1,7 @@
 //! What is open behind lexemes, read once, and whether one more may stand there.
 
 ghost use Rattle.std.specs.Prelude.{◌≡◌, [], ◌∷◌, List, ℕ, IfOk};
-ghost use Rattle.kahn_syntax.specs.Texts.{terminals};
-ghost use Rattle.kahn_syntax.specs.inner.Machine.{ProgramPart};
+ghost use Rattle.kahn_syntax.specs.{Texts.terminals, inner.Machine.ProgramPart};
 ghost use Rattle.kahn_wanted.specs.inner.Walk.{MayPass, Passes, awaited_parts, walked};
 
 use crate::awaited::Awaited;

@@ -8,7 +8,7 @@ pub use Rattle.kahn_streams.specs.Script.{Cut, Dry, Fail, Fault, Give, Got, Para
 pub use Rattle.kahn_streams.specs.Solution.{Faulted, HasEnd, Histories, Inputs, ending, exec_at, fed, goes_to, input_list, iterate, opening, out, source, tape_of, tapes_of, values_at}
 pub use Rattle.kahn_streams.specs.Syntax.{Assign, Binary, Conditional, Constant, Expr, If, Literal, Negate, Not, Print, Repeat, Send, Seq, Skip, Stmt, Variable, Wait, While}
 pub use Rattle.kahn_streams.specs.View.{Scope, body_of, else_of, expr_of, expression_of, level_of, row_of, statement_of, stmt_of}
-pub use Rattle.kahn_streams.specs.declared.{span.Span.Span, tree.Operand.Operand, tree.Operator.Operator, tree.Statement.Statement, value.Failure.Failure, value.Line.Line, value.Value.Value}
+pub use Rattle.kahn_streams.specs.declared.{span.Span.Span, tree.Operand.Operand, tree.Operator.Operator, tree.Statement.Statement, value.Failure.Failure, value.Line.Line, value.Value.Value, tree.Form.TheViews.the_lemmas}
 pub use Rattle.kahn_streams.specs.declared.tree.Action.{Action, Block', Held-Action-If-2, If', None', Repeat', Row_of-Statement, Some', While', end_of-Statement, more_of-Statement}
 pub use Rattle.kahn_streams.specs.declared.tree.Action.TheBlock.{items-the_row-Statement}
 pub use Rattle.kahn_streams.specs.declared.tree.Form.{Bracket', Conditional', Form, Level', Negate', Not', Row_of-Operand, end_of-Operand, more_of-Operand}
@@ -30,7 +30,7 @@ pub use Rattle.kahn_warnings.specs.Warnings.{block_items, by_layout, declaration
 pub use Rattle.kahn_warnings.specs.declared.{sites.ConstantSite.ConstantSite, warning.Warning.Warning}
 pub use Rattle.kahn_warnings.specs.declared.warning.WarningKind.TheVariants.{LongComment, Unreached}
 pub use Rattle.kahn_warnings.specs.inner.Collecting.{contains}
-pub use Rattle.std.proofs.Common.{All, Bool, Err, List, None, Ok, Option, Result, Some, [], ap, append-nil, append_assoc, arith, bytes_eq, cond, drop, false, flat_map, get_or, if◌then◌else◌, int_div, int_rem, is_some, length, nat_eq, nat_lt, neg_ℤ, negsuc, not, pos, refl, slice_set, string_bytes, subst, suc, sym, take, true, true≢false, zero, ℕ, ℤ, ◌&&◌, ◌*ℤ◌, ◌++◌, ◌+ℤ◌, ◌+◌, ◌-ℤ◌, ◌/◌, ◌<◌, ◌==◌, ◌^◌, ◌||◌, ◌∙◌, ◌∷◌, ◌≡◌, ◌≤◌}
+pub use Rattle.std.proofs.Common.{All, Bool, Err, List, None, Ok, Option, Result, Some, [], ap, append-nil, append_assoc, arith, bytes_eq, cond, drop, false, flat_map, get_or, if◌then◌else◌, int_div, int_rem, is_some, length, nat_eq, nat_lt, neg_ℤ, negsuc, not, pos, refl, slice_set, string_bytes, subst, suc, sym, take, true, true≢false, zero, ℕ, ℤ, ◌&&◌, ◌*ℤ◌, ◌++◌, ◌+ℤ◌, ◌+◌, ◌-ℤ◌, ◌/◌, ◌<◌, ◌==◌, ◌^◌, ◌||◌, ◌∙◌, ◌∷◌, ◌≡◌, ◌≤◌, Equal, Greater, Less, rules}
 pub use Rattle.std.proofs.Math.Nat.{div-le_self, div-lt_self}
 pub use Rattle.std.proofs.lemmas.Grind.{common_steps}
 pub use Rattle.std.proofs.lemmas.Int.{ints, rem_below}

@@ -1,6 +1,5 @@
 -- Operators that aren't told have no such fault.
-use Rattle.kahn_warnings.proofs.Common.{Add, Bool, Divide, Division, Err, Failure, Integer, IsOf64Bits, IsOperand, Logical, Multiply, None, Ok, Operator, Option, Overflow, Remainder, Result, Some, Subtract, Value, ap, apply, arith, arithmetic, can_divide, can_fail, cond, div-le_self, div-lt_self, divides, false, fits_64, if◌then◌else◌, int_div, int_lt, int_rem, ints, is_eq, is_failure, is_zero, nat_lt, neg_ℤ, negsuc, number, operator_can, pos, ranged, refl, rem_below, result_err, sign_can, subst, suc, sym, true, unsigned_abs, zero, ℕ, ℤ, ◌&&◌, ◌*ℤ◌, ◌+ℤ◌, ◌-ℤ◌, ◌/◌, ◌<◌, ◌^◌, ◌∙◌, ◌≡◌, ◌≤◌}
-use Rattle.std.proofs.Common.{Less as Before, Equal as Same, Greater as Behind}
+use Rattle.kahn_warnings.proofs.Common.{Add, Bool, Divide, Division, Err, Failure, Integer, IsOf64Bits, IsOperand, Logical, Multiply, None, Ok, Operator, Option, Overflow, Remainder, Result, Some, Subtract, Value, ap, apply, arith, arithmetic, can_divide, can_fail, cond, div-le_self, div-lt_self, divides, false, fits_64, if◌then◌else◌, int_div, int_lt, int_rem, ints, is_eq, is_failure, is_zero, nat_lt, neg_ℤ, negsuc, number, operator_can, pos, ranged, refl, rem_below, result_err, sign_can, subst, suc, sym, true, unsigned_abs, zero, ℕ, ℤ, ◌&&◌, ◌*ℤ◌, ◌+ℤ◌, ◌-ℤ◌, ◌/◌, ◌<◌, ◌^◌, ◌∙◌, ◌≡◌, ◌≤◌, Less as Before, Equal as Same, Greater as Behind}
 
 true_not : (b : Bool) → b ≡ true → b ≡ false → ⊥
 true_not true e f = cc

@@ -1,7 +1,6 @@
 -- What a statement does that never ends, and what one does that isn't seen.
 use Rattle.kahn_warnings.proofs.Common.{Assign, Binary, Bool, Conditional, Err, Expr, Fail, Failure, Give, If, Literal, Logical, LoopsHold, Negate, None, Not, Ok, Option, Print, Repeat, Rest, Result, Script, Send, Sends, Seq, Skip, Some, Stmt, Store, Tapes, Turns, Value, Variable, Wait, Waits, While, [], ap, apply, constant_of, false, fun_ext, is_seen, is_true, neg_ℤ, never_ends, not, number, play, ranged, refl, script_of, settle, slice_set, suc, sym, true, truth, turns_of, value_of, waits_in, zero, ℕ, ◌&&◌, ◌||◌, ◌∙◌, ◌≡◌}
-use Rattle.kahn_warnings.proofs.Holding.{holds}
-use Rattle.kahn_warnings.proofs.Unchanged.{kept_value, neither, never_left, same_branch}
+use Rattle.kahn_warnings.proofs.{Holding.holds, Unchanged.kept_value, Unchanged.neither, Unchanged.never_left, Unchanged.same_branch}
 
 either : {P : Type 0} (x y : Bool) → (x || y) ≡ true → (x ≡ true → P) → (y ≡ true → P) → P
 either true y h p q = p refl

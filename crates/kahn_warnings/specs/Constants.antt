@@ -1,17 +1,10 @@
 -- Believed. What is warned of constants: operators that fail wherever they are reached, and tests that come out one way.
 use Rattle.std.specs.Result.{result_err, result_ok}
 use Rattle.std.specs.Prelude.{◌≡◌, ℕ, Bool, true, false, not, ◌&&◌, neg_ℤ, Option, Some, None, if◌then◌else◌}
-use Rattle.kahn_streams.specs.declared.{tree.Operator.Operator, value.Value.Value, value.Failure.Failure}
-use Rattle.kahn_streams.specs.declared.tree.Operator.TheVariants.{Divide, Remainder}
+use Rattle.kahn_streams.specs.{declared.tree.Operator.Operator, declared.value.Value.Value, declared.value.Failure.Failure, declared.tree.Operator.TheVariants.Divide, declared.tree.Operator.TheVariants.Remainder, declared.value.Failure.TheVariants.Overflow, declared.value.Failure.TheVariants.Division, Arithmetic.apply, Arithmetic.is_zero, Arithmetic.number, Arithmetic.ranged, Arithmetic.truth, Meaning.Store, Meaning.constant, Meaning.eval, Meaning.exec, Meaning.value_of, Script.Fail, Script.Fault, Script.Give, Script.Got, Script.Tapes, Script.Turns, Script.at_once, Script.play}
 use Rattle.kahn_streams.specs.Syntax as S
 use Rattle.kahn_streams.specs.declared.value.Value.TheVariants as value
-use Rattle.kahn_streams.specs.declared.value.Failure.TheVariants.{Overflow, Division}
-use Rattle.kahn_streams.specs.Arithmetic.{apply, is_zero, number, ranged, truth}
-use Rattle.kahn_streams.specs.Meaning.{Store, constant, eval, exec, value_of}
-use Rattle.kahn_streams.specs.Script.{Fail, Fault, Give, Got, Tapes, Turns, at_once, play}
-use Rattle.kahn_warnings.specs.declared.{sites.SiteKind.SiteKind, warning.WarningKind.WarningKind}
-use Rattle.kahn_warnings.specs.declared.sites.SiteKind.TheVariants.{Sign, Binary, Test, Turn}
-use Rattle.kahn_warnings.specs.declared.warning.WarningKind.TheVariants.{Divides, Overflows, AlwaysTrue, AlwaysFalse, Unchanged, BareDo}
+use Rattle.kahn_warnings.specs.{declared.sites.SiteKind.SiteKind, declared.warning.WarningKind.WarningKind, declared.sites.SiteKind.TheVariants.Sign, declared.sites.SiteKind.TheVariants.Binary, declared.sites.SiteKind.TheVariants.Test, declared.sites.SiteKind.TheVariants.Turn, declared.warning.WarningKind.TheVariants.Divides, declared.warning.WarningKind.TheVariants.Overflows, declared.warning.WarningKind.TheVariants.AlwaysTrue, declared.warning.WarningKind.TheVariants.AlwaysFalse, declared.warning.WarningKind.TheVariants.Unchanged, declared.warning.WarningKind.TheVariants.BareDo}
 
 -- ---- the value that an expression has wherever it is reached, where that is told
 

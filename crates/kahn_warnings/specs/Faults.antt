@@ -1,22 +1,10 @@
 -- Believed. Where in the body of a process a fault of arithmetic can come from.
 use Rattle.std.specs.Prelude.{◌≡◌, ℕ, ℤ, negsuc, Bool, true, false, ◌&&◌, neg_ℤ, List, [], ◌∷◌, Option, Some, None, Err, if◌then◌else◌, flat_map}
-use Rattle.std.specs.List.{AllByRecursion}
-use Rattle.std.specs.Result.{result_err}
+use Rattle.std.specs.{List.AllByRecursion, Result.result_err}
 use Rattle.std.proofs.Common.{int_eq}
-use Rattle.kahn_streams.specs.declared.{span.Span.Span, tree.Operator.Operator, tree.Statement.Statement, value.Value.Value, value.Failure.Failure}
-use Rattle.kahn_streams.specs.declared.tree.Operator.TheVariants.{Add, Subtract, Multiply, Divide, Remainder}
+use Rattle.kahn_streams.specs.{declared.span.Span.Span, declared.tree.Operator.Operator, declared.tree.Statement.Statement, declared.value.Value.Value, declared.value.Failure.Failure, declared.tree.Operator.TheVariants.Add, declared.tree.Operator.TheVariants.Subtract, declared.tree.Operator.TheVariants.Multiply, declared.tree.Operator.TheVariants.Divide, declared.tree.Operator.TheVariants.Remainder, View.Scope, View.body_of, declared.value.Failure.TheVariants.Overflow, declared.value.Failure.TheVariants.Division, Arithmetic.apply, Arithmetic.fits_64, Arithmetic.is_zero, Arithmetic.number, Arithmetic.ranged, Network.Network, Network.instance_at, Meaning.Store, Meaning.constant, Meaning.exec, Script.Fault, Script.Tapes, Solution.Faulted, Solution.HasEnd, Solution.Inputs, Solution.opening}
 use Rattle.kahn_streams.specs.Syntax as S
-use Rattle.kahn_streams.specs.View.{Scope, body_of}
-use Rattle.kahn_streams.specs.declared.value.Failure.TheVariants.{Overflow, Division}
-use Rattle.kahn_streams.specs.Arithmetic.{apply, fits_64, is_zero, number, ranged}
-use Rattle.kahn_streams.specs.Network.{Network, instance_at}
-use Rattle.kahn_streams.specs.Meaning.{Store, constant, exec}
-use Rattle.kahn_streams.specs.Script.{Fault, Tapes}
-use Rattle.kahn_streams.specs.Solution.{Faulted, HasEnd, Inputs, opening}
-use Rattle.kahn_warnings.specs.Constants.{divides, negate_fault}
-use Rattle.kahn_warnings.specs.Sites.{body_sites}
-use Rattle.kahn_warnings.specs.declared.sites.{ConstantSite.ConstantSite, SiteKind.SiteKind}
-use Rattle.kahn_warnings.specs.declared.sites.SiteKind.TheVariants.{Sign, Binary, Test, Turn}
+use Rattle.kahn_warnings.specs.{Constants.divides, Constants.negate_fault, Sites.body_sites, declared.sites.ConstantSite.ConstantSite, declared.sites.SiteKind.SiteKind, declared.sites.SiteKind.TheVariants.Sign, declared.sites.SiteKind.TheVariants.Binary, declared.sites.SiteKind.TheVariants.Test, declared.sites.SiteKind.TheVariants.Turn}
 
 -- ---- which operators can have a fault
 

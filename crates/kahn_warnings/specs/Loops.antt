@@ -1,12 +1,8 @@
 -- Believed. Statements that never end, and loops that nobody sees.
 use Rattle.std.specs.Prelude.{◌≡◌, ℕ, Bool, true, false, ◌||◌, ◌&&◌, []}
 use Rattle.kahn_streams.specs.Syntax.{Constant, Expr, Literal, Variable, Stmt, Skip, Assign, Send, Print, Seq, If, While, Repeat}
-use Rattle.kahn_streams.specs.declared.value.Value.{Value}
-use Rattle.kahn_streams.specs.Arithmetic.{truth}
-use Rattle.kahn_streams.specs.Meaning.{Store, constant, eval, exec, read}
-use Rattle.kahn_streams.specs.Script.{Got, Tapes, at_once}
-use Rattle.kahn_warnings.specs.Constants.{constant_of, is_true}
-use Rattle.kahn_warnings.specs.Uses.{is_assigned_in, is_named, waits_in}
+use Rattle.kahn_streams.specs.{declared.value.Value.Value, Arithmetic.truth, Meaning.Store, Meaning.constant, Meaning.eval, Meaning.exec, Meaning.read, Script.Got, Script.Tapes, Script.at_once}
+use Rattle.kahn_warnings.specs.{Constants.constant_of, Constants.is_true, Uses.is_assigned_in, Uses.is_named, Uses.waits_in}
 
 -- by its form a statement never ends, a loop with a test that is always true too: whatever is behind it isn't reached
 abbrev pub never_ends : Stmt → Bool

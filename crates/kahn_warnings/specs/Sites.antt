@@ -1,13 +1,9 @@
 -- Believed. The operators and the tests in the body of a process, with what the constants tell of their operands.
 use Rattle.std.specs.Prelude.{List, [], ◌∷◌, ◌++◌, Option, flat_map}
-use Rattle.kahn_streams.specs.declared.{span.Span.Span, tree.Statement.Statement, value.Value.Value}
+use Rattle.kahn_streams.specs.{declared.span.Span.Span, declared.tree.Statement.Statement, declared.value.Value.Value, View.expr_of, View.expression_of}
 use Rattle.kahn_streams.specs.declared.tree.Form.{Form, Number, Logical, Variable, Wait, Negate', Not', Bracket', Level', Conditional', Row_of-Operand, end_of-Operand, more_of-Operand}
 use Rattle.kahn_streams.specs.declared.tree.Action.{Action, Empty, Assign, Send, Print, Block', If', While', Repeat', Row_of-Statement, end_of-Statement, more_of-Statement, Held-Action-If-2, None', Some'}
-use Rattle.kahn_streams.specs.View.{expr_of, expression_of}
-use Rattle.kahn_warnings.specs.Constants.{combined, constant_of}
-use Rattle.kahn_warnings.specs.Uses.{is_empty, varies_by}
-use Rattle.kahn_warnings.specs.declared.sites.{ConstantSite.ConstantSite, SiteKind.SiteKind}
-use Rattle.kahn_warnings.specs.declared.sites.SiteKind.TheVariants.{Sign, Binary, Test, Turn}
+use Rattle.kahn_warnings.specs.{Constants.combined, Constants.constant_of, Uses.is_empty, Uses.varies_by, declared.sites.ConstantSite.ConstantSite, declared.sites.SiteKind.SiteKind, declared.sites.SiteKind.TheVariants.Sign, declared.sites.SiteKind.TheVariants.Binary, declared.sites.SiteKind.TheVariants.Test, declared.sites.SiteKind.TheVariants.Turn}
 
 abbrev pub site_at : SiteKind → Span → ConstantSite
 site_at k at = record { kind = k; span = at }

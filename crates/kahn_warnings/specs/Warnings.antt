@@ -1,21 +1,13 @@
 -- Believed. What is warned of, and in which order: the comments first, then one process after another, and in each its instances, its
 -- parameters, its variables, its statements and the constants in these; and then statements by their indentation.
 use Rattle.std.specs.Prelude.{◌≡◌, ℕ, Bool, true, false, List, [], ◌∷◌, ◌++◌, Option, Some, None, if◌then◌else◌, flat_map}
-use Rattle.std.specs.List.{list_any}
-use Rattle.std.specs.Option.{option_or}
+use Rattle.std.specs.{List.list_any, Option.option_or}
 use Rattle.std.proofs.Common.{bytes_eq}
-use Rattle.kahn_streams.specs.View.{bytes_of, expression_of, stmt_of, statement_of}
+use Rattle.kahn_streams.specs.{View.bytes_of, View.expression_of, View.stmt_of, View.statement_of, declared.tree.Kind.TheVariants.Integer, declared.tree.Kind.TheVariants.Logical}
 use Rattle.kahn_streams.specs.declared.{span.Span.Span, tree.Kind.Kind, tree.Name.Name, tree.Statement.Statement, tree.Parameter.Parameter, tree.Process.Process, tree.Instance.Instance, tree.Declaration.Declaration, tree.Program.Program, tree.Variable.Variable}
 use Rattle.kahn_streams.specs.declared.tree.Action.{Action, Empty, Assign, Send, Print, Block', If', While', Repeat', Row_of-Statement, end_of-Statement, more_of-Statement, Held-Action-If-2, None', Some'}
-use Rattle.kahn_streams.specs.declared.tree.Kind.TheVariants.{Integer, Logical}
 use Rattle.kahn_streams.specs.declared.tree.Declaration.TheVariants as D
-use Rattle.kahn_warnings.specs.Comments.{AreCommentWarnings}
-use Rattle.kahn_warnings.specs.Constants.{constant_of, is_true, site_kind}
-use Rattle.kahn_warnings.specs.Loops.{is_seen, never_ends}
-use Rattle.kahn_warnings.specs.Sites.{body_sites}
-use Rattle.kahn_warnings.specs.Uses.{assigns, is_empty, uses_name}
-use Rattle.kahn_warnings.specs.Warned.{warned}
-use Rattle.kahn_warnings.specs.declared.{sites.ConstantSite.ConstantSite, warning.Warning.Warning, warning.WarningKind.WarningKind}
+use Rattle.kahn_warnings.specs.{Comments.AreCommentWarnings, Constants.constant_of, Constants.is_true, Constants.site_kind, Loops.is_seen, Loops.never_ends, Sites.body_sites, Uses.assigns, Uses.is_empty, Uses.uses_name, Warned.warned, declared.sites.ConstantSite.ConstantSite, declared.warning.Warning.Warning, declared.warning.WarningKind.WarningKind}
 use Rattle.kahn_warnings.specs.declared.warning.WarningKind.TheVariants.{NoInstance, Unused, Unread, StaysZero, StaysFalse, Idle, Unreached, BareThen, Beside}
 
 -- ---- a process without an instance

@@ -1,8 +1,6 @@
 //! The laws of what is warned of, and of where faults come from.
 
-ghost use Rattle.kahn_warnings.specs.Constants.{ConstantsHold};
-ghost use Rattle.kahn_warnings.specs.Faults.{FaultsLie};
-ghost use Rattle.kahn_warnings.specs.Loops.{LoopsHold};
+ghost use Rattle.kahn_warnings.specs.{Constants.ConstantsHold, Faults.FaultsLie, Loops.LoopsHold};
 
 /// The law of constants: what is warned of happens wherever it is reached, whatever the values of the names and whatever comes on the
 /// channels. Its contract is what it does.

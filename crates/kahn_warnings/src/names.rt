@@ -2,8 +2,7 @@
 
 ghost use Rattle.std.specs.Prelude.{◌≡◌, ◌++◌, IfOk};
 ghost use Rattle.std.specs.List.{list_any};
-ghost use Rattle.kahn_warnings.specs.Warnings.{is_of, name_kind, name_warnings, names_warnings, process_kind};
-ghost use Rattle.kahn_warnings.specs.inner.Collecting.{contains};
+ghost use Rattle.kahn_warnings.specs.{Warnings.is_of, Warnings.name_kind, Warnings.name_warnings, Warnings.names_warnings, Warnings.process_kind, inner.Collecting.contains};
 
 use crate::collected::{NameSet, add_all, has};
 use crate::warning::{Warning, WarningKind, add_warning};

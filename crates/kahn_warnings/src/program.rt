@@ -3,8 +3,7 @@
 ghost use Rattle.std.specs.Prelude.{◌≡◌, ◌++◌, ◌&&◌, ◌||◌, IfOk, None, flat_map, if◌then◌else◌};
 ghost use Rattle.std.specs.Option.{option_or};
 ghost use Rattle.kahn_streams.specs.View.{Scope, statement_of};
-ghost use Rattle.kahn_warnings.specs.Loops.{is_seen, never_ends};
-ghost use Rattle.kahn_warnings.specs.Warnings.{AreWarnings, bare_kind, body_warnings, by_layout, declaration_warnings, loop_kind, statement_warnings};
+ghost use Rattle.kahn_warnings.specs.{Loops.is_seen, Loops.never_ends, Warnings.AreWarnings, Warnings.bare_kind, Warnings.body_warnings, Warnings.by_layout, Warnings.declaration_warnings, Warnings.loop_kind, Warnings.statement_warnings};
 
 use crate::comments::comment_warnings;
 use crate::constants::{constant_of, is_true};

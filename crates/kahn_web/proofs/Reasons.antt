@@ -1,16 +1,7 @@
 -- What was written as the reason of a page.
-use Rattle.std.proofs.Common.{◌≡◌, ℕ, false, List, [], ◌++◌, Option, Some, None, Ok, IfSome, codes, inl, inr, string_bytes, subst, sym}
+use Rattle.kahn_web.proofs.Common.{◌≡◌, ℕ, false, List, [], ◌++◌, Option, Some, None, Ok, IfSome, codes, inl, inr, string_bytes, subst, sym, IsChecked, HasRefused, HasWritten, Stopped, Refused, IsRunAlone, IsRunExplained}
 use Rattle.kahn_streams.specs.declared.answer.Answer.{Answer}
-use Rattle.kahn_fault.specs.Work.{IsChecked}
-use Rattle.kahn_why.specs.Refusing.{AreAllowed, IsRefusedFor}
-use Rattle.kahn_why.specs.Why.{IsExplained}
-use Rattle.kahn_why.specs.inner.Told.{HasRefused, HasWritten}
-use Rattle.kahn_why.specs.declared.explaining.Admitted.{Admitted}
-use Rattle.kahn_why.specs.declared.explaining.Came.{Came}
-use Rattle.kahn_why.specs.declared.explaining.Came.TheVariants.{Stopped, Refused}
-use Rattle.kahn_why.specs.declared.why.told.Explanation.{Explanation}
-use Rattle.kahn_web.specs.Alone.{IsRunAlone}
-use Rattle.kahn_web.specs.Explained.{IsRunExplained}
+use Rattle.kahn_why.specs.{Refusing.AreAllowed, Refusing.IsRefusedFor, Why.IsExplained, declared.explaining.Admitted.Admitted, declared.explaining.Came.Came, declared.why.told.Explanation.Explanation}
 
 pub some_of : {A : Type 0} {P Q : A → Type 0} (o : Option A) → ((x : A) → P x → Q x) → IfSome o P → IfSome o Q
 some_of None f h = h

@@ -1,11 +1,7 @@
 -- Believed. How the work is set up for one thread.
 use Rattle.std.specs.Prelude.{ℕ, List, None}
-use Rattle.kahn_streams.specs.declared.tree.Program.{Program}
-use Rattle.kahn_streams.specs.declared.config.Config.{Config}
-use Rattle.kahn_streams.specs.declared.answer.Answer.{Answer}
-use Rattle.kahn_streams.specs.Answers.{IsRightRun}
+use Rattle.kahn_streams.specs.{declared.tree.Program.Program, declared.config.Config.Config, declared.answer.Answer.Answer, Answers.IsRightRun, Inputs.Lists}
 use Rattle.kahn_texts.specs.Formats.{StandsFor}
-use Rattle.kahn_streams.specs.Inputs.{Lists}
 
 -- one worker with a quantum of a thousand events, which watches no channel
 abbrev pub alone : ℕ → Config

@@ -1,15 +1,9 @@
 -- Believed. What the page is told of why a run stopped, or a program or an input is refused.
 use Rattle.std.specs.Prelude.{◌≡◌, ℕ, ◌⊎◌, ◌++◌, List, [], Some, Ok, codes, false, string_bytes}
-use Rattle.kahn_streams.specs.declared.tree.Program.{Program}
-use Rattle.kahn_streams.specs.declared.answer.Answer.{Answer}
-use Rattle.kahn_texts.specs.Formats.{IsInputTextFault}
+use Rattle.kahn_streams.specs.{declared.tree.Program.Program, declared.answer.Answer.Answer}
+use Rattle.kahn_texts.specs.{Formats.IsInputTextFault, declared.input.TextFault.TextFault}
 use Rattle.kahn_fault.specs.Work.{IsChecked}
-use Rattle.kahn_texts.specs.declared.input.TextFault.{TextFault}
-use Rattle.kahn_why.specs.Refusing.{AreAllowed, IsRefusedFor}
-use Rattle.kahn_why.specs.Telling.{HasToldInput}
-use Rattle.kahn_why.specs.Why.{IsExplained}
-use Rattle.kahn_why.specs.declared.explaining.Came.{Came}
-use Rattle.kahn_why.specs.declared.why.told.Explanation.{Explanation}
+use Rattle.kahn_why.specs.{Refusing.AreAllowed, Refusing.IsRefusedFor, Telling.HasToldInput, Why.IsExplained, declared.explaining.Came.Came, declared.why.told.Explanation.Explanation}
 use Rattle.kahn_web.specs.Alone.{IsRunAlone}
 
 -- why a run of a program stopped, which is called `program` in notes, behind the notes on what is warned of in it

@@ -1,15 +1,9 @@
 -- Believed. What the page gets for its texts, which are bytes.
 use Rattle.std.specs.Prelude.{◌≡◌, ◌⊎◌, ℕ, ◌≤◌, ◌<◌, List, [], Option, Some, Result, length, take}
-use Rattle.std.specs.declared.result.Result.TheVariants.{Ok, Err}
-use Rattle.std.specs.Str.{IsUtf8}
-use Rattle.kahn_streams.specs.declared.answer.Verdict.{Verdict}
-use Rattle.kahn_fault.specs.declared.fault.Fault.{Fault}
-use Rattle.kahn_fault.specs.declared.fault.Fault.TheVariants.{Open, Program, InputText, Work}
-use Rattle.kahn_fault.specs.Status.{status_of}
+use Rattle.std.specs.{declared.result.Result.TheVariants.Ok, declared.result.Result.TheVariants.Err, Str.IsUtf8}
+use Rattle.kahn_streams.specs.{declared.answer.Verdict.Verdict, Written.Writes}
+use Rattle.kahn_fault.specs.{declared.fault.Fault.Fault, declared.fault.Fault.TheVariants.Open, declared.fault.Fault.TheVariants.Program, declared.fault.Fault.TheVariants.InputText, declared.fault.Fault.TheVariants.Work, Status.status_of, Work.IsWorked, Telling.told_text}
 use Rattle.kahn_texts.specs.declared.bytes.WriteFault.{WriteFault}
-use Rattle.kahn_fault.specs.Work.{IsWorked}
-use Rattle.kahn_streams.specs.Written.{Writes}
-use Rattle.kahn_fault.specs.Telling.{told_text}
 use Rattle.kahn_web.specs.Alone.{alone}
 
 -- what the work by one thread did, or which text isn't UTF-8, after which nothing was written

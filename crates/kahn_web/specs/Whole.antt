@@ -1,18 +1,9 @@
 -- Believed. What the page is told of all channels of a run: how many values each had, what they were, and how many of them were taken.
 use Rattle.std.specs.Prelude.{◌≡◌, ℕ, zero, suc, List, [], ◌∷◌, ◌++◌, Option, None, Some, codes, decimal, length, slice_get}
 use Rattle.std.specs.List.{concat}
-use Rattle.kahn_streams.specs.declared.tree.Program.{Program}
-use Rattle.kahn_streams.specs.declared.config.Config.{Config}
-use Rattle.kahn_streams.specs.declared.answer.Stream.{Stream}
-use Rattle.kahn_streams.specs.declared.value.Line.TheVariants.{Channel}
-use Rattle.kahn_streams.specs.Answers.{values_of}
-use Rattle.kahn_streams.specs.Inputs.{Lists}
-use Rattle.kahn_streams.specs.Network.{network_of}
-use Rattle.kahn_streams.specs.Written.{line_feed}
-use Rattle.kahn_sequential.specs.Recordings.{IsRecordedRun}
-use Rattle.kahn_sequential.specs.declared.{counted.Count.Count, recorded.Recorded.Recorded}
-use Rattle.kahn_texts.specs.Formats.{StandsFor, channel_name, report_text}
-use Rattle.kahn_texts.specs.News.{more_text}
+use Rattle.kahn_streams.specs.{declared.tree.Program.Program, declared.config.Config.Config, declared.answer.Stream.Stream, declared.value.Line.TheVariants.Channel, Answers.values_of, Inputs.Lists, Network.network_of, Written.line_feed}
+use Rattle.kahn_sequential.specs.{Recordings.IsRecordedRun, declared.counted.Count.Count, declared.recorded.Recorded.Recorded}
+use Rattle.kahn_texts.specs.{Formats.StandsFor, Formats.channel_name, Formats.report_text, News.more_text}
 use Rattle.kahn_fault.specs.Work.{IsChecked}
 use Rattle.kahn_web.specs.Alone.{alone}
 

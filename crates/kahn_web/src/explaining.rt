@@ -4,8 +4,7 @@ ghost use Rattle.std.specs.Prelude.{IfSome, codes, false, string_bytes};
 ghost use Rattle.kahn_fault.specs.Work.{IsChecked};
 ghost use Rattle.kahn_texts.specs.Formats.{IsInputTextFault};
 ghost use Rattle.kahn_why.specs.Refusing.{AreAllowed};
-ghost use Rattle.kahn_web.specs.Alone.{IsRunAlone};
-ghost use Rattle.kahn_web.specs.Explained.{IsReason, IsInputRefused, IsRunExplained};
+ghost use Rattle.kahn_web.specs.{Alone.IsRunAlone, Explained.IsReason, Explained.IsInputRefused, Explained.IsRunExplained};
 
 use crate::alone::answered;
 use kahn_fault::WorkFault;

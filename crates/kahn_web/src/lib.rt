@@ -2,10 +2,7 @@
 //! out, or of why the run stopped, or of what each channel carried; the bytes of a program in, those of a picture out.
 #![tactic(auto)]
 
-ghost use Rattle.kahn_web.specs.Explained.{IsReason};
-ghost use Rattle.kahn_web.specs.Page.{IsPut, IsPutIf, IsRunInto};
-ghost use Rattle.kahn_web.specs.Picture.{IsNetworkPicture};
-ghost use Rattle.kahn_web.specs.Whole.{IsWholeText};
+ghost use Rattle.kahn_web.specs.{Explained.IsReason, Page.IsPut, Page.IsPutIf, Page.IsRunInto, Picture.IsNetworkPicture, Whole.IsWholeText};
 
 mod alone;
 mod drawing;

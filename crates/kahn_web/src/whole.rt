@@ -1,8 +1,7 @@
 //! All channels of a run, for texts that are bytes: how many values each had, what they were, and how many were taken.
 
 ghost use Rattle.std.specs.Prelude.{◌≡◌, ◌<◌, ◌++◌, IfSome, OnOk, Some, length, slice_get};
-ghost use Rattle.kahn_streams.specs.Network.{network_of};
-ghost use Rattle.kahn_streams.specs.Written.{Writes};
+ghost use Rattle.kahn_streams.specs.{Network.network_of, Written.Writes};
 ghost use Rattle.kahn_texts.specs.Formats.{HasItsLines};
 ghost use Rattle.kahn_web.specs.Whole.{IsRunRecorded, IsWholeText, channels_text, flow_text, history_text, turning, whole_text};
 

@@ -1,21 +1,10 @@
 -- Instances that wait for good: there is a solution above the iterates in which what they send stays as it is.
-use Rattle.std.proofs.Common.{Bool, List, Some, [], ap, false, le_refl, le_trans, max, pos, refl, subst, suc, sym, true, ℕ, ◌++◌, ◌∙◌, ◌∷◌, ◌≡◌, ◌≤◌}
-use Rattle.std.proofs.lemmas.List.{append-nil}
+use Rattle.kahn_why.proofs.Common.{Bool, List, Some, [], ap, false, le_refl, le_trans, max, pos, refl, subst, suc, sym, true, ℕ, ◌++◌, ◌∙◌, ◌∷◌, ◌≡◌, ◌≤◌, append-nil, Store, Network, Source, Given, Written, Nobody, Hands, Instance, instance_at, ScriptOutcome, Got, Dry, Fault, Cut, Reached, Tapes, play, IsExtended, AreInputsExtended, Histories, Inputs, Ending, HasEnd, IsPrefix, ending, exec_at, fed, input_list, iterate, out, source, tape_of, tapes_of, values_at, goes_to, AreStuck, AreForGood}
 use mathlib.Core.Path.{fun_ext}
 use Rattle.std.proofs.Math.Nat.{le-max_left, le-max_right}
-use Rattle.kahn_streams.specs.Meaning.{Store}
-use Rattle.kahn_streams.specs.Syntax.{Number}
-use Rattle.kahn_streams.specs.Network.{Network, Source, Given, Written, Nobody, Hands, Instance, instance_at}
-use Rattle.kahn_streams.specs.declared.value.Value.{Value}
-use Rattle.kahn_streams.specs.declared.value.Line.{Line}
-use Rattle.kahn_streams.specs.declared.value.Line.TheVariants.{Channel}
-use Rattle.kahn_streams.specs.Script.{ScriptOutcome, Got, Dry, Fault, Cut, Reached, Tapes, play}
-use Rattle.kahn_streams.specs.Laws.{AreSame, IsSolution, KeepsTape}
-use Rattle.kahn_streams.specs.Solution.{IsExtended, AreInputsExtended, Histories, Inputs, Ending, HasEnd, IsPrefix, ending, exec_at, fed, input_list, iterate, out, source, tape_of, tapes_of, values_at, goes_to}
-use Rattle.kahn_streams.proofs.Framed.{Stays, widened, frame_play}
-use Rattle.kahn_streams.proofs.Finished.{more_events, inputs_grow}
+use Rattle.kahn_streams.specs.{Syntax.Number, declared.value.Value.Value, declared.value.Line.Line, declared.value.Line.TheVariants.Channel, Laws.AreSame, Laws.IsSolution, Laws.KeepsTape}
+use Rattle.kahn_streams.proofs.{Framed.Stays, Framed.widened, Framed.frame_play, Finished.more_events, Finished.inputs_grow}
 use Rattle.kahn_streams.proofs.Proved.{prefix_refl, prefix_trans, Feeds, feeds, script_at, out_grows, chain, least, solves, iterates_rise, fits_all}
-use Rattle.kahn_why.specs.inner.Stuck.{AreStuck, AreForGood}
 
 -- ---- lists
 

@@ -1,17 +1,7 @@
 -- What is told to be for ever is.
-use Rattle.std.proofs.Common.{◌≡◌, ℕ, Option, true}
-use Rattle.kahn_streams.specs.Network.{Network}
-use Rattle.kahn_streams.specs.Solution.{Inputs}
-use Rattle.kahn_streams.specs.Answers.{IsRight}
-use Rattle.kahn_streams.specs.declared.answer.Answer.{Answer}
-use Rattle.kahn_streams.specs.declared.answer.Verdict.{Verdict}
-use Rattle.kahn_streams.specs.declared.answer.Verdict.TheVariants.{Finished, Bound, Memory}
-use Rattle.kahn_chain.specs.Reasons.{is_final, is_stopped, lasts}
-use Rattle.kahn_chain.specs.declared.standing.Standing.{Standing}
+use Rattle.kahn_why.proofs.Common.{◌≡◌, ℕ, Option, true, Network, Inputs, IsRight, Answer, Verdict, Finished, Bound, Memory, is_final, is_stopped, lasts, Standing, Input, Stopped, Ring, IsEndedOrFaulted, IsFinal, LastForGood}
 use Rattle.kahn_chain.specs.declared.standing.Standing.TheVariants as S
 use Rattle.kahn_chain.specs.declared.standing.Cause.{Cause}
-use Rattle.kahn_chain.specs.declared.standing.Cause.TheVariants.{Input, Stopped, Ring}
-use Rattle.kahn_why.specs.Why.{IsEndedOrFaulted, IsFinal, LastForGood}
 use Rattle.kahn_why.proofs.Stands.{for_good}
 
 over : (s : Standing) → is_stopped s ≡ true → IsEndedOrFaulted s

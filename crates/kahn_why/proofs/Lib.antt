@@ -6,3 +6,4 @@ pub mod Right_ends
 pub mod Stands
 mod Lasting
 mod Unfed
+pub mod Common

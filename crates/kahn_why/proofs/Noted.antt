@@ -1,11 +1,6 @@
 -- Notes in lines, one behind another.
-use Rattle.std.proofs.Common.{◌≡◌, ◌==◌, ℕ, Bool, true, List, [], ◌∷◌, ◌++◌, ◌∙◌, All, ap, append_assoc, arith, length, sym, take}
-use Rattle.std.proofs.lemmas.Bool.{eqb-true}
-use Rattle.std.proofs.lemmas.List.Elements.{All-from_recursion, All-weaker}
+use Rattle.kahn_why.proofs.Common.{◌≡◌, ◌==◌, ℕ, Bool, true, List, [], ◌∷◌, ◌++◌, ◌∙◌, All, ap, append_assoc, arith, length, sym, take, eqb-true, All-from_recursion, All-weaker, most_notes, Note, HasShown, StandsIn}
 use Rattle.kahn_marks.specs.Notes.{IsRendered}
-use Rattle.kahn_marks.specs.Told.{most_notes}
-use Rattle.kahn_marks.specs.declared.rendering.Note.{Note}
-use Rattle.kahn_why.specs.Noting.{HasShown, StandsIn}
 
 -- what stands in lines stands in longer ones
 longer : (path text old more new : List ℕ) → new ≡ old ++ more → (n : Note) → StandsIn path text old n → StandsIn path text new n

@@ -1,15 +1,9 @@
 -- What the parts of explaining say of the whole.
-use Rattle.std.proofs.Common.{ℕ, Bool, List, [], ◌++◌, Option, None, Result, Err, inl, inr, refl, string_bytes, subst, sym, append-nil}
+use Rattle.std.proofs.Common.{append-nil}
 use Rattle.std.specs.Io.KnownBytes.{Appends}
-use Rattle.kahn_fault.specs.Work.{IsUnchecked}
-use Rattle.kahn_fault.specs.declared.work.WorkFault.{WorkFault}
-use Rattle.kahn_fault.specs.declared.work.WorkFault.TheVariants.{Syntax, Check, Text, Run, Write}
+use Rattle.kahn_why.proofs.Common.{ℕ, Bool, List, [], ◌++◌, Option, None, Result, Err, inl, inr, refl, string_bytes, subst, sym, IsUnchecked, WorkFault, Syntax, Check, Text, Run, Write, AreAllowed, IsRefusal, IsRefusedFor, HasRefused, HasWritten, IsAdmitted, Came, Refused}
 use Rattle.kahn_streams.specs.Written.{AppendsFront}
-use Rattle.kahn_why.specs.Refusing.{AreAllowed, IsRefusal, IsRefusedFor}
-use Rattle.kahn_why.specs.inner.Told.{HasRefused, HasWritten, IsAdmitted}
 use Rattle.kahn_why.specs.declared.explaining.Admitted.{Admitted}
-use Rattle.kahn_why.specs.declared.explaining.Came.{Came}
-use Rattle.kahn_why.specs.declared.explaining.Came.TheVariants.{Refused}
 
 -- two pieces, the second of which is the last
 pub went_out : (old new : Option (List ℕ)) (first text : List ℕ) → Appends old new (first ++ (text ++ [])) → Appends old new (first ++ text)

@@ -1,24 +1,10 @@
 -- Notes on faults of a program text.
-use Rattle.std.proofs.Common.{◌≡◌, ℕ, List, [], ◌∷◌, Option, Some, None, Err, inr, refl, sym, subst, ap, ◌∙◌, string_bytes}
-use Rattle.std.specs.Prelude.{IfSome, MatchOption}
-use Rattle.std.specs.declared.alloc.Global.{Global}
-use Rattle.std.specs.declared.string.String.{String}
-use Rattle.kahn_streams.specs.declared.span.Span.{Span}
-use Rattle.kahn_streams.specs.declared.tree.Program.{Program}
-use Rattle.kahn_streams.specs.declared.fault.CheckFault.{CheckFault}
-use Rattle.kahn_streams.specs.Faults.{verdict, faults}
+use Rattle.kahn_why.proofs.Common.{◌≡◌, ℕ, List, [], ◌∷◌, Option, Some, None, Err, inr, refl, sym, subst, ap, ◌∙◌, string_bytes, IfSome, MatchOption, Global, String, Program, Note, IsParsed, Check, Syntax, IsNoteOn, IsPlacedNote, IsRefusal, IsRefusedWords, IsSyntaxNote, IsSyntaxRefusal, expected_of, AreFaultLines}
+use Rattle.kahn_streams.specs.{declared.span.Span.Span, declared.fault.CheckFault.CheckFault, Faults.verdict, Faults.faults}
 use Rattle.kahn_check.specs.Parts.{faults_by_part}
-use Rattle.kahn_syntax.specs.declared.fault.What.{What}
-use Rattle.kahn_syntax.specs.declared.fault.SyntaxFault.{SyntaxFault}
-use Rattle.kahn_syntax.specs.declared.fault.SyntaxFault.TheVariants.{Expected}
-use Rattle.kahn_syntax.specs.Texts.{IsTextFault}
+use Rattle.kahn_syntax.specs.{declared.fault.What.What, declared.fault.SyntaxFault.SyntaxFault, declared.fault.SyntaxFault.TheVariants.Expected, Texts.IsTextFault}
 use Rattle.kahn_fault.specs.Message.{syntax_span}
-use Rattle.kahn_marks.specs.declared.rendering.Note.{Note}
 use Rattle.kahn_notes.specs.Notes.{IsNoteAt, Mends}
-use Rattle.kahn_fault.specs.Work.{IsParsed}
-use Rattle.kahn_fault.specs.declared.work.WorkFault.TheVariants.{Check, Syntax}
-use Rattle.kahn_why.specs.Refusing.{IsNoteOn, IsPlacedNote, IsRefusal, IsRefusedWords, IsSyntaxNote, IsSyntaxRefusal, expected_of}
-use Rattle.kahn_why.specs.Noting.{AreFaultLines}
 
 abbrev unwrapped : Span × What → Option (Span × What) → Span × What
 unwrapped d None = d

@@ -1,28 +1,10 @@
 -- Ends whose causes are final are for good: the instances on the chain are stuck.
-use Rattle.std.proofs.Common.{◌≡◌, ℕ, ◌==◌, ◌⊎◌, inl, inr, ⊎_elim, List, [], ◌∷◌, ◌++◌, get_or, Bool, true, false, if◌then◌else◌, Option, Some, None, refl, sym, ap, subst, ◌∙◌, eq-eqb, ne_eqb}
+use Rattle.kahn_why.proofs.Common.{◌≡◌, ℕ, ◌==◌, ◌⊎◌, inl, inr, ⊎_elim, List, [], ◌∷◌, ◌++◌, get_or, Bool, true, false, if◌then◌else◌, Option, Some, None, refl, sym, ap, subst, ◌∙◌, eq-eqb, ne_eqb, option_map, cases_eq, Network, Reads, Written, actual_at, instance_at, channel_source, ScriptOutcome as Came, Dry, Cut, Store, Inputs, Histories, ending, exec_at, AreInputsExtended, Awaits, Leads, stays, onward, LeadsOn, standing_of, stands, Standing, Input, Stopped, Ring, end_of, waiting, HasEndAt, IsDryOn, IsEnd, IsOutcome, IsRight, IsWaiting, Answer, Verdict, Finished, Bound, Memory, IsEndedOrFaulted, StayForGood, standings_of, AreStuck}
 use Rattle.std.specs.List.{slice_get}
-use Rattle.std.specs.Prelude.{option_map}
-use Rattle.std.proofs.lemmas.Bool.{cases_eq}
 use Rattle.std.proofs.lemmas.Option.{slice_get-map, get_or_from_slice_get}
-use Rattle.kahn_streams.specs.Network.{Network, Reads, Written, actual_at, instance_at, channel_source}
-use Rattle.kahn_streams.specs.Script.{ScriptOutcome as Came, Dry, Cut}
-use Rattle.kahn_streams.specs.Meaning.{Store}
 use Rattle.kahn_streams.specs.Solution as net
-use Rattle.kahn_streams.specs.Solution.{Inputs, Histories, ending, exec_at, AreInputsExtended}
-use Rattle.kahn_chain.specs.Chain.{Awaits, Leads, stays, onward, LeadsOn, standing_of, stands}
-use Rattle.kahn_chain.specs.declared.standing.Standing.{Standing}
 use Rattle.kahn_chain.specs.declared.standing.Standing.TheVariants as S
-use Rattle.kahn_chain.specs.declared.standing.Cause.TheVariants.{Input, Stopped, Ring}
-use Rattle.kahn_chain.proofs.Standing_ends.{end_of, waiting}
-use Rattle.kahn_streams.specs.Answers.{HasEndAt, IsDryOn, IsEnd, IsOutcome, IsRight, IsWaiting}
-use Rattle.kahn_streams.specs.declared.answer.Answer.{Answer}
-use Rattle.kahn_streams.specs.declared.answer.End.{End}
-use Rattle.kahn_streams.specs.declared.answer.Outcome.{Outcome}
-use Rattle.kahn_streams.specs.declared.answer.Outcome.TheVariants.{Ended, Waits, Faulted, More}
-use Rattle.kahn_streams.specs.declared.answer.Verdict.{Verdict}
-use Rattle.kahn_streams.specs.declared.answer.Verdict.TheVariants.{Finished, Bound, Memory}
-use Rattle.kahn_why.specs.Why.{IsEndedOrFaulted, StayForGood, standings_of}
-use Rattle.kahn_why.specs.inner.Stuck.{AreStuck}
+use Rattle.kahn_streams.specs.{declared.answer.End.End, declared.answer.Outcome.Outcome, declared.answer.Outcome.TheVariants.Ended, declared.answer.Outcome.TheVariants.Waits, declared.answer.Outcome.TheVariants.Faulted, declared.answer.Outcome.TheVariants.More}
 use Rattle.kahn_why.proofs.Good.{stays_so}
 
 -- ---- lists of instances

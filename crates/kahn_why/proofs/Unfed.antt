@@ -1,15 +1,7 @@
 -- What is told of an input text, or why nothing is.
-use Rattle.std.proofs.Common.{ℕ, List, Option, Some, Result, Err, inl, inr, refl, string_bytes, subst, sym}
-use Rattle.std.specs.declared.alloc.Global.{Global}
-use Rattle.std.specs.declared.string.String.{String}
-use Rattle.kahn_fault.specs.Work.{IsUnchecked}
+use Rattle.kahn_why.proofs.Common.{ℕ, List, Option, Some, Result, Err, inl, inr, refl, string_bytes, subst, sym, Global, String, IsUnchecked, WorkFault, Syntax, Check, Text, Run, Write, HasWritten, Came, Refused}
 use Rattle.kahn_texts.specs.declared.input.TextFault.{TextFault}
-use Rattle.kahn_fault.specs.declared.work.WorkFault.{WorkFault}
-use Rattle.kahn_fault.specs.declared.work.WorkFault.TheVariants.{Syntax, Check, Text, Run, Write}
 use Rattle.kahn_why.specs.Telling.{HasToldInput, IsNoteFor}
-use Rattle.kahn_why.specs.inner.Told.{HasWritten}
-use Rattle.kahn_why.specs.declared.explaining.Came.{Came}
-use Rattle.kahn_why.specs.declared.explaining.Came.TheVariants.{Refused}
 
 pub unfed : (path program text : List ℕ) (fault : TextFault) (written : Option (List ℕ)) (f : WorkFault) → IsUnchecked program f →
     HasToldInput path program text fault written written (Err f)

@@ -1,10 +1,7 @@
 -- Believed. Notes in lines.
 use Rattle.std.specs.Prelude.{◌≡◌, ℕ, All, List, [], ◌++◌, take}
-use Rattle.kahn_streams.specs.declared.tree.Program.{Program}
-use Rattle.kahn_streams.specs.declared.fault.CheckFault.{CheckFault}
-use Rattle.kahn_marks.specs.Notes.{IsRendered}
-use Rattle.kahn_marks.specs.Told.{most_notes}
-use Rattle.kahn_marks.specs.declared.rendering.Note.{Note}
+use Rattle.kahn_streams.specs.{declared.tree.Program.Program, declared.fault.CheckFault.CheckFault}
+use Rattle.kahn_marks.specs.{Notes.IsRendered, Told.most_notes, declared.rendering.Note.Note}
 use Rattle.kahn_hints.specs.Hints.{TellsOne}
 use Rattle.kahn_warnings.specs.Telling.{AreWarningNotes}
 

@@ -1,22 +1,12 @@
 -- Believed. The note on why a program text is refused.
 use Rattle.std.specs.Prelude.{◌≡◌, ◌⊎◌, ◌++◌, ℕ, All, Bool, true, Contains, List, [], Option, Some, None, Err, IfSome, MatchOption, string_bytes}
-use Rattle.std.specs.declared.alloc.Global.{Global}
-use Rattle.std.specs.declared.string.String.{String}
-use Rattle.kahn_streams.specs.declared.span.Span.{Span}
-use Rattle.kahn_streams.specs.declared.tree.Program.{Program}
-use Rattle.kahn_streams.specs.declared.fault.CheckFault.{CheckFault}
-use Rattle.kahn_streams.specs.Faults.{verdict, faults}
+use Rattle.std.specs.{declared.alloc.Global.Global, declared.string.String.String}
+use Rattle.kahn_streams.specs.{declared.span.Span.Span, declared.tree.Program.Program, declared.fault.CheckFault.CheckFault, Faults.verdict, Faults.faults}
 use Rattle.kahn_check.specs.Parts.{faults_by_part}
-use Rattle.kahn_syntax.specs.declared.fault.What.{What}
-use Rattle.kahn_syntax.specs.declared.fault.SyntaxFault.{SyntaxFault}
-use Rattle.kahn_syntax.specs.declared.fault.SyntaxFault.TheVariants.{Expected}
-use Rattle.kahn_fault.specs.declared.work.WorkFault.{WorkFault}
-use Rattle.kahn_fault.specs.declared.work.WorkFault.TheVariants.{Syntax, Check, Text, Run, Write}
-use Rattle.kahn_fault.specs.Message.{check_span, syntax_span, syntax_words}
-use Rattle.kahn_marks.specs.Notes.{IsRendered}
-use Rattle.kahn_marks.specs.declared.rendering.Note.{Note}
+use Rattle.kahn_syntax.specs.{declared.fault.What.What, declared.fault.SyntaxFault.SyntaxFault, declared.fault.SyntaxFault.TheVariants.Expected}
+use Rattle.kahn_fault.specs.{declared.work.WorkFault.WorkFault, declared.work.WorkFault.TheVariants.Syntax, declared.work.WorkFault.TheVariants.Check, declared.work.WorkFault.TheVariants.Text, declared.work.WorkFault.TheVariants.Run, declared.work.WorkFault.TheVariants.Write, Message.check_span, Message.syntax_span, Message.syntax_words, Work.IsChecked, Work.IsParsed, Work.IsUnchecked}
+use Rattle.kahn_marks.specs.{Notes.IsRendered, declared.rendering.Note.Note}
 use Rattle.kahn_notes.specs.Notes.{IsNoteAt, Mends}
-use Rattle.kahn_fault.specs.Work.{IsChecked, IsParsed, IsUnchecked}
 use Rattle.kahn_why.specs.Noting.{AreFaultLines, AreWarningLines}
 
 -- the place and the reason, where a lexeme can't stand or the text ends too early

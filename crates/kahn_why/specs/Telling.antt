@@ -1,20 +1,12 @@
 -- Believed. What telling why an input text is refused does.
 use Rattle.std.specs.Prelude.{◌≡◌, ℕ, List, Option, Some, None, Result, Ok, Err, string_bytes}
-use Rattle.std.specs.declared.alloc.Global.{Global}
-use Rattle.std.specs.declared.string.String.{String}
-use Rattle.std.specs.Io.KnownBytes.{Appends}
-use Rattle.kahn_streams.specs.declared.tree.Program.{Program}
-use Rattle.kahn_streams.specs.declared.fault.RunFault.TheVariants.{NoMemory}
-use Rattle.kahn_fault.specs.Work.{IsChecked, IsUnchecked}
-use Rattle.kahn_streams.specs.Written.{AppendsFront}
+use Rattle.std.specs.{declared.alloc.Global.Global, declared.string.String.String, Io.KnownBytes.Appends}
+use Rattle.kahn_streams.specs.{declared.tree.Program.Program, declared.fault.RunFault.TheVariants.NoMemory, Written.AppendsFront}
+use Rattle.kahn_fault.specs.{Work.IsChecked, Work.IsUnchecked, declared.work.WorkFault.WorkFault, declared.work.WorkFault.TheVariants.Syntax, declared.work.WorkFault.TheVariants.Check, declared.work.WorkFault.TheVariants.Text, declared.work.WorkFault.TheVariants.Run, declared.work.WorkFault.TheVariants.Write}
 use Rattle.kahn_texts.specs.declared.input.TextFault.{TextFault}
-use Rattle.kahn_fault.specs.declared.work.WorkFault.{WorkFault}
-use Rattle.kahn_fault.specs.declared.work.WorkFault.TheVariants.{Syntax, Check, Text, Run, Write}
 use Rattle.kahn_inputs.specs.Feeding.{IsInputNote}
 use Rattle.kahn_marks.specs.declared.rendering.Note.{Note}
-use Rattle.kahn_why.specs.Refusing.{IsRenderedAs}
-use Rattle.kahn_why.specs.declared.explaining.Came.{Came}
-use Rattle.kahn_why.specs.declared.explaining.Came.TheVariants.{Stopped, Refused}
+use Rattle.kahn_why.specs.{Refusing.IsRenderedAs, declared.explaining.Came.Came, declared.explaining.Came.TheVariants.Stopped, declared.explaining.Came.TheVariants.Refused}
 
 -- a note on a fault of an input text in lines, where there is one
 abbrev pub AreInputLines : Program → List ℕ → List ℕ → TextFault → Option (String Global) → Type 0

@@ -1,27 +1,13 @@
 -- Believed. Why the instances of an answer go no further, and which of them never will.
 use Rattle.std.specs.Prelude.{◌≡◌, ◌==◌, ℕ, List, [], ◌++◌, Bool, codes, decimal, true, false, if◌then◌else◌, map, string_bytes}
 use Rattle.std.specs.List.{list_any}
-use Rattle.kahn_streams.specs.Network.{Network, network_of}
-use Rattle.kahn_streams.specs.Solution.{Inputs, AreInputsExtended}
-use Rattle.kahn_chain.specs.Chain.{IsCause, stands}
-use Rattle.kahn_chain.specs.declared.standing.Standing.{Standing}
+use Rattle.kahn_streams.specs.{Network.Network, Network.network_of, Solution.Inputs, Solution.AreInputsExtended, Answers.HasEndAt, Answers.IsEnd, declared.answer.Answer.Answer, declared.answer.End.End, declared.answer.Outcome.Outcome, declared.answer.Verdict.Verdict, declared.tree.Program.Program}
+use Rattle.kahn_chain.specs.{Chain.IsCause, Chain.stands, declared.standing.Standing.Standing, declared.standing.Cause.Cause, declared.standing.Cause.TheVariants.Input, declared.standing.Cause.TheVariants.Stopped, declared.standing.Cause.TheVariants.Ring, Reasons.AreReasons, Reasons.IsReasonFor, declared.reason.Reason.Reason}
 use Rattle.kahn_chain.specs.declared.standing.Standing.TheVariants as S
-use Rattle.kahn_chain.specs.declared.standing.Cause.{Cause}
-use Rattle.kahn_chain.specs.declared.standing.Cause.TheVariants.{Input, Stopped, Ring}
-use Rattle.kahn_streams.specs.Answers.{HasEndAt, IsEnd}
-use Rattle.kahn_streams.specs.declared.answer.Answer.{Answer}
-use Rattle.kahn_streams.specs.declared.answer.End.{End}
-use Rattle.kahn_streams.specs.declared.answer.Outcome.{Outcome}
 use Rattle.kahn_streams.specs.declared.answer.Outcome.TheVariants as outcome
-use Rattle.kahn_streams.specs.declared.answer.Verdict.{Verdict}
 use Rattle.kahn_streams.specs.declared.answer.Verdict.TheVariants as verdict
-use Rattle.kahn_streams.specs.declared.tree.Program.{Program}
-use Rattle.kahn_chain.specs.Reasons.{AreReasons, IsReasonFor}
-use Rattle.kahn_chain.specs.declared.reason.Reason.{Reason}
 use Rattle.kahn_texts.specs.Formats.{last_text}
-use Rattle.kahn_why.specs.declared.why.told.Explanation.{Explanation}
-use Rattle.kahn_why.specs.declared.why.told.Finding.{Finding}
-use Rattle.kahn_why.specs.declared.why.told.Finding.TheVariants.{Fault, Deadlock, Stop}
+use Rattle.kahn_why.specs.{declared.why.told.Explanation.Explanation, declared.why.told.Finding.Finding, declared.why.told.Finding.TheVariants.Fault, declared.why.told.Finding.TheVariants.Deadlock, declared.why.told.Finding.TheVariants.Stop}
 
 -- how the instances of an answer stand
 abbrev pub standings_of : Answer → List Standing

@@ -1,11 +1,7 @@
 //! The law of what is for ever. The function does nothing: its contract is the law.
 
 ghost use Rattle.std.specs.Prelude.{◌≡◌, ℕ, Option};
-ghost use Rattle.kahn_streams.specs.Network.{Network};
-ghost use Rattle.kahn_streams.specs.Answers.{IsRight};
-ghost use Rattle.kahn_streams.specs.declared.answer.Answer.{Answer};
-ghost use Rattle.kahn_streams.specs.declared.answer.Verdict.TheVariants.{Memory};
-ghost use Rattle.kahn_streams.specs.Solution.{Inputs};
+ghost use Rattle.kahn_streams.specs.{Network.Network, Answers.IsRight, declared.answer.Answer.Answer, declared.answer.Verdict.TheVariants.Memory, Solution.Inputs};
 ghost use Rattle.kahn_why.specs.Why.{LastForGood, StayForGood};
 
 /// Whatever is added to the input, and whatever the bound is, an instance has the end that a right answer gives it, where its

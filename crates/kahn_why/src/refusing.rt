@@ -1,9 +1,8 @@
 //! Why a program text is refused, as a note on the place.
 
 ghost use Rattle.std.specs.Prelude.{◌≡◌, IfOk, MatchOption, None, string_bytes};
-ghost use Rattle.kahn_fault.specs.Work.{IsUnchecked};
+ghost use Rattle.kahn_fault.specs.{Work.IsUnchecked, Message.check_span};
 ghost use Rattle.kahn_syntax.specs.Texts.{IsTextFault as IsSyntaxFault};
-ghost use Rattle.kahn_fault.specs.Message.{check_span};
 ghost use Rattle.kahn_why.specs.Refusing.{IsNoteOn, IsPlacedNote, IsRefusal, IsRefusedWords, IsRenderedAs, IsSyntaxNote, IsSyntaxRefusal, expected_of};
 
 use crate::noting::faults_note;

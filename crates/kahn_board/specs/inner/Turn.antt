@@ -1,13 +1,8 @@
 -- Inner. What a board begins with, what a worker's seat has and knows between two turns and in a turn, what it drew, and what the seats of a crew have together.
 use Rattle.std.specs.Prelude.{◌≡◌, ◌≢◌, ◌⊎◌, ℕ, suc, zero, ◌+◌, ◌*◌, ◌/◌, ◌^◌, ◌<◌, ◌≤◌, List, [], length, slice_index, slice_index_or, sum_by, Option, Some, None}
 use Rattle.atomic_table.specs.Seated.{TableId}
-use Rattle.kahn_board.specs.Calls.{Draws, Was, HoldsNothing}
-use Rattle.kahn_board.specs.Rule.{belongs, wired, IsDone, KnowsHalted, all_parts, channel_at, count_at}
-use Rattle.kahn_board.specs.Wires.{Summary, FlushedAll, flushed_of, events_past, Wires, wires}
-use Rattle.kahn_board.specs.Plays.{Carries, Sat, IsIn, SeesMore, after_giving_up, after_step, after_counting_down}
+use Rattle.kahn_board.specs.{Calls.Draws, Calls.Was, Calls.HoldsNothing, Rule.belongs, Rule.wired, Rule.IsDone, Rule.KnowsHalted, Rule.all_parts, Rule.channel_at, Rule.count_at, Wires.Summary, Wires.FlushedAll, Wires.flushed_of, Wires.events_past, Wires.Wires, Wires.wires, Plays.Carries, Plays.Sat, Plays.IsIn, Plays.SeesMore, Plays.after_giving_up, Plays.after_step, Plays.after_counting_down, declared.seat.Draw.Draw, declared.seat.Seat.Seat, declared.rule.Terms.Terms, declared.view.SeatView.SeatView, declared.wiring.Wiring.Wiring, declared.seat.Draw.TheVariants.Got, declared.seat.Draw.TheVariants.Lost, declared.seat.Draw.TheVariants.Empty}
 use Rattle.kahn_streams.specs.declared.tree.Program.{Program}
-use Rattle.kahn_board.specs.declared.{seat.Draw.Draw, seat.Seat.Seat, rule.Terms.Terms, view.SeatView.SeatView, wiring.Wiring.Wiring}
-use Rattle.kahn_board.specs.declared.seat.Draw.TheVariants.{Got, Lost, Empty}
 
 -- what is kept of the network of a program
 pub record IsWiringOf (program : Program) (w : Wiring) : Type 0 where

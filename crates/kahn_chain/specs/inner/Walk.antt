@@ -2,13 +2,7 @@
 use Rattle.std.specs.Prelude.{◌≡◌, ℕ, ◌<◌, ◌≤◌, List, Bool, true, false, length, Option, None, Some}
 use Rattle.std.proofs.Common.{get_or}
 use Rattle.kahn_streams.specs.Network.{Network}
-use Rattle.kahn_chain.specs.Chain.{Awaits, Leads, LeadsOn, IsCause}
-use Rattle.kahn_chain.specs.declared.standing.Standing.{Standing}
-use Rattle.kahn_chain.specs.declared.standing.Cause.{Cause}
-use Rattle.kahn_chain.specs.declared.standing.Cause.TheVariants.{Input, Stopped, Ring}
-use Rattle.kahn_chain.specs.declared.walk.WalkStep.{WalkStep}
-use Rattle.kahn_chain.specs.declared.walk.WalkStep.TheVariants.{On, Stop}
-use Rattle.kahn_chain.specs.declared.walk.Walked.{Walked}
+use Rattle.kahn_chain.specs.{Chain.Awaits, Chain.Leads, Chain.LeadsOn, Chain.IsCause, declared.standing.Standing.Standing, declared.standing.Cause.Cause, declared.standing.Cause.TheVariants.Input, declared.standing.Cause.TheVariants.Stopped, declared.standing.Cause.TheVariants.Ring, declared.walk.WalkStep.WalkStep, declared.walk.WalkStep.TheVariants.On, declared.walk.WalkStep.TheVariants.Stop, declared.walk.Walked.Walked}
 
 -- the cause is at instance z itself
 abbrev pub IsHere : Network → List Standing → ℕ → Cause → Type 0

@@ -2,10 +2,7 @@
 use Rattle.std.specs.Prelude.{◌≡◌, ◌⊎◌, ◌*◌, ◌/◌, ◌<◌}
 use Rattle.crossbeam_deque.specs.Handles.{worker_index}
 use Rattle.kahn_board.specs.{declared.seat.Draw.Draw, declared.seat.Draw.TheVariants.Lost, inner.Turn.DrawsAgain}
-use Rattle.kahn_crew.specs.inner.Words.{ℕ, false, Seat, Tasked}
-use Rattle.kahn_crew.specs.declared.{run.Run.Run, worker.Worker.Worker}
-use Rattle.kahn_crew.specs.inner.Tasks.{IsLater, told_tale}
-use Rattle.kahn_crew.specs.inner.Turns.{IsShare, terms_of}
+use Rattle.kahn_crew.specs.{inner.Words.ℕ, inner.Words.false, inner.Words.Seat, inner.Words.Tasked, declared.run.Run.Run, declared.worker.Worker.Worker, inner.Tasks.IsLater, inner.Tasks.told_tale, inner.Turns.IsShare, inner.Turns.terms_of}
 
 -- an instance begins with a whole draw; or with what another one left of it, if that is more than seven eighths of a quantum, and no memory
 -- was refused to the worker

@@ -2,10 +2,9 @@
 use Rattle.std.specs.Prelude.{◌≡◌, ◌≢◌, ◌⊎◌, ◌↔◌, ◌+◌, ◌*◌, ◌/◌, ◌^◌, ◌<◌, ◌≤◌, min}
 use Rattle.kahn_crew.specs.inner.Words.{ℕ, Bool, true, Option, None, Some, slice_index, false, List, length, slice_index_or, TableId, Was, belongs, wired, SeesMore, channel_at, TellsEnd, TellsWait, Seat, Terms, SeatView, BeginsTurn, EndsTurn, HoldsInTurn, IsBetween, IsDoneAt, IsSeatOf, SetsStill, SitsAt, Continues, Tasked}
 use Rattle.kahn_board.specs.{Rule.budget_at, Wires.Wires}
-use Rattle.kahn_crew.specs.declared.{run.Run.Run, turn.Due.Due, worker.Worker.Worker}
+use Rattle.kahn_crew.specs.{declared.run.Run.Run, declared.turn.Due.Due, declared.worker.Worker.Worker, inner.Tasks.IsTaskOf, inner.Tasks.AgreesWith, inner.Tasks.IsLater, inner.Tasks.told_tale}
 use Rattle.kahn_crew.specs.declared.turn.Due.TheVariants as due
 use Rattle.kahn_job.specs.declared.standing.TaskStanding.TheVariants as standing
-use Rattle.kahn_crew.specs.inner.Tasks.{IsTaskOf, AgreesWith, IsLater, told_tale}
 
 abbrev pub terms_of : Run → Terms Tasked
 terms_of run = run.board.now.table.shared.key

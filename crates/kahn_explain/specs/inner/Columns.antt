@@ -1,18 +1,8 @@
 -- Inner. What the calls do that put columns together.
 use Rattle.std.specs.Prelude.{◌≡◌, List, [], ◌∷◌, ◌++◌, All, flat_map, length, map}
-use Rattle.kahn_streams.specs.declared.tree.Program.{Program}
-use Rattle.kahn_streams.specs.declared.value.Line.{Line}
-use Rattle.kahn_streams.specs.Network.{network_of}
-use Rattle.kahn_streams.specs.declared.value.Line.TheVariants.{Channel, Print}
-use Rattle.kahn_streams.specs.Inputs.{Lists, inputs_of}
-use Rattle.kahn_streams.specs.Answers.{HasStream, values_of}
-use Rattle.kahn_streams.specs.declared.answer.Answer.{Answer}
-use Rattle.kahn_streams.specs.declared.answer.Stream.{Stream}
-use Rattle.kahn_streams.specs.declared.config.Config.{Config}
-use Rattle.kahn_sequential.specs.Recordings.{IsRecordedRun}
-use Rattle.kahn_sequential.specs.declared.recorded.Recorded.{Recorded}
-use Rattle.kahn_explain.specs.Histories.{AreHistories, IsHistory, all_channels, column_line}
-use Rattle.kahn_explain.specs.declared.tracing.column.Column.{Column}
+use Rattle.kahn_streams.specs.{declared.tree.Program.Program, declared.value.Line.Line, Network.network_of, declared.value.Line.TheVariants.Channel, declared.value.Line.TheVariants.Print, Inputs.Lists, Inputs.inputs_of, Answers.HasStream, Answers.values_of, declared.answer.Answer.Answer, declared.answer.Stream.Stream, declared.config.Config.Config}
+use Rattle.kahn_sequential.specs.{Recordings.IsRecordedRun, declared.recorded.Recorded.Recorded}
+use Rattle.kahn_explain.specs.{Histories.AreHistories, Histories.IsHistory, Histories.all_channels, Histories.column_line, declared.tracing.column.Column.Column}
 
 -- the answer has a stream of the line
 abbrev pub HasLine : Answer → Line → Type 0

@@ -1,26 +1,14 @@
 -- Inner. What the parts of explaining, of a sheet and of a reply do.
 use Rattle.std.specs.Prelude.{◌≡◌, ◌⊎◌, ◌<◌, ◌++◌, ⊤, ℕ, Bool, List, [], Option, Some, None, Result, Ok, Err, slice_index_or, string_bytes}
 use Rattle.std.specs.Io.KnownBytes.{Appends}
-use Rattle.kahn_fault.specs.declared.work.WorkFault.{WorkFault}
-use Rattle.kahn_fault.specs.declared.work.WorkFault.TheVariants.{Write}
-use Rattle.kahn_streams.specs.declared.value.Line.{Line}
-use Rattle.kahn_streams.specs.declared.config.Config.{Config}
-use Rattle.kahn_streams.specs.declared.tree.Program.{Program}
+use Rattle.kahn_fault.specs.{declared.work.WorkFault.WorkFault, declared.work.WorkFault.TheVariants.Write}
+use Rattle.kahn_streams.specs.{declared.value.Line.Line, declared.config.Config.Config, declared.tree.Program.Program}
 use Rattle.kahn_texts.specs.declared.bytes.WriteFault.{WriteFault}
 use Rattle.kahn_needs.specs.declared.needs.Found.{Found}
 use Rattle.kahn_needs.specs.declared.needs.Found.TheVariants as found
 use Rattle.kahn_sequential.specs.declared.recorded.Recorded.{Recorded}
-use Rattle.kahn_why.specs.inner.Told.{IsAdmitted}
-use Rattle.kahn_why.specs.declared.explaining.Admitted.{Admitted}
-use Rattle.kahn_why.specs.declared.explaining.Came.{Came}
-use Rattle.kahn_why.specs.declared.explaining.Came.TheVariants.{Stopped, Refused}
-use Rattle.kahn_why.specs.declared.why.told.Finding.{Finding}
-use Rattle.kahn_explain.specs.Histories.{IsRecordedFor}
-use Rattle.kahn_explain.specs.Needing.{IsPlaceGiven, values_on}
-use Rattle.kahn_explain.specs.Running.{BreaksOff, HasExplained, HasLooked, Replies, beside}
-use Rattle.kahn_explain.specs.Untaken.{IsToldFor}
-use Rattle.kahn_explain.specs.declared.replying.Reply.{Reply}
-use Rattle.kahn_explain.specs.declared.replying.Sheet.{Sheet}
+use Rattle.kahn_why.specs.{inner.Told.IsAdmitted, declared.explaining.Admitted.Admitted, declared.explaining.Came.Came, declared.explaining.Came.TheVariants.Stopped, declared.explaining.Came.TheVariants.Refused, declared.why.told.Finding.Finding}
+use Rattle.kahn_explain.specs.{Histories.IsRecordedFor, Needing.IsPlaceGiven, Needing.values_on, Running.BreaksOff, Running.HasExplained, Running.HasLooked, Running.Replies, Running.beside, Untaken.IsToldFor, declared.replying.Reply.Reply, declared.replying.Sheet.Sheet}
 
 -- what became of the run of an admitted program, and where it was only looked at
 abbrev pub HasToldRun : List ℕ → List ℕ → Admitted → List ℕ → Config → Option (List ℕ) → Option (List ℕ) → Result Came WorkFault → Type 0

@@ -1,13 +1,9 @@
 //! What a word of the command line asks for: a line of the network, or a place of it.
 
 ghost use Rattle.std.specs.Prelude.{◌≡◌, ◌↔◌, ℕ, true, IfOk, MatchOption, MatchResult, Option, option_map};
-ghost use Rattle.kahn_streams.specs.Inputs.{IsNoName};
-ghost use Rattle.kahn_streams.specs.Network.{Given, network_of};
-ghost use Rattle.kahn_streams.specs.Solution.{source};
-ghost use Rattle.kahn_streams.specs.declared.value.Line.{Line};
+ghost use Rattle.kahn_streams.specs.{Inputs.IsNoName, Network.Given, Network.network_of, Solution.source, declared.value.Line.Line};
 ghost use Rattle.kahn_needs.specs.Finding.{IsNetworkLine};
-ghost use Rattle.kahn_explain.specs.inner.Told.{IsGivenAs};
-ghost use Rattle.kahn_explain.specs.Needing.{IsAskable, IsLineNamed, IsPlaceWord, IsQuestion, IsUnasked};
+ghost use Rattle.kahn_explain.specs.{inner.Told.IsGivenAs, Needing.IsAskable, Needing.IsLineNamed, Needing.IsPlaceWord, Needing.IsQuestion, Needing.IsUnasked};
 
 use kahn_line::parted;
 use kahn_streams::{Line, Network, channel_named};

@@ -1,12 +1,9 @@
 //! What is told of what a word asks for, and how the search for it ended.
 
 ghost use Rattle.std.specs.Prelude.{◌≡◌, IfOk, MatchResult, false, true};
-ghost use Rattle.kahn_streams.specs.Inputs.{inputs_of};
-ghost use Rattle.kahn_streams.specs.Network.{Given, network_of};
-ghost use Rattle.kahn_streams.specs.Solution.{source};
+ghost use Rattle.kahn_streams.specs.{Inputs.inputs_of, Network.Given, Network.network_of, Solution.source};
 ghost use Rattle.kahn_needs.specs.Finding.{AreNeedsFound, IsNetworkLine};
-ghost use Rattle.kahn_explain.specs.Histories.{IsUntraced};
-ghost use Rattle.kahn_explain.specs.Needing.{IsAskable, IsPlaceTold, IsReply, IsTableTold};
+ghost use Rattle.kahn_explain.specs.{Histories.IsUntraced, Needing.IsAskable, Needing.IsPlaceTold, Needing.IsReply, Needing.IsTableTold};
 
 use crate::needing::asked::Question;
 use crate::needing::rows::table_of;

@@ -1,9 +1,7 @@
 //! The table of what the values of a line need: a row for each place.
 
 ghost use Rattle.std.specs.Prelude.{◌≡◌, IfOk};
-ghost use Rattle.kahn_streams.specs.Inputs.{inputs_of};
-ghost use Rattle.kahn_streams.specs.Network.{Given, network_of};
-ghost use Rattle.kahn_streams.specs.Solution.{source};
+ghost use Rattle.kahn_streams.specs.{Inputs.inputs_of, Network.Given, Network.network_of, Solution.source};
 ghost use Rattle.kahn_needs.specs.Finding.{IsNetworkLine};
 ghost use Rattle.kahn_explain.specs.Needing.{AreAllNeeds};
 

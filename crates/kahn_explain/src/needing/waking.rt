@@ -1,13 +1,9 @@
 //! The first value of each stream that needs a value of an input.
 
 ghost use Rattle.std.specs.Prelude.{◌≡◌, ◌↔◌, true, IfOk, length, slice_index_or};
-ghost use Rattle.kahn_streams.specs.Inputs.{inputs_of};
-ghost use Rattle.kahn_streams.specs.Network.{Given, network_of};
-ghost use Rattle.kahn_streams.specs.Solution.{source};
+ghost use Rattle.kahn_streams.specs.{Inputs.inputs_of, Network.Given, Network.network_of, Solution.source};
 ghost use Rattle.kahn_needs.specs.Finding.{IsNetworkLine};
-ghost use Rattle.kahn_explain.specs.Needing.{AreFirstEnds, IsFirstEnd, IsFirstNeeding, values_on, worse};
-ghost use Rattle.kahn_explain.specs.inner.Columns.{IsRecord};
-ghost use Rattle.kahn_explain.specs.inner.Told.{EndsSearch};
+ghost use Rattle.kahn_explain.specs.{Needing.AreFirstEnds, Needing.IsFirstEnd, Needing.IsFirstNeeding, Needing.values_on, Needing.worse, inner.Columns.IsRecord, inner.Told.EndsSearch};
 
 use crate::needing::asked::is_given;
 use crate::needing::texts::{add_first, found_end};

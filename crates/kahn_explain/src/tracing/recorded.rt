@@ -1,12 +1,9 @@
 //! The column of a channel, of a run that kept all channels.
 
 ghost use Rattle.std.specs.Prelude.{◌≡◌, ◌<◌, IfOk, MatchResult, false, length};
-ghost use Rattle.kahn_streams.specs.Answers.{is_output};
-ghost use Rattle.kahn_streams.specs.Network.{network_of, role_at};
-ghost use Rattle.kahn_streams.specs.declared.value.Line.TheVariants.{Channel};
+ghost use Rattle.kahn_streams.specs.{Answers.is_output, Network.network_of, Network.role_at, declared.value.Line.TheVariants.Channel};
 ghost use Rattle.kahn_fault.specs.Work.{IsUnanswered};
-ghost use Rattle.kahn_explain.specs.Histories.{IsRecordedFor};
-ghost use Rattle.kahn_explain.specs.inner.Columns.{IsHistoryOf, IsRecord};
+ghost use Rattle.kahn_explain.specs.{Histories.IsRecordedFor, inner.Columns.IsHistoryOf, inner.Columns.IsRecord};
 
 use crate::tracing::column::{Column, column_of, line_column};
 use kahn_fault::WorkFault;

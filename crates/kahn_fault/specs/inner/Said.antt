@@ -1,7 +1,6 @@
 -- Inner. The line that says something.
 use Rattle.std.specs.Prelude.{ℕ, List, decimal}
-use Rattle.kahn_fault.specs.Message.{between_line, placed_line, two_line, words_line}
-use Rattle.kahn_fault.specs.declared.message.Says.{Says}
+use Rattle.kahn_fault.specs.{Message.between_line, Message.placed_line, Message.two_line, Message.words_line, declared.message.Says.Says}
 use Rattle.kahn_fault.specs.declared.message.Says.TheVariants as said
 
 abbrev pub said_line : List ℕ → Says → List ℕ

@@ -1,10 +1,7 @@
 -- Inner. Texts that grow by the texts of items.
 use Rattle.std.specs.Prelude.{◌≡◌, ℕ, Bool, true, false, ◌==◌, List, ◌∷◌, ◌++◌, Some, slice_get}
-use Rattle.kahn_streams.specs.declared.tree.{Argument.Argument, Instance.Instance, Parameter.Parameter, Program.Program}
-use Rattle.kahn_streams.specs.Network.{Network}
-use Rattle.kahn_chain.specs.declared.standing.Standing.{Standing}
-use Rattle.kahn_chain.specs.declared.standing.Standing.TheVariants.{Ended, Waits, Faulted, More}
-use Rattle.kahn_chain.specs.Chain.{LeadsOn}
+use Rattle.kahn_streams.specs.{declared.tree.Argument.Argument, declared.tree.Instance.Instance, declared.tree.Parameter.Parameter, declared.tree.Program.Program, Network.Network}
+use Rattle.kahn_chain.specs.{declared.standing.Standing.Standing, declared.standing.Standing.TheVariants.Ended, declared.standing.Standing.TheVariants.Waits, declared.standing.Standing.TheVariants.Faulted, declared.standing.Standing.TheVariants.More, Chain.LeadsOn}
 use Rattle.kahn_graph.specs.Graph.{tip_text, values_text}
 
 -- behind the old text stands one of these

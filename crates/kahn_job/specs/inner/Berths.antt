@@ -1,8 +1,7 @@
 -- Inner. What contracts see of the ends of an instance's channels, of those of all instances, and of the two of each channel.
 use Rattle.std.specs.Prelude.{◌≡◌, ◌⊎◌, ◌<◌, ◌≤◌}
 use Rattle.kahn_job.specs.inner.Words.{ℕ, true, false, List, [], length, map, None, Some, slice_index_or, Unit-prop, props, Program, Side, Input, Network, Actual, Reads, Writes, Hands, network_of, instance_at, actual_at, role_at, Lists, inputs_of, is_output, LaneName, lane_name, name-prop}
-use Rattle.kahn_job.specs.inner.Ends.{TaskEnd, Identity, IsSame, IsReady, IsBehind, ShareLane, identity_of}
-use Rattle.kahn_job.specs.inner.Ways.{no_end}
+use Rattle.kahn_job.specs.{inner.Ends.TaskEnd, inner.Ends.Identity, inner.Ends.IsSame, inner.Ends.IsReady, inner.Ends.IsBehind, inner.Ends.ShareLane, inner.Ends.identity_of, inner.Ways.no_end}
 
 abbrev pub end_at : List TaskEnd → ℕ → TaskEnd
 end_at ends q = slice_index_or ends q no_end

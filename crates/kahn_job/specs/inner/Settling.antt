@@ -1,8 +1,7 @@
 -- Inner. The ends of channels go on with an input that has grown.
 use Rattle.std.specs.Prelude.{◌≡◌, ◌⊎◌, ◌≤◌}
 use Rattle.kahn_job.specs.inner.Words.{ℕ, true, false, List, [], length, None, Some, slice_index_or, Result, MatchResult, Program, Side, side_at, Actual, network_of, instance_at, actual_at, role_at, AreInputsExtended, Lists, inputs_of, is_output, Joins, LaneName, lane_name, moved_to, IsGrown}
-use Rattle.kahn_job.specs.inner.Ends.{TaskEnd, IsFlushed, MayMeet, ShareLane}
-use Rattle.kahn_job.specs.inner.Berths.{ServesSo, AreJoinedOn, end_in, end_of_side}
+use Rattle.kahn_job.specs.{inner.Ends.TaskEnd, inner.Ends.IsFlushed, inner.Ends.MayMeet, inner.Ends.ShareLane, inner.Berths.ServesSo, inner.Berths.AreJoinedOn, inner.Berths.end_in, inner.Berths.end_of_side}
 
 -- it has become an end of what the name says, at the same place, and what was put is flushed
 pub record HasSettled (name : LaneName) (old new : TaskEnd) : Type 0 where

@@ -1,8 +1,7 @@
 -- Inner. What is seen of an end, by what it does.
 use Rattle.std.specs.Prelude.{◌-◌}
 use Rattle.kahn_job.specs.inner.Words.{ℕ, true, false, length, Some, None, Global, Program, Lists, inputs_of, Sender, Receiver, sender_lane, receiver_lane, sender_name, receiver_name, flushed, sent, filled, capacity, received, waiting, heard, left, lane_name}
-use Rattle.kahn_job.specs.inner.Ends.{TaskEnd}
-use Rattle.kahn_job.specs.declared.port.Way.{Way}
+use Rattle.kahn_job.specs.{inner.Ends.TaskEnd, declared.port.Way.Way}
 use Rattle.kahn_job.specs.declared.port.Way.TheVariants as way
 
 -- no end

@@ -1,8 +1,7 @@
 -- Inner. What contracts see of a job: a cell with the ends of its channels.
 use Rattle.std.specs.Prelude.{◌≡◌, ◌+◌, ◌<◌}
 use Rattle.kahn_job.specs.inner.Words.{ℕ, false, List, length, Writes, network_of, instance_at, actual_at, role_at, Lists, inputs_of, Pause, is_output, Paused, IsPause, count, CellView, IsAt, told_view}
-use Rattle.kahn_job.specs.inner.Ends.{TaskEnd, IsDry, IsReady}
-use Rattle.kahn_job.specs.inner.Berths.{AreServed, end_at}
+use Rattle.kahn_job.specs.{inner.Ends.TaskEnd, inner.Ends.IsDry, inner.Ends.IsReady, inner.Berths.AreServed, inner.Berths.end_at}
 
 -- the cell, and the end that each of its parameters has
 pub record Work : Type 0 where

@@ -4,10 +4,8 @@ use Rattle.std.specs.Prelude.{◌≡◌, ℕ, ◌+◌, ◌^◌, ◌<◌, ◌≤�
 use mathlib.Core.Option.{some}
 use lib.ListN.{get_elem?}
 use Rattle.kahn_streams.specs.declared.token.Token.{Token}
-use Rattle.kahn_lane.specs.declared.segments.Mark.{Mark}
-use Rattle.kahn_lane.specs.declared.segments.Segment.{Segment}
+use Rattle.kahn_lane.specs.{declared.segments.Mark.Mark, declared.segments.Segment.Segment, Places.Named, Places.StandFrom, Places.mark, Places.opening_mark, Places.telling, Places.told, Places.first_place}
 use Rattle.kahn_lane.specs.declared.segments.Stage.TheVariants as stage
-use Rattle.kahn_lane.specs.Places.{Named, StandFrom, mark, opening_mark, telling, told, first_place}
 
 -- only the writer may flush; it knows what the tokens are of, and how many were flushed
 abbrev pub WritesLane : ℕ → Named → ℕ → ℕ → Mark → Type 0

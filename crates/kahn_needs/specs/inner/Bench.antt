@@ -2,17 +2,8 @@
 use Rattle.std.specs.Prelude.{◌≡◌, ℕ, ◌+◌, ◌≤◌, List, length, Option, Some, None, slice_get, slice_set}
 use Rattle.kahn_streams.specs.Script as script
 use Rattle.kahn_streams.specs.Solution as end
-use Rattle.kahn_streams.specs.Meaning.{Store}
-use Rattle.kahn_streams.specs.Network.{Reads, actual_at, instance_at, network_of}
-use Rattle.kahn_streams.specs.Inputs.{Lists, inputs_of}
-use Rattle.kahn_streams.specs.Solution.{ending}
-use Rattle.kahn_streams.specs.Wiring.{IsWellWired}
-use Rattle.kahn_streams.specs.declared.tree.Program.{Program}
-use Rattle.kahn_code.specs.Cells.{StoodBy}
-use Rattle.kahn_code.specs.Lines.{AreQueued, Lines, place_at, taken_of, waiting_of}
-use Rattle.kahn_code.specs.Progress.{IsAt, Paused, CellView, told_view}
-use Rattle.kahn_code.specs.Standing.{count}
-use Rattle.kahn_code.specs.declared.progress.Pause.{Pause}
+use Rattle.kahn_streams.specs.{Meaning.Store, Network.Reads, Network.actual_at, Network.instance_at, Network.network_of, Inputs.Lists, Inputs.inputs_of, Solution.ending, Wiring.IsWellWired, declared.tree.Program.Program}
+use Rattle.kahn_code.specs.{Cells.StoodBy, Lines.AreQueued, Lines.Lines, Lines.place_at, Lines.taken_of, Lines.waiting_of, Progress.IsAt, Progress.Paused, Progress.CellView, Progress.told_view, Standing.count, declared.progress.Pause.Pause}
 use Rattle.kahn_code.specs.declared.progress.Pause.TheVariants as pause
 
 -- the program and the input, the channel of which what is sent is kept, the program of the code, the cells and the queues

@@ -1,24 +1,9 @@
 -- Inner. What is known in a search for needs.
 use Rattle.std.specs.Prelude.{◌≡◌, ℕ, ◌≤◌, ◌<◌, length, Option, Some, None, slice_get}
-use Rattle.kahn_streams.specs.Inputs.{inputs_of}
-use Rattle.kahn_streams.specs.Network.{Network, Reads, Given, Written, actual_at, instance_at, network_of}
-use Rattle.kahn_streams.specs.Solution.{Inputs, input_list, source}
-use Rattle.kahn_streams.specs.declared.value.Line.{Line}
-use Rattle.kahn_streams.specs.declared.value.Line.TheVariants.{Channel, Print}
-use Rattle.kahn_streams.specs.declared.value.Value.{Value}
-use Rattle.kahn_code.specs.Cells.{sent_on}
-use Rattle.kahn_code.specs.Lines.{taken_of}
-use Rattle.kahn_code.specs.Progress.{Paused, CellView, told_view}
-use Rattle.kahn_code.specs.Standing.{count}
-use Rattle.kahn_code.specs.declared.progress.Pause.{Pause}
-use Rattle.kahn_needs.specs.Needs.{Cut, held_in}
-use Rattle.kahn_needs.specs.Finding.{IsNetworkLine, Seeking}
-use Rattle.kahn_needs.specs.inner.Bench.{IsStopped, AreSeatsOf, Stood, Seats}
-use Rattle.kahn_needs.specs.declared.search.Chain.{Chain}
-use Rattle.kahn_needs.specs.declared.search.Demand.{Demand}
-use Rattle.kahn_needs.specs.declared.search.Turn.{Turn}
+use Rattle.kahn_streams.specs.{Inputs.inputs_of, Network.Network, Network.Reads, Network.Given, Network.Written, Network.actual_at, Network.instance_at, Network.network_of, Solution.Inputs, Solution.input_list, Solution.source, declared.value.Line.Line, declared.value.Line.TheVariants.Channel, declared.value.Line.TheVariants.Print, declared.value.Value.Value}
+use Rattle.kahn_code.specs.{Cells.sent_on, Lines.taken_of, Progress.Paused, Progress.CellView, Progress.told_view, Standing.count, declared.progress.Pause.Pause}
+use Rattle.kahn_needs.specs.{Needs.Cut, Needs.held_in, Finding.IsNetworkLine, Finding.Seeking, inner.Bench.IsStopped, inner.Bench.AreSeatsOf, inner.Bench.Stood, inner.Bench.Seats, declared.search.Chain.Chain, declared.search.Demand.Demand, declared.search.Turn.Turn, declared.search.Sought.Sought}
 use Rattle.kahn_needs.specs.declared.search.Turn.TheVariants as turn
-use Rattle.kahn_needs.specs.declared.search.Sought.{Sought}
 use Rattle.kahn_needs.specs.declared.search.Sought.TheVariants as sought
 
 -- what is kept of the line

@@ -1,9 +1,8 @@
 -- Inner. The jobs of a held run.
 use Rattle.std.specs.Prelude.{◌≡◌, ℕ, ◌+◌, ◌<◌, ◌≤◌, ◌^◌, List, [], length, map, sum_by, Option, Some, Err, Result, MatchResult, slice_get, vec_capacity}
 use Rattle.kahn_pool.specs.inner.Below.{Answer, AreIdle, AreJobsAt, CrewFault, Crewing, End, HaveGone, IsAsConfigured, IsCrew, IsLack, IsRight, Left, Lists, NoMemory, Plan, Program, Tasked, Token, CellView, Verdict, Work, cells_of, inputs_of, network_of, told_view}
-use Rattle.kahn_sequential.specs.HeldRuns.{HeldRun, seen_events, seen_of}
+use Rattle.kahn_sequential.specs.{HeldRuns.HeldRun, HeldRuns.seen_events, HeldRuns.seen_of, inner.Bench.RunState, inner.Parts.AreEnded, inner.Parts.HaveRisen, inner.Parts.run_with, inner.Streams.AreAllGiven, inner.Streams.AreGiven, inner.Workbench.AllStandBy, inner.Workbench.Table}
 use Rattle.kahn_pool.specs.{declared.part.PartRoom.PartRoom, declared.part.Stopped.Stopped, declared.plan.RunPart.RunPart, declared.workers.HandRoom.HandRoom}
-use Rattle.kahn_sequential.specs.{inner.Bench.RunState, inner.Parts.AreEnded, inner.Parts.HaveRisen, inner.Parts.run_with, inner.Streams.AreAllGiven, inner.Streams.AreGiven, inner.Workbench.AllStandBy, inner.Workbench.Table}
 
 -- the cell without its input
 abbrev pub cell_alone : CellView → CellView

@@ -1,16 +1,10 @@
 -- Inner. What a session and its run keep.
 use Rattle.std.specs.Prelude.{◌≡◌, ℕ, ◌+◌, ◌<◌, ◌≤◌, List, Option, length, map}
-use Rattle.std.specs.declared.alloc.Global.{Global}
-use Rattle.std.specs.declared.vec.Vec.{Vec}
-use Rattle.kahn_streams.specs.declared.tree.Program.{Program}
-use Rattle.kahn_streams.specs.declared.value.Line.{Line}
-use Rattle.kahn_streams.specs.declared.value.Value.{Value}
-use Rattle.kahn_sequential.specs.HeldRuns.{HeldRun}
-use Rattle.kahn_sequential.specs.Flows.{Flowing, IsStale, flow_lines}
+use Rattle.std.specs.{declared.alloc.Global.Global, declared.vec.Vec.Vec}
+use Rattle.kahn_streams.specs.{declared.tree.Program.Program, declared.value.Line.Line, declared.value.Value.Value}
+use Rattle.kahn_sequential.specs.{HeldRuns.HeldRun, Flows.Flowing, Flows.IsStale, Flows.flow_lines}
 use Rattle.kahn_texts.specs.News.{news_text}
-use Rattle.kahn_session.specs.Forms.{values_behind}
-use Rattle.kahn_session.specs.Live.{IsFirstInput}
-use Rattle.kahn_session.specs.Pace.{events_of, most_bound}
+use Rattle.kahn_session.specs.{Forms.values_behind, Live.IsFirstInput, Pace.events_of, Pace.most_bound}
 
 -- its network, and the name of the first input channel
 abbrev pub AreKept : HeldRun → Program → Option (List ℕ) → Type 0

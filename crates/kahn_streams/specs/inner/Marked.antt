@@ -1,7 +1,6 @@
 -- Inner. An entry after others, which are known by marks: a list that has true at the number of each channel that they name.
 use Rattle.std.specs.Prelude.{◌≡◌, ℕ, Bool, false, List, slice_index_or}
-use Rattle.kahn_streams.specs.Types.{Program, InputFault}
-use Rattle.kahn_streams.specs.Inputs.{AllHold, Entry, FailsFirst, asked_of_entry, channel_of}
+use Rattle.kahn_streams.specs.{Types.Program, Types.InputFault, Inputs.AllHold, Inputs.Entry, Inputs.FailsFirst, Inputs.asked_of_entry, Inputs.channel_of}
 
 -- whether the channel of the entry is marked
 abbrev pub is_marked : Program → List Bool → Entry → Bool

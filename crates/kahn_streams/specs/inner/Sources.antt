@@ -1,7 +1,6 @@
 -- Inner. Where the values of a channel come from.
 use Rattle.std.specs.Prelude.{◌≡◌, ◌⊎◌, ◌<◌, ℕ, length}
-use Rattle.kahn_streams.specs.declared.tree.Role.TheVariants.{Inner, Input, Output}
-use Rattle.kahn_streams.specs.Network.{Network, Writes, Given, Written, instance_at, actual_at, role_at, channel_source}
+use Rattle.kahn_streams.specs.{declared.tree.Role.TheVariants.Inner, declared.tree.Role.TheVariants.Input, declared.tree.Role.TheVariants.Output, Network.Network, Network.Writes, Network.Given, Network.Written, Network.instance_at, Network.actual_at, Network.role_at, Network.channel_source}
 
 -- an instance sends them
 abbrev pub HasSender : Network → ℕ → Type 0

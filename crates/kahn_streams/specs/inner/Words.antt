@@ -1,10 +1,7 @@
 -- Inner. Which value a word is.
 use Rattle.std.specs.Prelude.{◌≡◌, refl, ℤ, pos, Bool, true, false, if◌then◌else◌, ℕ, ◌+◌, not, nat_eq}
 use Rattle.std.specs.Int.{w64, from_le_bytes, cast_signed, from_bool}
-use Rattle.kahn_streams.specs.Types.{Value}
-use Rattle.kahn_streams.specs.declared.value.Value.TheVariants.{Integer, Logical}
-use Rattle.kahn_streams.specs.declared.word.Word.TheInside.{Inside}
-use Rattle.kahn_streams.specs.declared.word.Packed.TheInside.{Inside as Bytes}
+use Rattle.kahn_streams.specs.{Types.Value, declared.value.Value.TheVariants.Integer, declared.value.Value.TheVariants.Logical, declared.word.Word.TheInside.Inside, declared.word.Packed.TheInside.Inside as Bytes}
 
 abbrev pub word_value : Inside → Value
 word_value w = if w.is_logical then Logical w.truth else Integer w.number

@@ -1,14 +1,8 @@
 -- Inner. The lines of streams, cut into pieces.
 use Rattle.std.specs.Prelude.{◌≡◌, ℕ, ◌<◌, List, ◌++◌, length, flat_map, replicate, All, Option, None, IfSome, slice_index_or}
-use Rattle.std.specs.declared.alloc.Global.{Global}
-use Rattle.std.specs.declared.vec.Vec.{Vec}
-use Rattle.kahn_streams.specs.declared.answer.Stream.{Stream}
-use Rattle.kahn_streams.specs.declared.tree.Program.{Program}
-use Rattle.kahn_streams.specs.Written.{line_feed}
-use Rattle.kahn_texts.specs.Formats.{IsLine, line_head, stream_text, token_text}
-use Rattle.kahn_texts.specs.declared.made.Made.{Made}
-use Rattle.kahn_texts.specs.declared.pieces.Piece.{Piece}
-use Rattle.kahn_texts.specs.declared.pieces.Piece.TheVariants.{Lines, Opening, Middle, Closing}
+use Rattle.std.specs.{declared.alloc.Global.Global, declared.vec.Vec.Vec}
+use Rattle.kahn_streams.specs.{declared.answer.Stream.Stream, declared.tree.Program.Program, Written.line_feed}
+use Rattle.kahn_texts.specs.{Formats.IsLine, Formats.line_head, Formats.stream_text, Formats.token_text, declared.made.Made.Made, declared.pieces.Piece.Piece, declared.pieces.Piece.TheVariants.Lines, declared.pieces.Piece.TheVariants.Opening, declared.pieces.Piece.TheVariants.Middle, declared.pieces.Piece.TheVariants.Closing}
 
 -- what a piece is of the lines' text
 abbrev pub piece_text : Program → Piece → List ℕ

@@ -1,9 +1,7 @@
 -- Inner. Which lexemes may stand behind others.
 use Rattle.std.specs.Prelude.{◌≡◌, List, [], ◌∷◌, ◌++◌, ℕ, ℤ, All, Contains}
 use Rattle.kahn_streams.specs.declared.span.Span.{Span}
-use Rattle.kahn_syntax.specs.declared.lexeme.{Class.Class, Lexeme.Lexeme}
-use Rattle.kahn_syntax.specs.Grammar.{Terminal}
-use Rattle.kahn_syntax.specs.Texts.{terminals, Begins, BeginsWithin}
+use Rattle.kahn_syntax.specs.{declared.lexeme.Class.Class, declared.lexeme.Lexeme.Lexeme, Grammar.Terminal, Texts.terminals, Texts.Begins, Texts.BeginsWithin}
 use Rattle.kahn_wanted.specs.inner.Walk.{terminal_with}
 
 -- behind these terminals each terminal of this class may stand, and one of it may

@@ -1,10 +1,8 @@
 -- Inner. What is open behind lexemes: what the code calls the parts of the grammar, and what terminals do to them, one after another.
 use Rattle.std.specs.Prelude.{◌≡◌, ℕ, ℤ, Bool, List, [], ◌∷◌, ◌++◌, Option, Some, None, Result, Ok, Err, is_some, map}
 use Rattle.std.specs.Borrow.{Bor}
-use Rattle.kahn_syntax.specs.declared.lexeme.Class.{Class}
+use Rattle.kahn_syntax.specs.{declared.lexeme.Class.Class, Grammar.Terminal, Grammar.word, Grammar.numeral, Grammar.name, Texts.sign_terminal}
 use Rattle.kahn_syntax.specs.declared.lexeme.Class.TheVariants as class
-use Rattle.kahn_syntax.specs.Grammar.{Terminal, word, numeral, name}
-use Rattle.kahn_syntax.specs.Texts.{sign_terminal}
 use Rattle.kahn_syntax.specs.inner.Machine.{RuleToken, a_word, either, a_sign, a_number, a_name, an_operator, Rule, step, whole, ors, ands, denials, relations, sums, terms, factors, Part, ProgramPart, DeclarationsPart, RolePart, GroupsPart, GroupPart, TakingPart, VariablesPart, StatementPart, SimplePart, InstancePart, ArgumentsPart, ArgumentPart, ExpressionPart, OperatorsPart, NamesTail, StatementsTail, GroupsTail, ArgumentsTail, InstancesTail, ElseTail, LastTail, TokenPart, LevelPart}
 use Rattle.kahn_wanted.specs.declared.awaited.{Awaited.Awaited, Lead.Lead}
 use Rattle.kahn_wanted.specs.declared.awaited.Awaited.TheVariants as awaited

@@ -2,8 +2,7 @@
 use Rattle.std.specs.Prelude.{◌≡◌, ◌||◌, Bool, ℕ, List, [], ◌∷◌, is_some}
 use Rattle.std.proofs.Common.{bytes_eq}
 use Rattle.std.specs.Map.{lookup}
-use Rattle.kahn_streams.specs.View.{statement_of}
-use Rattle.kahn_streams.specs.declared.tree.Statement.{Statement}
+use Rattle.kahn_streams.specs.{View.statement_of, declared.tree.Statement.Statement}
 use Rattle.kahn_warnings.specs.Uses.{is_assigned_in}
 
 -- a name is among these, which stand for nothing

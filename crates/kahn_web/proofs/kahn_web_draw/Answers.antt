@@ -1,5 +1,4 @@
-use Rattle.std.proofs.Common.{string_bytes, inr, subst}
-use Rattle.kahn_web.specs.Page.{IsPut}
+use Rattle.kahn_web.proofs.Common.{string_bytes, inr, subst, IsPut}
 use Rattle.kahn_web.proofs.kahn_web_draw.Goals as goal
 
 pub returns-in-Some : goal.returns-in-Some

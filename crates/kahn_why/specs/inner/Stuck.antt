@@ -1,8 +1,6 @@
 -- Inner. Instances whose chains of waits lead to a ring, or to one that has ended or faulted.
 use Rattle.std.specs.Prelude.{◌≡◌, ℕ, Bool, true, Some}
-use Rattle.kahn_streams.specs.Network.{Network, Reads, Written, actual_at, instance_at, channel_source}
-use Rattle.kahn_streams.specs.declared.value.Line.{Line}
-use Rattle.kahn_streams.specs.Script.{Dry, Cut}
+use Rattle.kahn_streams.specs.{Network.Network, Network.Reads, Network.Written, Network.actual_at, Network.instance_at, Network.channel_source, declared.value.Line.Line, Script.Dry, Script.Cut}
 use Rattle.kahn_streams.specs.Solution.{AreInputsExtended, Histories, Inputs, Ending, HasEnd, IsPrefix, ending, exec_at, iterate, out, source}
 
 -- these have ended, faulted or wait on one another, on tapes that begin the solution and with all that they sent

@@ -1,17 +1,10 @@
 -- Inner. What the parts of explaining do.
 use Rattle.std.specs.Prelude.{◌≡◌, ◌⊎◌, ℕ, Bool, true, false, List, [], Option, None, Result, Ok, Err, string_bytes}
 use Rattle.std.specs.Io.KnownBytes.{Appends}
-use Rattle.kahn_streams.specs.declared.fault.RunFault.TheVariants.{NoMemory}
-use Rattle.kahn_fault.specs.Work.{IsChecked, IsUnchecked}
-use Rattle.kahn_streams.specs.Written.{AppendsFront}
+use Rattle.kahn_streams.specs.{declared.fault.RunFault.TheVariants.NoMemory, Written.AppendsFront}
+use Rattle.kahn_fault.specs.{Work.IsChecked, Work.IsUnchecked, declared.work.WorkFault.WorkFault, declared.work.WorkFault.TheVariants.Syntax, declared.work.WorkFault.TheVariants.Check, declared.work.WorkFault.TheVariants.Text, declared.work.WorkFault.TheVariants.Run, declared.work.WorkFault.TheVariants.Write}
 use Rattle.kahn_texts.specs.declared.bytes.WriteFault.{WriteFault}
-use Rattle.kahn_fault.specs.declared.work.WorkFault.{WorkFault}
-use Rattle.kahn_fault.specs.declared.work.WorkFault.TheVariants.{Syntax, Check, Text, Run, Write}
-use Rattle.kahn_why.specs.Noting.{AreWarningLines}
-use Rattle.kahn_why.specs.Refusing.{IsRefusal, IsRefusedFor}
-use Rattle.kahn_why.specs.declared.explaining.Admitted.{Admitted}
-use Rattle.kahn_why.specs.declared.explaining.Came.{Came}
-use Rattle.kahn_why.specs.declared.explaining.Came.TheVariants.{Stopped, Refused}
+use Rattle.kahn_why.specs.{Noting.AreWarningLines, Refusing.IsRefusal, Refusing.IsRefusedFor, declared.explaining.Admitted.Admitted, declared.explaining.Came.Came, declared.explaining.Came.TheVariants.Stopped, declared.explaining.Came.TheVariants.Refused}
 
 -- the text went out, and that came of it; or a fault of the writer
 abbrev pub HasWritten : List ℕ → Came → Option (List ℕ) → Option (List ℕ) → Result Came WorkFault → Type 0

@@ -1,8 +1,5 @@
 use Rattle.kahn_board.proofs.Common.{◌∙◌, ap, arith, belongs, wired, downs_of}
-use Rattle.kahn_board.proofs.Sole.{reader_in, writer_in}
-use Rattle.kahn_board.proofs.Woken.{woken_ready}
-use Rattle.kahn_board.proofs.Passed.{passes}
-use Rattle.kahn_board.proofs.Placed.{placed}
+use Rattle.kahn_board.proofs.{Sole.reader_in, Sole.writer_in, Woken.woken_ready, Passed.passes, Placed.placed}
 use Rattle.kahn_board.proofs.turn.publish.Goals as goal
 
 pub set_down-requires-clause-held : goal.set_down-requires-clause-held

@@ -1,6 +1,5 @@
 use Rattle.kahn_board.proofs.Common.{refl, ap, ◌∙◌, belongs, holds, wired, after_counting_down}
-use Rattle.kahn_board.proofs.Keeps.{was_at}
-use Rattle.kahn_board.proofs.Left.{kept_turn, kept_fits}
+use Rattle.kahn_board.proofs.{Keeps.was_at, Left.kept_turn, Left.kept_fits}
 use Rattle.kahn_board.proofs.turn.rest_dry.Goals as goal
 
 pub rest_ready-requires-clause-holds : goal.rest_ready-requires-clause-holds

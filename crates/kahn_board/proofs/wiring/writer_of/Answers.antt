@@ -1,7 +1,5 @@
-use Rattle.kahn_board.proofs.Common.{◌<◌, ℕ, sym, ap, ◌∙◌, subst, Side}
-use Rattle.kahn_streams.specs.Wiring.{side_at}
-use Rattle.kahn_board.proofs.Limits.{counts_are}
-use Rattle.kahn_board.proofs.Sole.{sole_writer, no_writer}
+use Rattle.kahn_board.proofs.Common.{◌<◌, ℕ, sym, ap, ◌∙◌, subst, Side, side_at}
+use Rattle.kahn_board.proofs.{Limits.counts_are, Sole.sole_writer, Sole.no_writer}
 use Rattle.kahn_board.proofs.wiring.writer_of.Goals as goal
 
 pub writer-requires : goal.writer-requires

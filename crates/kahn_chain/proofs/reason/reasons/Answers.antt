@@ -1,6 +1,4 @@
-use Rattle.std.proofs.Common.{rules}
-use Rattle.kahn_streams.specs.Network.{network_of}
-use Rattle.kahn_streams.specs.declared.answer.Outcome.TheVariants.{Ended}
+use Rattle.kahn_chain.proofs.Common.{rules, network_of, Ended}
 use Rattle.kahn_chain.proofs.Reasoned.{one_more}
 use Rattle.kahn_chain.proofs.reason.reasons.Goals as goal
 

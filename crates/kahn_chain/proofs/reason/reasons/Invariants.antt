@@ -1,6 +1,5 @@
 -- The reasons so far.
-use Rattle.kahn_streams.specs.Network.{network_of}
-use Rattle.kahn_chain.specs.inner.Reasoned.{AreSoFar}
+use Rattle.kahn_chain.proofs.Common.{network_of, AreSoFar}
 use Rattle.kahn_chain.proofs.reason.reasons.Given as goal
 
 abbrev pub invariant-loop-instance : goal.invariant-loop-instance

@@ -1,8 +1,5 @@
-use Rattle.std.proofs.Common.{◌∙◌, ap, arith, map, Some}
-use Rattle.kahn_streams.specs.Network.{network_of}
-use Rattle.kahn_chain.specs.Chain.{stands}
-use Rattle.kahn_chain.proofs.Coming_back.{stands_there}
-use Rattle.kahn_chain.proofs.Leading.{input_halts, no_wait, stopped_halts}
+use Rattle.kahn_chain.proofs.Common.{◌∙◌, ap, arith, map, Some, network_of, stands}
+use Rattle.kahn_chain.proofs.{Coming_back.stands_there, Leading.input_halts, Leading.no_wait, Leading.stopped_halts}
 use Rattle.kahn_chain.proofs.ring.awaited.Goals as goal
 
 pub writer-requires : goal.writer-requires

@@ -1,8 +1,5 @@
-use Rattle.std.proofs.Common.{rules, arith, refl, length, subst, sym, ◌∙◌, false}
-use Rattle.std.proofs.lemmas.List.{get_or_default}
-use Rattle.kahn_streams.specs.Network.{network_of}
-use Rattle.kahn_chain.proofs.Walking.{one_less}
-use Rattle.kahn_chain.proofs.Chaining.{Follows, follows_first, follows_on, comes_back, comes_to_end, halts_here}
+use Rattle.kahn_chain.proofs.Common.{rules, arith, refl, length, subst, sym, ◌∙◌, false, get_or_default, network_of}
+use Rattle.kahn_chain.proofs.{Walking.one_less, Chaining.Follows, Chaining.follows_first, Chaining.follows_on, Chaining.comes_back, Chaining.comes_to_end, Chaining.halts_here}
 use Rattle.kahn_chain.proofs.ring.chain.Goals as goal
 
 pub loop-marks-init : goal.loop-marks-init

@@ -1,7 +1,6 @@
 -- The chain so far.
 use Rattle.kahn_streams.specs.Network.{network_of}
-use Rattle.kahn_chain.proofs.Walking.{unmarked}
-use Rattle.kahn_chain.proofs.Chaining.{Follows}
+use Rattle.kahn_chain.proofs.{Walking.unmarked, Chaining.Follows}
 use Rattle.kahn_chain.proofs.ring.chain.Given as goal
 
 abbrev pub invariant-loop-marks : goal.invariant-loop-marks

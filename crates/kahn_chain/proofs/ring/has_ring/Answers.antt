@@ -1,9 +1,4 @@
-use Rattle.std.proofs.Common.{◌≡◌, ⊎_elim, arith, false, map, subst}
-use Rattle.std.proofs.lemmas.Bool.{cases_eq}
-use Rattle.std.proofs.lemmas.List.{length-map}
-use Rattle.std.proofs.lemmas.Option.{slice_get_within}
-use Rattle.kahn_streams.specs.Network.{network_of}
-use Rattle.kahn_chain.specs.Chain.{IsRingMark, LeadsOn, stands}
+use Rattle.kahn_chain.proofs.Common.{◌≡◌, ⊎_elim, arith, false, map, subst, cases_eq, length-map, slice_get_within, network_of, IsRingMark, LeadsOn, stands}
 use Rattle.kahn_chain.proofs.ring.has_ring.Goals as goal
 
 pub loop-instance-preserved : goal.loop-instance-preserved

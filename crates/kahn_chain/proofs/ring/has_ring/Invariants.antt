@@ -1,7 +1,6 @@
 -- None of the instances so far waits on itself.
 use Rattle.std.specs.Prelude.{ℕ, ◌<◌, map}
-use Rattle.kahn_streams.specs.Network.{network_of}
-use Rattle.kahn_chain.specs.Chain.{LeadsOn, stands}
+use Rattle.kahn_chain.proofs.Common.{network_of, LeadsOn, stands}
 use Rattle.kahn_chain.proofs.ring.has_ring.Given as goal
 
 abbrev pub invariant-loop-instance : goal.invariant-loop-instance

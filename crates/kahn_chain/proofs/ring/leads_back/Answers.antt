@@ -1,7 +1,4 @@
-use Rattle.std.proofs.Common.{arith, map}
-use Rattle.std.proofs.lemmas.List.{length-map}
-use Rattle.kahn_streams.specs.Network.{network_of}
-use Rattle.kahn_chain.specs.Chain.{stands}
+use Rattle.kahn_chain.proofs.Common.{arith, map, length-map, network_of, stands}
 use Rattle.kahn_chain.proofs.Coming_back.{ended, too_long, walk_first, walk_on}
 use Rattle.kahn_chain.proofs.ring.leads_back.Goals as goal
 

@@ -1,7 +1,5 @@
 -- The walk so far hasn't come to the instance.
-use Rattle.std.proofs.Common.{map}
-use Rattle.kahn_streams.specs.Network.{network_of}
-use Rattle.kahn_chain.specs.Chain.{stands}
+use Rattle.kahn_chain.proofs.Common.{map, network_of, stands}
 use Rattle.kahn_chain.proofs.Coming_back.{Walked}
 use Rattle.kahn_chain.proofs.ring.leads_back.Given as goal
 

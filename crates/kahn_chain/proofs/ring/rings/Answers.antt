@@ -1,5 +1,4 @@
-use Rattle.kahn_streams.specs.Network.{network_of}
-use Rattle.kahn_chain.specs.Chain.{IsRingMark}
+use Rattle.kahn_chain.proofs.Common.{network_of, IsRingMark}
 use Rattle.kahn_chain.proofs.Caused.{one_more}
 use Rattle.kahn_chain.proofs.ring.rings.Goals as goal
 

@@ -1,6 +1,5 @@
 -- The marks so far.
-use Rattle.kahn_streams.specs.Network.{network_of}
-use Rattle.kahn_chain.specs.Chain.{IsRingMark}
+use Rattle.kahn_chain.proofs.Common.{network_of, IsRingMark}
 use Rattle.kahn_chain.proofs.Caused.{AreFirst}
 use Rattle.kahn_chain.proofs.ring.rings.Given as goal
 

@@ -1,6 +1,5 @@
 -- The standings so far.
-use Rattle.std.proofs.Common.{◌≡◌, map, take}
-use Rattle.kahn_chain.specs.Chain.{stands}
+use Rattle.kahn_chain.proofs.Common.{◌≡◌, map, take, stands}
 use Rattle.kahn_chain.proofs.standing.standings.Given as goal
 
 abbrev pub invariant-loop-end : goal.invariant-loop-end

@@ -1,6 +1,4 @@
-use Rattle.std.proofs.Common.{refl, ◌∙◌, ap, Some}
-use Rattle.std.proofs.lemmas.Option.{slice_get-get_or}
-use Rattle.kahn_chain.specs.Chain.{stays}
+use Rattle.kahn_chain.proofs.Common.{refl, ◌∙◌, ap, Some, slice_get-get_or, stays}
 use Rattle.kahn_chain.specs.declared.standing.Standing.TheVariants.{Ended}
 use Rattle.kahn_chain.proofs.Leading.{no_wait}
 use Rattle.kahn_chain.proofs.walk.next.Goals as goal

@@ -1,7 +1,4 @@
-use Rattle.std.proofs.Common.{rules, arith, refl, length, subst, sym, ◌∙◌, false}
-use Rattle.std.proofs.lemmas.List.{get_or_default}
-use Rattle.kahn_streams.specs.Network.{network_of}
-use Rattle.kahn_chain.specs.inner.Walk.{IsWalked}
+use Rattle.kahn_chain.proofs.Common.{rules, arith, refl, length, subst, sym, ◌∙◌, false, get_or_default, network_of, IsWalked}
 use Rattle.kahn_chain.proofs.Walking.{begins, met, one_less, walks_on, walks_out, Walks}
 use Rattle.kahn_chain.proofs.walk.walk.Goals as goal
 

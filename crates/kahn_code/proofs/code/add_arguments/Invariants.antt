@@ -1,5 +1,4 @@
-use Rattle.std.proofs.Common.{◌≡◌, ◌++◌, map, drop}
-use Rattle.kahn_code.proofs.Common.{network_of, actuals_of, channel_names, opening_of, use_of}
+use Rattle.kahn_code.proofs.Common.{◌≡◌, ◌++◌, map, drop, network_of, actuals_of, channel_names, opening_of, use_of}
 use Rattle.kahn_code.proofs.code.add_arguments.Given as goal
 
 abbrev pub invariant-loop-number : goal.invariant-loop-number

@@ -1,5 +1,4 @@
-use Rattle.std.proofs.Common.{◌≡◌, ◌++◌, map, drop}
-use Rattle.kahn_code.proofs.Common.{default_of}
+use Rattle.kahn_code.proofs.Common.{◌≡◌, ◌++◌, map, drop, default_of}
 use Rattle.kahn_code.proofs.code.add_defaults.Given as goal
 
 abbrev pub invariant-loop-variable : goal.invariant-loop-variable

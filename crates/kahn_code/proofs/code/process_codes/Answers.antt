@@ -1,6 +1,5 @@
 use Rattle.std.proofs.Common.{arith}
-use Rattle.kahn_code.proofs.Bodies.{Declares, declares_one}
-use Rattle.kahn_code.proofs.Lists.{one_first}
+use Rattle.kahn_code.proofs.{Bodies.Declares, Bodies.declares_one, Lists.one_first}
 use Rattle.kahn_code.proofs.code.process_codes.Goals as goal
 
 pub loop-declaration-preserved : goal.loop-declaration-preserved

@@ -1,5 +1,4 @@
-use Rattle.kahn_code.proofs.Bodies.{Declares}
-use Rattle.kahn_code.proofs.Lists.{AreFirst}
+use Rattle.kahn_code.proofs.{Bodies.Declares, Lists.AreFirst}
 use Rattle.kahn_code.proofs.code.process_codes.Given as goal
 
 abbrev pub invariant-loop-declaration : goal.invariant-loop-declaration

@@ -1,6 +1,4 @@
-use Rattle.std.proofs.Common.{rules, ◌≡◌, ◌+◌, max, drop, ◌∷◌, ap, arith}
-use Rattle.std.proofs.lemmas.Result.{IfOk-equal}
-use Rattle.kahn_code.proofs.Common.{common_steps, names_of, expression_of, the_lemmas, need}
+use Rattle.kahn_code.proofs.Common.{rules, ◌≡◌, ◌+◌, max, drop, ◌∷◌, ap, arith, IfOk-equal, common_steps, names_of, expression_of, the_lemmas, need}
 use Rattle.kahn_code.proofs.Widths.{operands_need, level_need}
 use Rattle.kahn_code.proofs.depth.+widen_expression.Goals as goal
 

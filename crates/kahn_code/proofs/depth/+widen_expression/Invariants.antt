@@ -1,5 +1,4 @@
-use Rattle.std.proofs.Common.{◌≡◌, ◌+◌, ◌<◌, max, drop, length}
-use Rattle.kahn_code.proofs.Common.{names_of, expression_of, need}
+use Rattle.kahn_code.proofs.Common.{◌≡◌, ◌+◌, ◌<◌, max, drop, length, names_of, expression_of, need}
 use Rattle.kahn_code.proofs.Widths.{operands_need}
 use Rattle.kahn_code.proofs.depth.+widen_expression.Given as goal
 

@@ -1,6 +1,4 @@
-use Rattle.std.proofs.Common.{rules, ◌≡◌, ◌+◌, max, ◌∷◌, drop, ap, arith}
-use Rattle.std.proofs.lemmas.Result.{IfOk-equal}
-use Rattle.kahn_code.proofs.Common.{common_steps, names_of, expression_of, statement_of, need, depth}
+use Rattle.kahn_code.proofs.Common.{rules, ◌≡◌, ◌+◌, max, ◌∷◌, drop, ap, arith, IfOk-equal, common_steps, names_of, expression_of, statement_of, need, depth}
 use Rattle.kahn_streams.specs.declared.tree.Action.TheViews.{the_lemmas}
 use Rattle.kahn_code.proofs.Widths.{rows_depth, block_depth}
 use Rattle.kahn_code.proofs.depth.+widen_statement.Goals as goal

@@ -1,5 +1,4 @@
-use Rattle.std.proofs.Common.{◌≡◌, max, drop, length}
-use Rattle.kahn_code.proofs.Common.{names_of, statement_of, depth}
+use Rattle.kahn_code.proofs.Common.{◌≡◌, max, drop, length, names_of, statement_of, depth}
 use Rattle.kahn_code.proofs.Widths.{rows_depth}
 use Rattle.kahn_code.proofs.depth.+widen_statement.Given as goal
 

@@ -1,5 +1,4 @@
-use Rattle.std.proofs.Common.{◌≡◌, ◌⊎◌, ◌≤◌, ◌-◌, length}
-use Rattle.kahn_code.proofs.Common.{Input, network_of, role_at, inputs_of}
+use Rattle.kahn_code.proofs.Common.{◌≡◌, ◌⊎◌, ◌≤◌, ◌-◌, length, Input, network_of, role_at, inputs_of}
 use Rattle.kahn_code.proofs.queue.first_queue.Given as goal
 
 abbrev pub invariant-tokens : goal.invariant-tokens

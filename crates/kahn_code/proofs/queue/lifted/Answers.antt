@@ -1,5 +1,4 @@
-use Rattle.std.proofs.Common.{sym, subst}
-use Rattle.kahn_code.proofs.Common.{Holds}
+use Rattle.kahn_code.proofs.Common.{sym, subst, Holds}
 use Rattle.kahn_streams.proofs.Fed.{lifted}
 use Rattle.kahn_code.proofs.queue.lifted.Goals as goal
 

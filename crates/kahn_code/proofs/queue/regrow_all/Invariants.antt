@@ -1,5 +1,4 @@
-use Rattle.std.proofs.Common.{◌≡◌, ◌++◌, drop, map, take}
-use Rattle.kahn_code.proofs.Common.{regrown}
+use Rattle.kahn_code.proofs.Common.{◌≡◌, ◌++◌, drop, map, take, regrown}
 use Rattle.kahn_code.proofs.queue.regrow_all.Given as goal
 
 abbrev pub ghost-regrow : goal.ghost-regrow

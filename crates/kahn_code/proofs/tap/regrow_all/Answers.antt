@@ -1,7 +1,5 @@
-use Rattle.std.proofs.Common.{arith, ◌<◌, ◌≤◌, ◌++◌, ap, ◌∙◌, length, map, slice_index_or, slice_set}
-use Rattle.std.proofs.lemmas.List.{drop_all, take_all}
-use Rattle.std.proofs.lemmas.List.Edits.{map_over_more}
-use Rattle.kahn_code.proofs.Common.{append-nil, regrown_tap}
+use Rattle.std.proofs.Common.{slice_set}
+use Rattle.kahn_code.proofs.Common.{arith, ◌<◌, ◌≤◌, ◌++◌, ap, ◌∙◌, length, map, slice_index_or, drop_all, take_all, map_over_more, append-nil, regrown_tap}
 use Rattle.kahn_code.proofs.Lists.{changed_next}
 use Rattle.kahn_code.proofs.tap.regrow_all.Goals as goal
 

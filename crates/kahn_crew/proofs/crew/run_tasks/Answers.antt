@@ -1,6 +1,5 @@
 use Rattle.kahn_crew.proofs.Common.{arith, length, refl, ap, ◌∙◌, ◌≡◌, subst, Err, OnOk, Sat, Tasked}
-use Rattle.kahn_crew.proofs.Ended.{have_gone, instances_of, is_over, unboxed, untouched, untouched_gone, untouched_here}
-use Rattle.kahn_crew.proofs.Started.{fits_of}
+use Rattle.kahn_crew.proofs.{Ended.have_gone, Ended.instances_of, Ended.is_over, Ended.unboxed, Ended.untouched, Ended.untouched_gone, Ended.untouched_here, Started.fits_of}
 use Rattle.kahn_streams.specs.declared.plan.Plan.{Plan}
 use Rattle.kahn_crew.proofs.crew.run_tasks.Goals as goal
 

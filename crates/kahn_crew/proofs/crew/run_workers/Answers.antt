@@ -1,7 +1,5 @@
-use Rattle.kahn_crew.proofs.Common.{All, All-map, subst, sym}
-use Rattle.kahn_board.specs.inner.Turn.{IsDoneAt}
+use Rattle.kahn_crew.proofs.Common.{All, All-map, subst, sym, IsDoneAt, seat_of, table_id_of}
 use Rattle.kahn_crew.proofs.Crewed.{seated}
-use Rattle.kahn_crew.specs.inner.Turns.{seat_of, table_id_of}
 use Rattle.kahn_crew.proofs.crew.run_workers.Goals as goal
 
 pub work_all-workers-requires-clause-each : goal.work_all-workers-requires-clause-each

@@ -1,6 +1,5 @@
-use Rattle.kahn_crew.proofs.Common.{List, [], ◌∷◌, ◌++◌, sym, ap, ◌∙◌, map-append, Seat, Tasked}
+use Rattle.kahn_crew.proofs.Common.{List, [], ◌∷◌, ◌++◌, sym, ap, ◌∙◌, map-append, Seat, Tasked, seat_of}
 use Rattle.kahn_crew.proofs.Crewed.{one_more}
-use Rattle.kahn_crew.specs.inner.Turns.{seat_of}
 use Rattle.kahn_crew.proofs.crew.seats_of.Goals as goal
 
 pub loop-worker-preserved : goal.loop-worker-preserved

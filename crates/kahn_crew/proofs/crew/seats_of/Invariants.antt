@@ -1,5 +1,4 @@
-use Rattle.kahn_crew.proofs.Common.{◌≡◌, ◌↔◌, ◌<◌, true, All, map, vec_capacity}
-use Rattle.kahn_crew.specs.inner.Turns.{HasCause, seat_of}
+use Rattle.kahn_crew.proofs.Common.{◌≡◌, ◌↔◌, ◌<◌, true, All, map, vec_capacity, HasCause, seat_of}
 use Rattle.kahn_crew.proofs.Crewed.{crew_raised}
 use Rattle.kahn_crew.proofs.crew.seats_of.Given as goal
 

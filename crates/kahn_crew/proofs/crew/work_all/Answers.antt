@@ -1,6 +1,5 @@
 use Rattle.kahn_crew.proofs.Common.{arith, ⊎_elim, true≢false, sym, ◌∙◌, sendable}
-use Rattle.kahn_crew.proofs.Crewed.{all_caused, all_gone, one_raised}
-use Rattle.kahn_crew.proofs.Crossing.{run_sync, worker_send}
+use Rattle.kahn_crew.proofs.{Crewed.all_caused, Crewed.all_gone, Crewed.one_raised, Crossing.run_sync, Crossing.worker_send}
 use Rattle.kahn_crew.proofs.crew.work_all.Goals as goal
 
 pub returns : goal.returns

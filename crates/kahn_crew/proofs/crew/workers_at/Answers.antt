@@ -1,7 +1,4 @@
-use Rattle.kahn_crew.proofs.Common.{arith, ◌≡◌, ◌+◌, List, [], ◌∷◌, ◌++◌, length, All, map, reverse, refl, sym, ap, ◌∙◌, subst, Option, option_to_list, append_assoc, length-append, map-append, All-push, Seat, Tasked}
-use Rattle.std.proofs.lemmas.List.{reverse-append}
-use Rattle.kahn_crew.specs.declared.worker.Worker.{Worker}
-use Rattle.kahn_crew.specs.inner.Turns.{WantsNone, seat_of}
+use Rattle.kahn_crew.proofs.Common.{arith, ◌≡◌, ◌+◌, List, [], ◌∷◌, ◌++◌, length, All, map, reverse, refl, sym, ap, ◌∙◌, subst, Option, option_to_list, append_assoc, length-append, map-append, All-push, Seat, Tasked, reverse-append, Worker, WantsNone, seat_of}
 use Rattle.kahn_crew.proofs.crew.workers_at.Goals as goal
 
 longer : {A : Type 0} {ys : List A} (xs : List A) (x : A) → ys ≡ xs ++ x ∷ [] → length ys ≡ length xs + 1

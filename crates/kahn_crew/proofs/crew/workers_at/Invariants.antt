@@ -1,5 +1,4 @@
-use Rattle.kahn_crew.proofs.Common.{◌≡◌, ◌≤◌, ◌+◌, ◌++◌, All, length, map, reverse, vec_capacity}
-use Rattle.kahn_crew.specs.inner.Turns.{WantsNone, seat_of}
+use Rattle.kahn_crew.proofs.Common.{◌≡◌, ◌≤◌, ◌+◌, ◌++◌, All, length, map, reverse, vec_capacity, WantsNone, seat_of}
 use Rattle.kahn_crew.proofs.crew.workers_at.Given as goal
 
 abbrev pub invariant-loop-seat : goal.invariant-loop-seat

@@ -1,8 +1,5 @@
-use Rattle.kahn_crew.proofs.Common.{◌∙◌, refl}
-use Rattle.kahn_crew.proofs.Heeding.{heeds_then, heeds_still}
-use Rattle.kahn_crew.proofs.Publishing.{published_more, sees_still}
-use Rattle.kahn_crew.proofs.Working.{stood}
-use Rattle.kahn_crew.specs.declared.worker.Worker.{Worker}
+use Rattle.kahn_crew.proofs.Common.{◌∙◌, refl, Worker}
+use Rattle.kahn_crew.proofs.{Heeding.heeds_then, Heeding.heeds_still, Publishing.published_more, Publishing.sees_still, Working.stood}
 use Rattle.kahn_crew.proofs.publish.publish_all.Goals as goal
 
 pub publish_one-reader-requires-clause-works : goal.publish_one-reader-requires-clause-works

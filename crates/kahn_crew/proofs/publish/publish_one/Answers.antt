@@ -1,7 +1,5 @@
 use Rattle.kahn_crew.proofs.Common.{arith, ◌≡◌, ◌<◌, ◌∙◌, sym, subst, Some, None, IsWellWired, Writes, Program, wires, network_of, instance_at, actual_at, Tasked, IsAtWork, terms_of}
-use Rattle.kahn_crew.proofs.Wirings.{writer_is, written_inside, written_so}
-use Rattle.kahn_crew.proofs.Publishing.{flushed_few, nothing_written}
-use Rattle.kahn_crew.proofs.Working.{in_hand, inside_lent, told, written_here}
+use Rattle.kahn_crew.proofs.{Wirings.writer_is, Wirings.written_inside, Wirings.written_so, Publishing.flushed_few, Publishing.nothing_written, Working.in_hand, Working.inside_lent, Working.told, Working.written_here}
 use Rattle.kahn_crew.proofs.publish.publish_one.Goals as goal
 
 pub target-requires-clause-code : goal.target-requires-clause-code

@@ -1,6 +1,5 @@
 use Rattle.kahn_crew.proofs.Common.{◌≡◌, ⊎_elim, sym, ◌∙◌, ap, Some, Side}
-use Rattle.kahn_crew.proofs.Found.{none_some, some_same}
-use Rattle.kahn_crew.proofs.Wirings.{routed_as, routed_inside, no_target}
+use Rattle.kahn_crew.proofs.{Found.none_some, Found.some_same, Wirings.routed_as, Wirings.routed_inside, Wirings.no_target}
 use Rattle.kahn_crew.proofs.publish.target.Goals as goal
 
 pub channel-requires-2 : goal.channel-requires-2

@@ -1,12 +1,8 @@
-use Rattle.kahn_crew.proofs.Common.{arith, ◌≡◌, ◌⊎◌, ℕ, ◌+◌, ◌-◌, inl, inr, ⊎_elim, refl, sym, ap, ◌∙◌, subst, Result, Ok, Err, OnOk, OnErr, Network, network_of, end_at, IsDelivered, Work, standing_after, IsAtWork}
-use Rattle.kahn_streams.specs.Meaning.{Store}
-use Rattle.kahn_streams.specs.Script.{ScriptOutcome}
-use Rattle.kahn_code.specs.declared.progress.Pause.{Pause}
-use Rattle.kahn_code.specs.Cells.{exec_on}
-use Rattle.kahn_code.specs.Progress.{IsPause}
+use Rattle.kahn_crew.proofs.Common.{arith, ◌≡◌, ◌⊎◌, ℕ, ◌+◌, ◌-◌, inl, inr, ⊎_elim, refl, sym, ap, ◌∙◌, subst, Result, Ok, Err, OnOk, OnErr, Network, network_of, end_at, IsDelivered, Work, standing_after, IsAtWork, IsPause}
+use Rattle.kahn_streams.specs.{Meaning.Store, Script.ScriptOutcome}
+use Rattle.kahn_code.specs.{declared.progress.Pause.Pause, Cells.exec_on}
 use Rattle.kahn_job.specs.inner.Ends.{IsDry, IsReady}
-use Rattle.kahn_crew.proofs.Resting.{sees_two}
-use Rattle.kahn_crew.proofs.Working.{in_hand, is_lent, went}
+use Rattle.kahn_crew.proofs.{Resting.sees_two, Working.in_hand, Working.is_lent, Working.went}
 use Rattle.kahn_code.specs.declared.progress.Pause.TheVariants as pause
 use Rattle.kahn_job.specs.declared.standing.TaskStanding.TheVariants as standing
 use Rattle.kahn_crew.proofs.turn.run_task.Goals as goal

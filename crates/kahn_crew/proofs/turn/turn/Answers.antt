@@ -1,7 +1,5 @@
-use Rattle.kahn_crew.proofs.Common.{arith, refl, subst, Some, IsWellWired, RestsWith, ◌∙◌}
-use Rattle.kahn_crew.proofs.Heeding.{heeds_still, heeds_then}
-use Rattle.kahn_crew.proofs.Working.{still_has}
-use Rattle.kahn_crew.specs.declared.worker.Worker.{Worker}
+use Rattle.kahn_crew.proofs.Common.{arith, refl, subst, Some, IsWellWired, RestsWith, ◌∙◌, Worker}
+use Rattle.kahn_crew.proofs.{Heeding.heeds_still, Heeding.heeds_then, Working.still_has}
 use Rattle.kahn_crew.proofs.turn.turn.Goals as goal
 
 pub draw_some-requires-clause-holds : goal.draw_some-requires-clause-holds

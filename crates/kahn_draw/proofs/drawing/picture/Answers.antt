@@ -1,5 +1,4 @@
-use Rattle.std.proofs.Common.{subst, sym}
-use Rattle.kahn_draw.specs.Drawing.{IsDrawnFor}
+use Rattle.kahn_draw.proofs.Common.{subst, sym, IsDrawnFor}
 use Rattle.kahn_draw.proofs.Drawn.{still}
 use Rattle.kahn_draw.proofs.drawing.picture.Goals as goal
 

@@ -1,6 +1,4 @@
-use Rattle.std.proofs.Common.{inr, map, subst, sym}
-use Rattle.kahn_streams.specs.Network.{network_of}
-use Rattle.kahn_chain.specs.Chain.{AreStandings, stands}
+use Rattle.kahn_draw.proofs.Common.{inr, map, subst, sym, network_of, AreStandings, stands}
 use Rattle.kahn_draw.proofs.Drawn.{moving, standing, unrun}
 use Rattle.kahn_draw.proofs.drawing.run_picture.Goals as goal
 

@@ -1,7 +1,5 @@
-use Rattle.std.proofs.Common.{[], inr, refl, string_bytes}
-use Rattle.kahn_why.proofs.Parts.{broke_off, went_out}
+use Rattle.kahn_explain.proofs.Common.{[], inr, refl, string_bytes, broke_off, went_out, answered}
 use Rattle.kahn_explain.proofs.Parts.{counted_right, explained_out, notes_before, unexplained, unfed, unrun}
-use Rattle.kahn_why.proofs.Right_ends.{answered}
 use Rattle.kahn_explain.proofs.explaining.explain_run.Goals as goal
 
 pub returns-in-Err : goal.returns-in-Err

@@ -1,6 +1,5 @@
-use Rattle.std.proofs.Common.{◌∙◌, ap₂, refl, string_bytes}
+use Rattle.kahn_explain.proofs.Common.{◌∙◌, ap₂, refl, string_bytes, put_line}
 use Rattle.kahn_line.specs.Parts.{parted}
-use Rattle.kahn_explain.specs.Untaken.{put_line}
 use Rattle.kahn_explain.proofs.explaining.told_of.Goals as goal
 
 pub returns : goal.returns

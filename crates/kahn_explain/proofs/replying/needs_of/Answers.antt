@@ -1,5 +1,4 @@
-use Rattle.std.proofs.Common.{refl, string_bytes}
-use Rattle.kahn_why.proofs.Parts.{are_allowed}
+use Rattle.kahn_explain.proofs.Common.{refl, string_bytes, are_allowed}
 use Rattle.kahn_explain.proofs.Sheets.{refusal_for}
 use Rattle.kahn_explain.proofs.replying.needs_of.Goals as goal
 

@@ -1,5 +1,4 @@
-use Rattle.std.proofs.Common.{[], inl, inr, refl, string_bytes}
-use Rattle.kahn_why.proofs.Parts.{broke_off, went_out}
+use Rattle.kahn_explain.proofs.Common.{[], inl, inr, refl, string_bytes, broke_off, went_out}
 use Rattle.kahn_explain.proofs.Sheets.{put_both}
 use Rattle.kahn_explain.proofs.replying.put_reply.Goals as goal
 

@@ -1,7 +1,4 @@
-use Rattle.std.specs.Prelude.{MatchResult}
-use Rattle.std.proofs.Common.{subst, sym}
-use Rattle.kahn_explain.specs.Histories.{IsUntraced}
-use Rattle.kahn_explain.specs.inner.Told.{IsReplyFor}
+use Rattle.kahn_explain.proofs.Common.{MatchResult, subst, sym, IsUntraced, IsReplyFor}
 use Rattle.kahn_explain.proofs.Sheets.{table_for}
 use Rattle.kahn_explain.proofs.replying.sheet_of.Goals as goal
 

@@ -1,6 +1,5 @@
-use Rattle.std.proofs.Common.{refl, string_bytes}
+use Rattle.kahn_explain.proofs.Common.{refl, string_bytes, answered}
 use Rattle.kahn_explain.proofs.Kept_columns.{right_run}
-use Rattle.kahn_why.proofs.Right_ends.{answered}
 use Rattle.kahn_explain.proofs.replying.table_of.Goals as goal
 
 pub run_table-requires : goal.run_table-requires

@@ -1,5 +1,4 @@
-use Rattle.std.proofs.Common.{◌∙◌, ap, sym}
-use Rattle.kahn_fault.specs.Status.{status_of, with_refused}
+use Rattle.kahn_fault.proofs.Common.{◌∙◌, ap, sym, status_of, with_refused}
 use Rattle.kahn_fault.proofs.Refused.{stays}
 use Rattle.kahn_fault.proofs.fault.live_status.Goals as goal
 

@@ -1,5 +1,4 @@
-use Rattle.kahn_texts.proofs.Flushes.{flushed_once, unflushed}
-use Rattle.kahn_texts.proofs.Writing.{fails, flushed}
+use Rattle.kahn_texts.proofs.{Flushes.flushed_once, Flushes.unflushed, Writing.fails, Writing.flushed}
 use Rattle.kahn_fault.proofs.message.line_counted.Goals as goal
 
 pub returns-in_err-put_fault-clause-line : goal.returns-in_err-put_fault-clause-line

@@ -1,5 +1,4 @@
-use Rattle.std.proofs.Common.{subst}
-use Rattle.kahn_fault.specs.Message.{WritesCounted}
+use Rattle.kahn_fault.proofs.Common.{subst, WritesCounted}
 use Rattle.kahn_fault.proofs.message.put_fault.Goals as goal
 
 pub returns : goal.returns

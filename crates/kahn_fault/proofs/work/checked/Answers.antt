@@ -1,5 +1,4 @@
-use Rattle.std.proofs.Common.{sym, subst}
-use Rattle.kahn_fault.specs.Work.{IsChecked}
+use Rattle.kahn_fault.proofs.Common.{sym, subst, IsChecked}
 use Rattle.kahn_fault.proofs.work.checked.Goals as goal
 
 pub returns-in-Err : goal.returns-in-Err

@@ -1,6 +1,5 @@
 use Rattle.kahn_streams.specs.Network.{network_of}
-use Rattle.kahn_graph.proofs.Named.{edge_of, reader_within, writer_within}
-use Rattle.kahn_graph.proofs.Texts.{five_grown}
+use Rattle.kahn_graph.proofs.{Named.edge_of, Named.reader_within, Named.writer_within, Texts.five_grown}
 use Rattle.kahn_graph.proofs.edges.add_edge.Goals as goal
 
 pub add_port-requires : goal.add_port-requires

@@ -1,7 +1,4 @@
-use Rattle.std.proofs.Common.{◌≡◌, ◌++◌, Bor, length, map, string_bytes}
-use Rattle.std.proofs.lemmas.Result.{IfOk-weaker}
-use Rattle.kahn_streams.specs.declared.tree.Name.{Name}
-use Rattle.kahn_hints.specs.Inputs.{more_channels, told_channels}
+use Rattle.kahn_hints.proofs.Common.{◌≡◌, ◌++◌, Bor, length, map, string_bytes, IfOk-weaker, Name, more_channels, told_channels}
 use Rattle.kahn_hints.proofs.Sights.{told_joined}
 use Rattle.kahn_hints.proofs.inputs.add_told.Goals as goal
 

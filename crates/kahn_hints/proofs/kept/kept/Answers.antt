@@ -1,6 +1,4 @@
-use Rattle.std.proofs.Common.{rules, ◌≡◌, ◌∷◌, ◌<◌, ◌++◌, ◌∙◌, [], All, Contains, ap, arith, length, subst, sym}
-use Rattle.std.proofs.lemmas.List.Elements.{All-contains_itself, All-from_recursion, All-get_or, All-head, All-tail}
-use Rattle.kahn_streams.specs.declared.fault.CheckFault.TheVariants.{DeclaredTwice}
+use Rattle.kahn_hints.proofs.Common.{rules, ◌≡◌, ◌∷◌, ◌<◌, ◌++◌, ◌∙◌, [], All, Contains, ap, arith, length, subst, sym, All-contains_itself, All-from_recursion, All-get_or, All-head, All-tail, DeclaredTwice}
 use Rattle.kahn_hints.proofs.Sublists.{not_none}
 use Rattle.kahn_hints.proofs.kept.kept.Goals as goal
 

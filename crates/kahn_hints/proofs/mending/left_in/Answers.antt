@@ -1,5 +1,4 @@
-use Rattle.std.proofs.Common.{◌∙◌, ap, arith, length, sym}
-use Rattle.kahn_hints.specs.Hints.{are_known}
+use Rattle.kahn_hints.proofs.Common.{◌∙◌, ap, arith, length, sym, are_known}
 use Rattle.kahn_hints.proofs.mending.left_in.Goals as goal
 
 pub returns-then-are_known : goal.returns-then-are_known

@@ -1,5 +1,4 @@
-use Rattle.std.proofs.Common.{arith}
-use Rattle.std.proofs.lemmas.Grind.{common_steps}
+use Rattle.kahn_hints.proofs.Common.{arith, common_steps}
 use Rattle.kahn_hints.proofs.names.add_channels.Goals as goal
 
 pub loop-channel-preserved : goal.loop-channel-preserved

@@ -1,5 +1,4 @@
-use Rattle.std.proofs.Common.{arith}
-use Rattle.std.proofs.lemmas.Grind.{common_steps}
+use Rattle.kahn_hints.proofs.Common.{arith, common_steps}
 use Rattle.kahn_hints.proofs.names.channels_asked.Goals as goal
 
 pub loop-declaration-preserved : goal.loop-declaration-preserved

@@ -1,8 +1,4 @@
-use Rattle.std.proofs.Common.{◌≡◌, ◌∷◌, ◌<◌, ◌∙◌, [], All, Contains, ap, arith, length, refl, take}
-use Rattle.std.proofs.lemmas.List.Elements.{All-get_or}
-use Rattle.std.proofs.lemmas.Result.{IfOk-weaker}
-use Rattle.kahn_streams.specs.declared.fault.CheckFault.TheVariants.{DeclaredTwice}
-use Rattle.kahn_hints.specs.Hints.{TellsOne}
+use Rattle.kahn_hints.proofs.Common.{◌≡◌, ◌∷◌, ◌<◌, ◌∙◌, [], All, Contains, ap, arith, length, refl, take, All-get_or, IfOk-weaker, DeclaredTwice, TellsOne}
 use Rattle.kahn_hints.proofs.Telling.{none_shown, none_yet, one_alone, shown_among}
 use Rattle.kahn_hints.proofs.notes.fault_notes.Goals as goal
 

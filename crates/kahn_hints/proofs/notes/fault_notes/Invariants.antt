@@ -1,6 +1,5 @@
 -- Each note so far tells one of the faults, and there is one behind the first fault.
-use Rattle.std.proofs.Common.{◌≡◌, [], All}
-use Rattle.kahn_hints.specs.Hints.{TellsOne}
+use Rattle.kahn_hints.proofs.Common.{◌≡◌, [], All, TellsOne}
 use Rattle.kahn_hints.proofs.notes.fault_notes.Given as goal
 
 abbrev pub invariant-loop-fault : goal.invariant-loop-fault

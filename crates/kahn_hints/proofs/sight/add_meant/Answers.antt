@@ -1,5 +1,4 @@
-use Rattle.std.proofs.Common.{◌≡◌, ◌++◌, IfOk, [], ◌∷◌, codes, string_bytes, subst}
-use Rattle.std.specs.List.{concat}
+use Rattle.kahn_hints.proofs.Common.{◌≡◌, ◌++◌, IfOk, [], ◌∷◌, codes, string_bytes, subst, concat}
 use Rattle.kahn_hints.proofs.sight.add_meant.Goals as goal
 
 pub returns : goal.returns

@@ -1,6 +1,4 @@
-use Rattle.std.proofs.Common.{◌≡◌, ◌++◌, [], ◌∷◌, arith, codes, string_bytes, subst}
-use Rattle.std.proofs.lemmas.Grind.{common_steps}
-use Rattle.std.specs.List.{concat}
+use Rattle.kahn_hints.proofs.Common.{◌≡◌, ◌++◌, [], ◌∷◌, arith, codes, string_bytes, subst, common_steps, concat}
 use Rattle.kahn_hints.proofs.sight.add_names.Goals as goal
 
 pub loop-number-preserved : goal.loop-number-preserved

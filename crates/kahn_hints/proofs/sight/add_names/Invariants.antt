@@ -1,6 +1,5 @@
 -- The names that are left come behind the words so far.
-use Rattle.std.proofs.Common.{◌≡◌, ◌++◌, drop, map, string_bytes}
-use Rattle.kahn_hints.specs.Sight.{listed_names}
+use Rattle.kahn_hints.proofs.Common.{◌≡◌, ◌++◌, drop, map, string_bytes, listed_names}
 use Rattle.kahn_hints.proofs.sight.add_names.Given as goal
 
 abbrev pub invariant-loop-number : goal.invariant-loop-number

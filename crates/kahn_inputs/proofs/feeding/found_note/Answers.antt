@@ -1,7 +1,5 @@
-use Rattle.std.proofs.Common.{inr, subst, sym}
-use Rattle.kahn_inputs.specs.Feeding.{IsFaultNote}
-use Rattle.kahn_inputs.specs.Seeking.{IsFound}
-use Rattle.kahn_inputs.specs.declared.seeking.LineKind.TheVariants.{Entry, NoHead, NoValues}
+use Rattle.kahn_inputs.proofs.Common.{inr, subst, sym, IsFaultNote, IsFound, NoHead, NoValues}
+use Rattle.kahn_inputs.specs.declared.seeking.LineKind.TheVariants.{Entry}
 use Rattle.kahn_inputs.proofs.feeding.found_note.Goals as goal
 
 pub returns-in-Entry-None : goal.returns-in-Entry-None

@@ -1,5 +1,4 @@
-use Rattle.std.proofs.Common.{◌∙◌, ap, drop, inl, inr, subst}
-use Rattle.kahn_inputs.specs.Fitting.{AreAllFit, IsUnfit, moved_by}
+use Rattle.kahn_inputs.proofs.Common.{◌∙◌, ap, drop, inl, inr, subst, AreAllFit, IsUnfit, moved_by}
 use Rattle.kahn_inputs.proofs.feeding.unfit_span.Goals as goal
 
 pub returns-in-Some-clause-span : goal.returns-in-Some-clause-span

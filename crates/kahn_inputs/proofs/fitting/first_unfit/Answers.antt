@@ -1,10 +1,4 @@
-use Rattle.std.proofs.Common.{rules, tests, ◌<◌, ◌+◌, All, length, take, drop, [], ◌∷◌, ◌++◌, arith, refl, subst}
-use Rattle.std.proofs.lemmas.List.{length_push, take_all}
-use Rattle.std.proofs.lemmas.Iterator.Splits.{YieldsList-from_slice_split}
-use Rattle.std.proofs.lemmas.Iterator.Consumers.{YieldsList-turn, YieldsList-end}
-use Rattle.std.specs.List.{slice_split}
-use Rattle.kahn_texts.specs.Formats.{is_blank}
-use Rattle.kahn_inputs.specs.Fitting.{IsFitPart, IsUnfitWord}
+use Rattle.kahn_inputs.proofs.Common.{rules, tests, ◌<◌, ◌+◌, All, length, take, drop, [], ◌∷◌, ◌++◌, arith, refl, subst, length_push, take_all, YieldsList-from_slice_split, YieldsList-turn, YieldsList-end, slice_split, is_blank, IsFitPart, IsUnfitWord}
 use Rattle.kahn_inputs.proofs.Fitted.{all_more, cut_here, from_part, length_more, reaches}
 use Rattle.kahn_inputs.proofs.fitting.first_unfit.Goals as goal
 

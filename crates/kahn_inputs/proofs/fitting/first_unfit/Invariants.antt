@@ -1,8 +1,5 @@
 -- The parts so far are fit, and this is where they end.
-use Rattle.std.proofs.Common.{◌≡◌, All, length, take}
-use Rattle.std.specs.List.{slice_split}
-use Rattle.kahn_texts.specs.Formats.{is_blank}
-use Rattle.kahn_inputs.specs.Fitting.{IsFitPart, parts_length}
+use Rattle.kahn_inputs.proofs.Common.{◌≡◌, All, length, take, slice_split, is_blank, IsFitPart, parts_length}
 use Rattle.kahn_inputs.proofs.fitting.first_unfit.Given as goal
 
 abbrev pub invariant-loop-word : goal.invariant-loop-word

@@ -1,6 +1,5 @@
 -- The lines so far.
-use Rattle.std.proofs.Common.{◌≡◌, string_bytes, take}
-use Rattle.kahn_inputs.specs.Meant.{joined_lines}
+use Rattle.kahn_inputs.proofs.Common.{◌≡◌, string_bytes, take, joined_lines}
 use Rattle.kahn_inputs.proofs.meant.joined_lines.Given as goal
 
 abbrev pub invariant-loop-line : goal.invariant-loop-line

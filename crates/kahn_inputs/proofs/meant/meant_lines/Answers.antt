@@ -1,6 +1,4 @@
-use Rattle.std.proofs.Common.{◌∙◌, ap, inr, subst}
-use Rattle.kahn_texts.specs.Formats.{StandsFor}
-use Rattle.kahn_inputs.specs.Meant.{joined_lines}
+use Rattle.kahn_inputs.proofs.Common.{◌∙◌, ap, inr, subst, StandsFor, joined_lines}
 use Rattle.kahn_inputs.proofs.meant.meant_lines.Goals as goal
 
 pub returns-in-Ok : goal.returns-in-Ok

@@ -1,5 +1,4 @@
-use Rattle.std.proofs.Common.{◌∙◌, ap, ap₂}
-use Rattle.kahn_inputs.specs.Fitting.{lack_of, lack_span, part_of}
+use Rattle.kahn_inputs.proofs.Common.{◌∙◌, ap, ap₂, lack_of, lack_span, part_of}
 use Rattle.kahn_inputs.proofs.refused.head_part.Goals as goal
 
 pub returns : goal.returns

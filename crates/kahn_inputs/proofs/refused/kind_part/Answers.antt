@@ -1,6 +1,4 @@
-use Rattle.std.proofs.Common.{◌∙◌, ap, subst}
-use Rattle.kahn_inputs.specs.Feeding.{IsKindFor, IsUnfitSpan}
-use Rattle.kahn_inputs.specs.Fitting.{line_name, part_of}
+use Rattle.kahn_inputs.proofs.Common.{◌∙◌, ap, subst, IsKindFor, IsUnfitSpan, line_name, part_of}
 use Rattle.kahn_inputs.proofs.refused.kind_part.Goals as goal
 
 pub returns : goal.returns

@@ -1,6 +1,5 @@
-use Rattle.std.proofs.Common.{◌∙◌, ◌++◌, List, ℕ, ap, ap₂, string_bytes}
+use Rattle.kahn_inputs.proofs.Common.{◌∙◌, ◌++◌, List, ℕ, ap, ap₂, string_bytes, line_name}
 use Rattle.kahn_hints.specs.Inputs.{input_names, unknown_input}
-use Rattle.kahn_inputs.specs.Fitting.{line_name}
 use Rattle.kahn_inputs.proofs.refused.unknown_words.Goals as goal
 
 pub returns : goal.returns

@@ -1,6 +1,4 @@
-use Rattle.std.proofs.Common.{◌∙◌, None, ap, subst}
-use Rattle.kahn_inputs.specs.Feeding.{IsUnfitSpan}
-use Rattle.kahn_inputs.specs.Fitting.{part_of}
+use Rattle.kahn_inputs.proofs.Common.{◌∙◌, None, ap, subst, IsUnfitSpan, part_of}
 use Rattle.kahn_inputs.proofs.refused.value_part.Goals as goal
 
 pub returns : goal.returns

@@ -1,12 +1,6 @@
-use Rattle.std.proofs.Common.{rules, tests, ◌+◌, ◌≤◌, ◌==◌, length, take, drop, [], ◌∷◌, ◌++◌, arith, refl, sym, subst}
+use Rattle.kahn_inputs.proofs.Common.{rules, tests, ◌+◌, ◌≤◌, ◌==◌, length, take, drop, [], ◌∷◌, ◌++◌, arith, refl, sym, subst, length_push, take_all, YieldsList-from_slice_split, YieldsList-turn, YieldsList-end, AreEntries, text_lines, IsNotSought, IsSought}
 use Rattle.std.proofs.Math.Facts.{Fits-le}
-use Rattle.std.proofs.lemmas.List.{length_push, take_all}
-use Rattle.std.proofs.lemmas.Iterator.Splits.{YieldsList-from_slice_split}
-use Rattle.std.proofs.lemmas.Iterator.Consumers.{YieldsList-turn, YieldsList-end}
-use Rattle.kahn_texts.specs.Formats.{AreEntries, text_lines}
-use Rattle.kahn_inputs.specs.Seeking.{IsNotSought, IsSought}
-use Rattle.kahn_inputs.proofs.Fitted.{cut_here, from_part, length_more, one_more, reaches}
-use Rattle.kahn_inputs.proofs.Sought.{one_on, still}
+use Rattle.kahn_inputs.proofs.{Fitted.cut_here, Fitted.from_part, Fitted.length_more, Fitted.one_more, Fitted.reaches, Sought.one_on, Sought.still}
 use Rattle.kahn_inputs.proofs.seeking.find_line.Goals as goal
 
 pub past-further-requires : goal.past-further-requires

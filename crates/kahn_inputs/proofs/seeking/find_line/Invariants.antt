@@ -1,8 +1,5 @@
 -- The lines so far are blank or entries, fewer than that number, and this is where they end.
-use Rattle.std.proofs.Common.{◌≡◌, ◌≤◌, List, length, take}
-use Rattle.kahn_streams.specs.Inputs.{Entry}
-use Rattle.kahn_texts.specs.Formats.{AreEntries, text_lines}
-use Rattle.kahn_inputs.specs.Fitting.{parts_length}
+use Rattle.kahn_inputs.proofs.Common.{◌≡◌, ◌≤◌, List, length, take, Entry, AreEntries, text_lines, parts_length}
 use Rattle.kahn_inputs.proofs.seeking.find_line.Given as goal
 
 abbrev pub invariant-loop-whole : goal.invariant-loop-whole

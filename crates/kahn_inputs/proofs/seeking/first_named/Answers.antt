@@ -1,10 +1,4 @@
-use Rattle.std.proofs.Common.{rules, tests, ◌≡◌, ◌∙◌, ◌+◌, ◌==◌, All, ap, ◌≤◌, sym, length, take, drop, [], ◌∷◌, ◌++◌, arith, refl, subst, true, false}
-use Rattle.std.proofs.lemmas.List.{length_push, take_all}
-use Rattle.std.proofs.lemmas.Iterator.Splits.{YieldsList-from_slice_split}
-use Rattle.std.proofs.lemmas.Iterator.Consumers.{YieldsList-turn, YieldsList-end}
-use Rattle.kahn_texts.specs.Formats.{text_lines}
-use Rattle.kahn_inputs.specs.Fitting.{moved_by, name_span, parts_length}
-use Rattle.kahn_inputs.specs.Seeking.{has_line_name}
+use Rattle.kahn_inputs.proofs.Common.{rules, tests, ◌≡◌, ◌∙◌, ◌+◌, ◌==◌, All, ap, ◌≤◌, sym, length, take, drop, [], ◌∷◌, ◌++◌, arith, refl, subst, true, false, length_push, take_all, YieldsList-from_slice_split, YieldsList-turn, YieldsList-end, text_lines, moved_by, name_span, parts_length, has_line_name}
 use Rattle.kahn_inputs.proofs.Fitted.{all_more, cut_here, from_part, length_more, reaches}
 use Rattle.kahn_inputs.proofs.seeking.first_named.Goals as goal
 

@@ -1,8 +1,5 @@
 -- The lines so far begin with other names, and this is where they end.
-use Rattle.std.proofs.Common.{◌≡◌, All, false, length, take}
-use Rattle.kahn_texts.specs.Formats.{text_lines}
-use Rattle.kahn_inputs.specs.Fitting.{parts_length}
-use Rattle.kahn_inputs.specs.Seeking.{has_line_name}
+use Rattle.kahn_inputs.proofs.Common.{◌≡◌, All, false, length, take, text_lines, parts_length, has_line_name}
 use Rattle.kahn_inputs.proofs.seeking.first_named.Given as goal
 
 abbrev pub invariant-loop-line : goal.invariant-loop-line

@@ -1,5 +1,4 @@
-use Rattle.kahn_job.proofs.Common.{◌≡◌, ◌+◌, Some, lane_name}
-use Rattle.kahn_lane.specs.LaneEnds.{receiver_lane, sender_lane, sender_name, sent}
+use Rattle.kahn_job.proofs.Common.{◌≡◌, ◌+◌, Some, lane_name, receiver_lane, sender_lane, sender_name, sent}
 use Rattle.kahn_job.proofs.handing.lane_of.Given as goal
 
 abbrev pub invariant-loop-number : goal.invariant-loop-number

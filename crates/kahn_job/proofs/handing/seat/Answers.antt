@@ -1,5 +1,4 @@
-use Rattle.kahn_job.proofs.Common.{arith, List, [], ◌∷◌, ◌++◌, sym, ap, ◌∙◌, subst, length-set, Tapped, IsSamePlace}
-use Rattle.std.proofs.Common.{append_assoc, length-append}
+use Rattle.kahn_job.proofs.Common.{arith, List, [], ◌∷◌, ◌++◌, sym, ap, ◌∙◌, subst, length-set, Tapped, IsSamePlace, append_assoc, length-append}
 use Rattle.kahn_job.proofs.Seated.{cells_more, place, rows_stay, same_more}
 use Rattle.kahn_job.proofs.handing.seat.Goals as goal
 

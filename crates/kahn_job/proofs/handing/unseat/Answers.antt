@@ -1,7 +1,5 @@
-use Rattle.std.proofs.Common.{arith, List, [], ◌∷◌, ◌++◌, map, replicate, length, sym, ap, ◌∙◌}
-use Rattle.std.proofs.lemmas.List.{length-append, map-append, replicate-append-replicate}
-use Rattle.kahn_job.proofs.Common.{Tapped, CellView, Work, cells_of, nothing_gone, tolds_of}
-use Rattle.kahn_code.specs.inner.Gone.{Gone}
+use Rattle.kahn_job.proofs.Common.{arith, List, [], ◌∷◌, ◌++◌, map, replicate, length, sym, ap, ◌∙◌, map-append, replicate-append-replicate, Tapped, CellView, Work, cells_of, nothing_gone, tolds_of, Gone}
+use Rattle.std.proofs.lemmas.List.{length-append}
 use Rattle.kahn_job.proofs.handing.unseat.Goals as goal
 
 pub loop-idle-preserved : goal.loop-idle-preserved

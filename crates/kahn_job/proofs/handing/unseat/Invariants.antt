@@ -1,5 +1,5 @@
-use Rattle.std.proofs.Common.{◌≡◌, length, map, replicate, vec_capacity}
-use Rattle.kahn_job.proofs.Common.{Tapped, cells_of, nothing_gone, tolds_of}
+use Rattle.std.proofs.Common.{vec_capacity}
+use Rattle.kahn_job.proofs.Common.{◌≡◌, length, map, replicate, Tapped, cells_of, nothing_gone, tolds_of}
 use Rattle.kahn_job.proofs.handing.unseat.Given as goal
 
 abbrev pub invariant-loop-idle : goal.invariant-loop-idle

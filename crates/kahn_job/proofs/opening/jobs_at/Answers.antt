@@ -1,6 +1,5 @@
 use Rattle.kahn_job.proofs.Common.{◌≡◌, ℕ, ◌+◌, ap, arith, length, network_of, refl, subst, sym, ◌∙◌, rows_of, placed, IsAhead, ServesAt}
-use Rattle.kahn_job.proofs.Begun.{all_bare, all_at}
-use Rattle.kahn_job.proofs.Handed.{AreHanded, handed_more}
+use Rattle.kahn_job.proofs.{Begun.all_bare, Begun.all_at, Handed.AreHanded, Handed.handed_more}
 use Rattle.kahn_job.proofs.opening.jobs_at.Goals as goal
 
 pub loop-channel-init : goal.loop-channel-init

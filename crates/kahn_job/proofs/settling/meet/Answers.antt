@@ -1,6 +1,5 @@
 use Rattle.kahn_job.proofs.Common.{arith, ⊎_elim, sym, subst, network_of, reads_listed, rows_of, AreBehindOn}
-use Rattle.kahn_job.proofs.Idles.{met_self, met_then}
-use Rattle.kahn_job.proofs.Settles.{behind_before, below_or, rests_met}
+use Rattle.kahn_job.proofs.{Idles.met_self, Idles.met_then, Settles.behind_before, Settles.below_or, Settles.rests_met}
 use Rattle.kahn_job.proofs.settling.meet.Goals as goal
 
 pub loop-channel-init : goal.loop-channel-init

@@ -1,6 +1,5 @@
 use Rattle.kahn_job.proofs.Common.{arith, ◌≡◌, length, refl, ◌∙◌, subst, network_of, rows_of}
-use Rattle.kahn_job.proofs.Idles.{all_settled}
-use Rattle.kahn_job.proofs.Settles.{AreGoing, going_first, alike_stayed, going_on, rests_met, stood_still, stood_then}
+use Rattle.kahn_job.proofs.{Idles.all_settled, Settles.AreGoing, Settles.going_first, Settles.alike_stayed, Settles.going_on, Settles.rests_met, Settles.stood_still, Settles.stood_then}
 use Rattle.kahn_job.proofs.settling.settle.Goals as goal
 
 pub loop-channel-init : goal.loop-channel-init

@@ -1,8 +1,4 @@
-use Rattle.std.proofs.Common.{ap, subst, sym, ◌∙◌}
-use Rattle.kahn_lane.specs.Places.{tag_name}
-use Rattle.kahn_lane.specs.inner.Settles.{IsGrown}
-use Rattle.kahn_lane.specs.declared.name.Tag.{Tag}
-use Rattle.kahn_lane.specs.declared.segments.Mark.{Mark}
+use Rattle.kahn_lane.proofs.Common.{ap, subst, sym, ◌∙◌, tag_name, IsGrown, Tag, Mark}
 use Rattle.kahn_lane.proofs.LaneMoves.{merges, behind}
 use Rattle.kahn_lane.proofs.settling.gather.Goals as goal
 

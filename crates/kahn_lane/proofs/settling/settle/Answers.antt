@@ -1,6 +1,4 @@
-use Rattle.std.proofs.Common.{subst, sym, ◌∙◌}
-use Rattle.kahn_lane.specs.inner.Settles.{IsGrown}
-use Rattle.kahn_lane.specs.declared.name.LaneName.{LaneName}
+use Rattle.kahn_lane.proofs.Common.{subst, sym, ◌∙◌, IsGrown, LaneName}
 use Rattle.kahn_lane.proofs.Places.{same_name}
 use Rattle.kahn_lane.proofs.settling.settle.Goals as goal
 

@@ -1,10 +1,6 @@
-use Rattle.std.proofs.Common.{map, ap, subst, sym, ◌∙◌}
-use Rattle.std.specs.Prelude.{option_map}
-use Rattle.clap.specs.Words.{App, HasKind, fault_of, is_simple_and_free}
-use Rattle.kahn_line.specs.Line.{file_named}
-use Rattle.kahn_line.specs.Draw.{draw_app, IsDrawRead}
-use Rattle.kahn_line.proofs.Asked.{told}
-use Rattle.kahn_line.proofs.Draw_asked.{asked_draw}
+use Rattle.kahn_line.proofs.Common.{map, ap, subst, sym, ◌∙◌, option_map, HasKind, fault_of, is_simple_and_free, file_named, draw_app, IsDrawRead}
+use Rattle.clap.specs.Words.{App}
+use Rattle.kahn_line.proofs.{Asked.told, Draw_asked.asked_draw}
 use Rattle.kahn_line.proofs.draw.read_draw_line.Goals as goal
 
 pub returns-in_err-matches : goal.returns-in_err-matches

@@ -1,10 +1,6 @@
-use Rattle.std.proofs.Common.{map, ap, subst, sym, ◌∙◌}
-use Rattle.std.specs.Prelude.{option_map}
-use Rattle.clap.specs.Words.{App, HasKind, fault_of, is_simple_and_free}
-use Rattle.kahn_line.specs.Line.{file_named, was_given}
-use Rattle.kahn_line.specs.Explain.{explain_app, IsExplainRead}
-use Rattle.kahn_line.proofs.Asked.{told}
-use Rattle.kahn_line.proofs.Explain_asked.{asked_explain}
+use Rattle.kahn_line.proofs.Common.{map, ap, subst, sym, ◌∙◌, option_map, HasKind, fault_of, is_simple_and_free, file_named, was_given, explain_app, IsExplainRead}
+use Rattle.clap.specs.Words.{App}
+use Rattle.kahn_line.proofs.{Asked.told, Explain_asked.asked_explain}
 use Rattle.kahn_line.proofs.explain.read_explain_line.Goals as goal
 
 pub returns-in_err-matches : goal.returns-in_err-matches

@@ -1,6 +1,5 @@
-use Rattle.std.proofs.Common.{map, ap, subst, sym, ◌∙◌}
-use Rattle.clap.specs.Words.{App, HasKind, fault_of, is_simple_and_free}
-use Rattle.kahn_line.specs.Line.{kahn_app, IsRead}
+use Rattle.kahn_line.proofs.Common.{map, ap, subst, sym, ◌∙◌, HasKind, fault_of, is_simple_and_free, kahn_app, IsRead}
+use Rattle.clap.specs.Words.{App}
 use Rattle.kahn_line.proofs.Asked.{asked, told}
 use Rattle.kahn_line.proofs.line.read_line.Goals as goal
 

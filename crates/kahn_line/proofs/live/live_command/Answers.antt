@@ -1,7 +1,5 @@
-use Rattle.std.proofs.Common.{ap, ap₂, ◌∙◌, ◌≡◌, true, false, codes}
-use Rattle.std.proofs.lemmas.Result.{IfOk-weaker}
-use Rattle.clap.specs.Words.{Rule, new_rule, rule_of, with_rule}
-use Rattle.clap.specs.declared.builder.arg.Arg.{Arg}
+use Rattle.kahn_line.proofs.Common.{ap, ap₂, ◌∙◌, ◌≡◌, true, false, codes, IfOk-weaker, new_rule, with_rule, Arg}
+use Rattle.clap.specs.Words.{Rule, rule_of}
 use Rattle.kahn_line.proofs.live.live_command.Goals as goal
 
 pub returns : goal.returns

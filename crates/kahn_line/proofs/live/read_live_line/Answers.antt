@@ -1,11 +1,6 @@
-use Rattle.std.proofs.Common.{map, ap, ap₂, refl, subst, sym, ◌≡◌, ◌∙◌}
-use Rattle.std.specs.Prelude.{option_map, string_bytes}
-use Rattle.clap.specs.Words.{HasKind, HasMatchesOf, app_of, fault_of, is_simple_and_free}
-use Rattle.kahn_line.specs.Line.{file_named, was_given}
-use Rattle.kahn_line.specs.Live.{live_app, IsLiveRead}
-use Rattle.kahn_line.specs.Parts.{joined_words}
-use Rattle.kahn_line.proofs.Asked.{told}
-use Rattle.kahn_line.proofs.Live_asked.{asked_live, given}
+use Rattle.kahn_line.proofs.Common.{map, ap, ap₂, refl, subst, sym, ◌≡◌, ◌∙◌, option_map, string_bytes, HasKind, fault_of, is_simple_and_free, file_named, was_given, live_app, IsLiveRead, joined_words}
+use Rattle.clap.specs.Words.{HasMatchesOf, app_of}
+use Rattle.kahn_line.proofs.{Asked.told, Live_asked.asked_live, Live_asked.given}
 use Rattle.kahn_line.proofs.live.read_live_line.Goals as goal
 
 pub returns-in_err-matches : goal.returns-in_err-matches

@@ -1,7 +1,5 @@
 -- What was added and the words that are left stand for all.
-use Rattle.std.proofs.Common.{◌≡◌, ◌++◌, length, map}
-use Rattle.std.specs.Prelude.{string_bytes}
-use Rattle.kahn_line.specs.Parts.{joined_words}
+use Rattle.kahn_line.proofs.Common.{◌≡◌, ◌++◌, length, map, string_bytes, joined_words}
 use Rattle.kahn_line.proofs.parts.joined_words.Given as goal
 
 abbrev pub invariant-words : goal.invariant-words

@@ -1,7 +1,5 @@
-use Rattle.std.proofs.Common.{◌-◌, ◌∙◌, ap, sym, arith, subst}
+use Rattle.kahn_marks.proofs.Common.{◌-◌, ◌∙◌, ap, sym, arith, subst, IsUtf8-drop, shown_row}
 use Rattle.std.specs.Str.{IsUtf8}
-use Rattle.std.proofs.lemmas.Str.{IsUtf8-drop}
-use Rattle.kahn_marks.specs.Marks.{shown_row}
 use Rattle.kahn_marks.proofs.Shown.{from_near, to_near}
 use Rattle.kahn_marks.proofs.columns.near_part.Goals as goal
 

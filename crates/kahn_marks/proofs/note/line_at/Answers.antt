@@ -1,6 +1,5 @@
 use Rattle.std.proofs.Common.{refl}
-use Rattle.std.proofs.lemmas.Iterator.Consumers.{nth_from_yields_List}
-use Rattle.std.proofs.lemmas.Iterator.Splits.{YieldsList-from_lines}
+use Rattle.std.proofs.{lemmas.Iterator.Consumers.nth_from_yields_List, lemmas.Iterator.Splits.YieldsList-from_lines}
 use Rattle.kahn_marks.proofs.Rows.{or_empty}
 use Rattle.kahn_marks.proofs.note.line_at.Goals as goal
 

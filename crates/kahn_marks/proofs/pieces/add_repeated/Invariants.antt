@@ -1,6 +1,5 @@
 -- The piece was added so many times.
-use Rattle.std.proofs.Common.{◌≡◌, ◌++◌, string_bytes}
-use Rattle.kahn_marks.specs.Marks.{times_over}
+use Rattle.kahn_marks.proofs.Common.{◌≡◌, ◌++◌, string_bytes, times_over}
 use Rattle.kahn_marks.proofs.pieces.add_repeated.Given as goal
 
 abbrev pub invariant-loop-time : goal.invariant-loop-time

@@ -1,6 +1,5 @@
 -- The sentences so far were added.
-use Rattle.std.proofs.Common.{◌≡◌, ◌++◌, take, flat_map, string_bytes}
-use Rattle.kahn_marks.specs.Notes.{below_text}
+use Rattle.kahn_marks.proofs.Common.{◌≡◌, ◌++◌, take, flat_map, string_bytes, below_text}
 use Rattle.kahn_marks.proofs.rendering.add_below.Given as goal
 
 abbrev pub invariant-loop-sentence : goal.invariant-loop-sentence

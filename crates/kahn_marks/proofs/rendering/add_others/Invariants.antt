@@ -1,6 +1,5 @@
 -- The places so far were added.
-use Rattle.std.proofs.Common.{◌≡◌, ◌++◌, take, flat_map, string_bytes}
-use Rattle.kahn_marks.specs.Notes.{other_text}
+use Rattle.kahn_marks.proofs.Common.{◌≡◌, ◌++◌, take, flat_map, string_bytes, other_text}
 use Rattle.kahn_marks.proofs.rendering.add_others.Given as goal
 
 abbrev pub invariant-loop-other : goal.invariant-loop-other

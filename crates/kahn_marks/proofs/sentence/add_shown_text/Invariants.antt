@@ -1,7 +1,5 @@
 -- What is left of the text comes behind what was added.
-use Rattle.std.proofs.Common.{◌≡◌, ◌++◌, IsUtf8, chars, flat_map, string_bytes}
-use Rattle.std.specs.Str.Iter.{chars_rest}
-use Rattle.kahn_marks.specs.Marks.{shown_character, shown_text}
+use Rattle.kahn_marks.proofs.Common.{◌≡◌, ◌++◌, IsUtf8, chars, flat_map, string_bytes, chars_rest, shown_character, shown_text}
 use Rattle.kahn_marks.proofs.sentence.add_shown_text.Given as goal
 
 abbrev pub invariant-loop-character : goal.invariant-loop-character

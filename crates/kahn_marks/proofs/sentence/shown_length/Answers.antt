@@ -1,5 +1,4 @@
-use Rattle.std.proofs.Common.{◌∙◌, sym}
-use Rattle.std.proofs.lemmas.Str.{IsUtf8-past_char, chars_past_char}
+use Rattle.kahn_marks.proofs.Common.{◌∙◌, sym, IsUtf8-past_char, chars_past_char}
 use Rattle.kahn_marks.proofs.Fronts.{at_end, ends, goes_on, same_end}
 use Rattle.kahn_marks.proofs.sentence.shown_length.Goals as goal
 

@@ -1,7 +1,5 @@
 -- All bytes so far are shown.
-use Rattle.std.proofs.Common.{◌≡◌, ◌+◌, IsUtf8, chars, length}
-use Rattle.std.specs.Str.Iter.{char_indices_offset, char_indices_rest}
-use Rattle.kahn_marks.specs.Shown.{shown_length}
+use Rattle.kahn_marks.proofs.Common.{◌≡◌, ◌+◌, IsUtf8, chars, length, char_indices_offset, char_indices_rest, shown_length}
 use Rattle.kahn_marks.proofs.sentence.shown_length.Given as goal
 
 abbrev pub invariant-loop-at : goal.invariant-loop-at

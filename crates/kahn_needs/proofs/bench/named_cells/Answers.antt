@@ -1,5 +1,4 @@
-use Rattle.std.proofs.Common.{◌∙◌, length}
-use Rattle.kahn_streams.specs.Network.{instance_at, network_of}
+use Rattle.kahn_needs.proofs.Common.{◌∙◌, length, instance_at, network_of}
 use Rattle.kahn_needs.proofs.Benched.{fresh_more, fresh_one}
 use Rattle.kahn_needs.proofs.bench.named_cells.Goals as goal
 

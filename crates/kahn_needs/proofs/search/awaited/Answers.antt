@@ -1,6 +1,4 @@
-use Rattle.std.proofs.Common.{sym, subst}
-use Rattle.kahn_streams.specs.declared.value.Line.TheVariants.{Channel}
-use Rattle.kahn_needs.specs.inner.Finding.{IsDemand, IsSooner}
+use Rattle.kahn_needs.proofs.Common.{sym, subst, Channel, IsDemand, IsSooner}
 use Rattle.kahn_needs.proofs.search.awaited.Goals as goal
 
 pub returns : goal.returns

@@ -1,5 +1,4 @@
-use Rattle.kahn_needs.specs.inner.Bench.{AreSeatsOf}
-use Rattle.kahn_needs.specs.inner.Finding.{AreForced, IsWaitChain, IsDemand}
+use Rattle.kahn_needs.proofs.Common.{AreSeatsOf, AreForced, IsWaitChain, IsDemand}
 use Rattle.kahn_needs.proofs.search.search.Given as goal
 
 abbrev pub invariant-loop : goal.invariant-loop

@@ -1,5 +1,4 @@
-use Rattle.std.proofs.Common.{subst}
-use Rattle.kahn_needs.specs.inner.Finding.{IsPausedAt}
+use Rattle.kahn_needs.proofs.Common.{subst, IsPausedAt}
 use Rattle.kahn_needs.proofs.Searching.{ended, faulted, waits_for}
 use Rattle.kahn_needs.proofs.search.told.Goals as goal
 

@@ -1,11 +1,8 @@
-use Rattle.std.proofs.Common.{◌≡◌, ◌≤◌, ◌++◌, ◌+◌, ◌-◌, ◌∙◌, [], ap, append-nil, arith, drop, get_or, length, length-append, map, string_bytes, sym}
-use Rattle.std.proofs.lemmas.List.{at_drop_all, length-map}
+use Rattle.kahn_notes.proofs.Common.{◌≡◌, ◌≤◌, ◌++◌, ◌+◌, ◌-◌, ◌∙◌, [], ap, append-nil, arith, drop, get_or, length, length-append, map, string_bytes, sym, at_drop_all, length-map, listed, pieces_of, text_end_words, wanted_words, any_words}
 use Rattle.std.proofs.lemmas.Result.{IfOk-weaker}
 use Rattle.kahn_syntax.specs.declared.lexeme.Class.TheVariants as class
 use Rattle.kahn_syntax.specs.declared.lexeme.Keyword.TheVariants as word
 use Rattle.kahn_wanted.specs.declared.groups.LexemeGroup.TheVariants as group
-use Rattle.kahn_notes.specs.Notes.{listed, pieces_of, text_end_words, wanted_words}
-use Rattle.kahn_notes.specs.Words.{any_words}
 use Rattle.kahn_notes.proofs.Pieces.{last_listed, listed_on, regrouped}
 use Rattle.kahn_notes.proofs.listing.add_wanted.Goals as goal
 

@@ -1,7 +1,5 @@
 -- What is left of the groups, and then of the classes, comes behind the text so far, and is so many pieces.
-use Rattle.std.proofs.Common.{◌≡◌, ◌+◌, ◌-◌, ◌++◌, drop, length, map, string_bytes}
-use Rattle.kahn_notes.specs.Notes.{listed, pieces_of, text_end_words, wanted_words}
-use Rattle.kahn_notes.specs.Words.{any_words}
+use Rattle.kahn_notes.proofs.Common.{◌≡◌, ◌+◌, ◌-◌, ◌++◌, drop, length, map, string_bytes, listed, pieces_of, text_end_words, wanted_words, any_words}
 use Rattle.kahn_notes.proofs.listing.add_wanted.Given as goal
 
 abbrev pub invariant-loop-group : goal.invariant-loop-group

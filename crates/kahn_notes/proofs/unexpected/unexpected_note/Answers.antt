@@ -1,5 +1,4 @@
-use Rattle.std.proofs.Common.{IfSome, string_bytes, subst, sym}
-use Rattle.kahn_notes.specs.Notes.{Mends}
+use Rattle.kahn_notes.proofs.Common.{IfSome, string_bytes, subst, sym, Mends}
 use Rattle.kahn_notes.proofs.unexpected.unexpected_note.Goals as goal
 
 pub returns : goal.returns

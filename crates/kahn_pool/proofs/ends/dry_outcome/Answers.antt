@@ -1,5 +1,4 @@
-use Rattle.std.proofs.Common.{length, refl}
-use Rattle.kahn_pool.proofs.Common.{reads_listed, slice_get_read}
+use Rattle.kahn_pool.proofs.Common.{length, refl, reads_listed, slice_get_read}
 use Rattle.kahn_pool.proofs.Ended.{dry_told, taken_long}
 use Rattle.kahn_pool.proofs.ends.dry_outcome.Goals as goal
 

@@ -1,5 +1,4 @@
-use Rattle.std.proofs.Common.{◌≡◌, inl, sym, ap, ◌∙◌, subst, length, refl}
-use Rattle.kahn_pool.proofs.Common.{same_Some, Tasked, IsToldAs, slice_get_read}
+use Rattle.kahn_pool.proofs.Common.{◌≡◌, inl, sym, ap, ◌∙◌, subst, length, refl, same_Some, Tasked, IsToldAs, slice_get_read}
 use Rattle.kahn_pool.proofs.ends.end_of.Goals as goal
 use Rattle.kahn_pool.proofs.ends.end_of.Goals.{in-Going, in-Ended, in-Faulted, in-Dry}
 

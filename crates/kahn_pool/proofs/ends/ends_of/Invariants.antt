@@ -1,5 +1,4 @@
-use Rattle.std.proofs.Common.{◌≡◌, vec_capacity}
-use Rattle.kahn_pool.proofs.Common.{AreEndsOfTasks}
+use Rattle.kahn_pool.proofs.Common.{◌≡◌, vec_capacity, AreEndsOfTasks}
 use Rattle.kahn_pool.proofs.ends.ends_of.Given as goal
 
 abbrev pub invariant-loop-instance : goal.invariant-loop-instance

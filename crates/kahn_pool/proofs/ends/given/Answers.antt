@@ -1,5 +1,4 @@
-use Rattle.std.proofs.Common.{◌<◌, length, sym, subst, refl}
-use Rattle.kahn_pool.proofs.Common.{slice_get_read}
+use Rattle.kahn_pool.proofs.Common.{◌<◌, length, sym, subst, refl, slice_get_read}
 use Rattle.kahn_pool.proofs.Ended.{given_all, sent_all}
 use Rattle.kahn_pool.proofs.ends.given.Goals as goal
 

@@ -1,5 +1,4 @@
-use Rattle.std.proofs.Common.{arith, ◌≡◌, ◌∙◌, List, Some, ap, length, slice_get, subst}
-use Rattle.kahn_pool.proofs.Common.{length-map, CellView, told_in}
+use Rattle.kahn_pool.proofs.Common.{arith, ◌≡◌, ◌∙◌, List, Some, ap, length, slice_get, subst, length-map, CellView, told_in}
 use Rattle.kahn_pool.proofs.Handing.{handed, none_gone, same_places}
 use Rattle.kahn_pool.proofs.handover.hand_over.Goals as goal
 

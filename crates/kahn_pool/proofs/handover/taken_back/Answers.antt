@@ -1,5 +1,4 @@
-use Rattle.std.proofs.Common.{List, ap, length, replicate, subst, sym, ◌∙◌}
-use Rattle.kahn_pool.proofs.Common.{IsLaid, CellView, Work, length-map, nothing_gone, seated_with, told_in}
+use Rattle.kahn_pool.proofs.Common.{List, ap, length, replicate, subst, sym, ◌∙◌, IsLaid, CellView, Work, length-map, nothing_gone, seated_with, told_in}
 use Rattle.kahn_pool.proofs.handover.taken_back.Goals as goal
 
 pub with_taps-requires-clause-laid : goal.with_taps-requires-clause-laid

@@ -1,5 +1,4 @@
-use Rattle.std.proofs.Common.{◌≡◌, ◌≤◌, length, take}
-use Rattle.kahn_pool.proofs.Common.{cells_of, AreKeptOf}
+use Rattle.kahn_pool.proofs.Common.{◌≡◌, ◌≤◌, length, take, cells_of, AreKeptOf}
 use Rattle.std.specs.Vec.{vec_capacity}
 use Rattle.kahn_pool.proofs.held.copied_lists.Given as goal
 

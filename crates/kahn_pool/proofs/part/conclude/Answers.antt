@@ -1,7 +1,5 @@
-use Rattle.std.proofs.Common.{arith, ℕ, List, length, sym, ap, ◌∙◌, subst}
-use Rattle.kahn_pool.proofs.Common.{network_of, AreBehindOn, rows_of, Tasked, task_rows, IsVerdict, AreEndsOfTasks, AreTold}
-use Rattle.kahn_pool.proofs.Held_jobs.{cells_after, held_after, held_concluded, held_met}
-use Rattle.kahn_pool.proofs.Over.{events_new, left_lent, over_new, settled_new, tasks_new, concluded}
+use Rattle.kahn_pool.proofs.Common.{arith, ℕ, List, length, sym, ap, ◌∙◌, subst, network_of, AreBehindOn, rows_of, Tasked, task_rows, IsVerdict, AreEndsOfTasks, AreTold}
+use Rattle.kahn_pool.proofs.{Held_jobs.cells_after, Held_jobs.held_after, Held_jobs.held_concluded, Held_jobs.held_met, Over.events_new, Over.left_lent, Over.over_new, Over.settled_new, Over.tasks_new, Over.concluded}
 use Rattle.kahn_pool.proofs.Rests as rests
 use Rattle.kahn_pool.proofs.part.conclude.Goals as goal
 

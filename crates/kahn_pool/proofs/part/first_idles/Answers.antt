@@ -1,5 +1,4 @@
-use Rattle.std.proofs.Common.{arith, ◌≡◌, ◌+◌, sym, subst, refl}
-use Rattle.kahn_pool.proofs.Common.{events_told, told_tale, untouched_gone, at_most_all, AreHeld}
+use Rattle.kahn_pool.proofs.Common.{arith, ◌≡◌, ◌+◌, sym, subst, refl, events_told, told_tale, untouched_gone, at_most_all, AreHeld}
 use Rattle.kahn_pool.proofs.Held_jobs.{held_after}
 use Rattle.kahn_pool.proofs.part.first_idles.Goals as goal
 

@@ -1,5 +1,4 @@
-use Rattle.kahn_pool.proofs.Held_jobs.{cells_after, held_after}
-use Rattle.kahn_pool.proofs.Over.{left_lent}
+use Rattle.kahn_pool.proofs.{Held_jobs.cells_after, Held_jobs.held_after, Over.left_lent}
 use Rattle.kahn_pool.proofs.part.give_up.Goals as goal
 
 pub settle_all-requires : goal.settle_all-requires

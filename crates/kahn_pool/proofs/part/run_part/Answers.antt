@@ -1,5 +1,4 @@
-use Rattle.std.proofs.Common.{Err, refl, ap, map, subst}
-use Rattle.kahn_pool.proofs.Common.{idle_still, NoMemory, cell_alone, Stopped, HaveRisen, cells_of}
+use Rattle.kahn_pool.proofs.Common.{Err, refl, ap, map, subst, idle_still, NoMemory, cell_alone, Stopped, HaveRisen, cells_of}
 use Rattle.kahn_pool.proofs.Held_jobs.{held_alike, refused_so, risen_here, stopped_since}
 use Rattle.kahn_pool.proofs.part.run_part.Goals as goal
 

@@ -1,5 +1,4 @@
-use Rattle.std.proofs.Common.{false, true, arith, ◌≡◌, sym, ◌∙◌, subst, IsOk, Result}
-use Rattle.kahn_pool.proofs.Common.{AreReadyTasks, CrewFault, HaveGone, Verdict, woken_ready, Work, at_mapped}
+use Rattle.kahn_pool.proofs.Common.{false, true, arith, ◌≡◌, sym, ◌∙◌, subst, IsOk, Result, AreReadyTasks, CrewFault, HaveGone, Verdict, woken_ready, Work, at_mapped}
 use Rattle.kahn_pool.proofs.Held_jobs.{alone_still, cells_still, have_risen, refused_so, woken_events, ended_so}
 use Rattle.kahn_pool.proofs.part.run_settled.Goals as goal
 

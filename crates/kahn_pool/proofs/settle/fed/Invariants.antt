@@ -1,5 +1,4 @@
-use Rattle.std.proofs.Common.{ℕ, ◌<◌}
-use Rattle.kahn_pool.proofs.Common.{IsWithinInput, end_at}
+use Rattle.kahn_pool.proofs.Common.{ℕ, ◌<◌, IsWithinInput, end_at}
 use Rattle.kahn_pool.proofs.settle.fed.Given as goal
 
 abbrev pub invariant-loop-parameter : goal.invariant-loop-parameter

@@ -1,5 +1,4 @@
-use Rattle.std.proofs.Common.{rules}
-use Rattle.kahn_sequential.proofs.Lists.{next_old, one_changed, all_changed}
+use Rattle.kahn_pool.proofs.Common.{rules, next_old, one_changed, all_changed}
 use Rattle.kahn_pool.proofs.settle.settle_all.Goals as goal
 
 pub settle-requires : goal.settle-requires

@@ -1,5 +1,4 @@
-use Rattle.kahn_pool.proofs.Common.{SettlesTo}
-use Rattle.kahn_sequential.proofs.Lists.{ChangedTo}
+use Rattle.kahn_pool.proofs.Common.{SettlesTo, ChangedTo}
 use Rattle.kahn_pool.proofs.settle.settle_all.Given as goal
 
 abbrev pub invariant-loop-instance : goal.invariant-loop-instance

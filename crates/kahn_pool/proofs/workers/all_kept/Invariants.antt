@@ -1,5 +1,4 @@
-use Rattle.std.proofs.Common.{◌≡◌, vec_capacity}
-use Rattle.kahn_pool.proofs.Common.{cells_of, AreKeptOf}
+use Rattle.kahn_pool.proofs.Common.{◌≡◌, vec_capacity, cells_of, AreKeptOf}
 use Rattle.kahn_pool.proofs.workers.all_kept.Given as goal
 
 abbrev pub invariant-loop-idle : goal.invariant-loop-idle

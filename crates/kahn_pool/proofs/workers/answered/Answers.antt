@@ -1,8 +1,5 @@
-use Rattle.std.proofs.Common.{arith, ◌-◌, refl}
-use Rattle.kahn_pool.proofs.Common.{Answer, cells_of}
-use Rattle.kahn_sequential.proofs.Filled.{are_streams}
+use Rattle.kahn_pool.proofs.Common.{arith, ◌-◌, refl, Answer, cells_of, are_streams, answer_right}
 use Rattle.kahn_pool.proofs.Kept.{idle_lists}
-use Rattle.kahn_sequential.proofs.Righted.{answer_right}
 use Rattle.kahn_pool.proofs.workers.answered.Goals as goal
 
 pub all_kept-kept-requires-clause-room : goal.all_kept-kept-requires-clause-room

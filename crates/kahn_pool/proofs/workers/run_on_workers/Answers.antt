@@ -1,7 +1,5 @@
-use Rattle.std.proofs.Common.{arith, rules, ◌≡◌, ℕ, ◌+◌, ◌∙◌, Option, Err, ap, length, map, sym, subst}
-use Rattle.kahn_pool.proofs.Common.{AreHeld, IsLaid, IsWide, Lists, NoMemory, Plan, Program, Table, CellView, all_events, cell_for, cells_of, network_of, seated_with, sight_of, vacant_of}
+use Rattle.kahn_pool.proofs.Common.{arith, rules, ◌≡◌, ℕ, ◌+◌, ◌∙◌, Option, Err, ap, length, map, sym, subst, AreHeld, IsLaid, IsWide, Lists, NoMemory, Plan, Program, Table, CellView, all_events, cell_for, cells_of, network_of, seated_with, sight_of, vacant_of, IsRoomFor}
 use Rattle.kahn_pool.proofs.Handing.{same_input, seated_again}
-use Rattle.kahn_pool.specs.inner.Holding.{IsRoomFor}
 use Rattle.kahn_pool.proofs.workers.run_on_workers.Goals as goal
 
 pub invariant_of-part : goal.invariant_of-part

@@ -1,6 +1,5 @@
-use Rattle.std.proofs.Common.{refl, rules}
+use Rattle.kahn_report.proofs.Common.{refl, rules, HasItsLines}
 use Rattle.kahn_sequential.proofs.Sizes.{settles}
-use Rattle.kahn_texts.specs.Formats.{HasItsLines}
 use Rattle.kahn_texts.proofs.Answer_lines.{right_lines}
 use Rattle.kahn_fault.proofs.Worked.{unchecked, unanswered}
 use Rattle.kahn_report.proofs.working.work.Goals as goal

@@ -1,5 +1,4 @@
-use Rattle.std.proofs.Common.{arith}
-use Rattle.kahn_sequential.proofs.Common.{AreCounts, Tapped, slice_get_within}
+use Rattle.kahn_sequential.proofs.Common.{arith, AreCounts, Tapped, slice_get_within}
 use Rattle.kahn_sequential.proofs.Lists.{each_more}
 use Rattle.kahn_sequential.proofs.taps.all_sized.Goals as goal
 

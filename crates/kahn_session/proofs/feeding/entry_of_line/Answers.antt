@@ -1,6 +1,4 @@
-use Rattle.std.proofs.Common.{rules}
-use Rattle.kahn_texts.specs.Formats.{HasNoHead, HasNoValues, content}
-use Rattle.kahn_session.specs.Live.{IsText}
+use Rattle.kahn_session.proofs.Common.{rules, HasNoHead, HasNoValues, content, IsText}
 use Rattle.kahn_session.proofs.feeding.entry_of_line.Goals as goal
 
 pub returns-in-Err-NoHead : goal.returns-in-Err-NoHead

@@ -1,7 +1,4 @@
-use Rattle.std.proofs.Common.{string_bytes}
-use Rattle.kahn_streams.specs.Inputs.{Entry}
-use Rattle.kahn_texts.specs.Formats.{IsEntry, content}
-use Rattle.kahn_session.specs.Live.{IsText}
+use Rattle.kahn_session.proofs.Common.{string_bytes, Entry, IsEntry, content, IsText}
 use Rattle.kahn_session.proofs.Steps.{one_pace, unpoured}
 use Rattle.kahn_session.proofs.feeding.feed_line.Goals as goal
 

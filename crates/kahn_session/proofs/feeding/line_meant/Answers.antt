@@ -1,8 +1,4 @@
-use Rattle.std.proofs.Common.{inr, string_bytes}
-use Rattle.kahn_streams.specs.Feeds.{IsMeantFor, IsNotMeant}
-use Rattle.kahn_streams.specs.Inputs.{Entry}
-use Rattle.kahn_texts.specs.Formats.{IsEntry, content}
-use Rattle.kahn_session.specs.Live.{IsText}
+use Rattle.kahn_session.proofs.Common.{inr, string_bytes, IsMeantFor, IsNotMeant, Entry, IsEntry, content, IsText}
 use Rattle.kahn_session.proofs.Steps.{unmeant}
 use Rattle.kahn_session.proofs.feeding.line_meant.Goals as goal
 

@@ -1,11 +1,4 @@
-use Rattle.std.proofs.Common.{arith, rules, ◌≡◌, ◌+◌, ◌<◌, ◌++◌, ◌∷◌, [], List, drop, length, subst, sym}
-use Rattle.std.specs.declared.alloc.Global.{Global}
-use Rattle.std.specs.declared.vec.Vec.{Vec}
-use Rattle.kahn_sequential.specs.Flows.{flow_lines}
-use Rattle.kahn_streams.specs.declared.value.Value.{Value}
-use Rattle.kahn_streams.specs.declared.value.Line.{Line}
-use Rattle.kahn_session.specs.Forms.{next_of, waiting_from}
-use Rattle.kahn_session.specs.inner.Kept.{kept_values}
+use Rattle.kahn_session.proofs.Common.{arith, rules, ◌≡◌, ◌+◌, ◌<◌, ◌++◌, ◌∷◌, [], List, drop, length, subst, sym, Global, Vec, flow_lines, Value, Line, next_of, waiting_from, kept_values}
 use Rattle.kahn_session.proofs.Waiting.{kept_more}
 use Rattle.kahn_session.proofs.forms.all_waiting.Goals as goal
 

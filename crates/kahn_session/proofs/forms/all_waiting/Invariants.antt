@@ -1,8 +1,5 @@
 -- What waits of the streams so far, and of those that are left, is all that waits.
-use Rattle.std.proofs.Common.{◌≡◌, ◌++◌, drop}
-use Rattle.kahn_sequential.specs.Flows.{flow_lines}
-use Rattle.kahn_session.specs.Forms.{next_of, waiting_from}
-use Rattle.kahn_session.specs.inner.Kept.{kept_values}
+use Rattle.kahn_session.proofs.Common.{◌≡◌, ◌++◌, drop, flow_lines, next_of, waiting_from, kept_values}
 use Rattle.kahn_session.proofs.forms.all_waiting.Given as goal
 
 abbrev pub invariant-loop-number : goal.invariant-loop-number

@@ -1,8 +1,4 @@
-use Rattle.std.proofs.Common.{arith, ◌≡◌, ◌<◌, List, Some, length, subst, sym}
-use Rattle.std.specs.Prelude.{slice_get, slice_index_or}
-use Rattle.std.proofs.lemmas.Option.{slice_get-get_or}
-use Rattle.kahn_streams.specs.declared.value.Line.{Line}
-use Rattle.kahn_streams.specs.declared.value.Line.TheVariants.{Channel}
+use Rattle.kahn_session.proofs.Common.{arith, ◌≡◌, ◌<◌, List, Some, length, subst, sym, slice_get, slice_index_or, slice_get-get_or, Line, Channel}
 use Rattle.kahn_session.proofs.Showing.{begun_next, within_lines}
 use Rattle.kahn_session.proofs.forms.begun.Goals as goal
 

@@ -1,9 +1,5 @@
 -- The streams so far have.
-use Rattle.std.proofs.Common.{◌≡◌, ◌<◌, ◌++◌, ℕ, List, [], Some}
-use Rattle.std.specs.Prelude.{slice_get, slice_index_or}
-use Rattle.kahn_streams.specs.declared.value.Line.{Line}
-use Rattle.kahn_streams.specs.declared.value.Value.{Value}
-use Rattle.kahn_sequential.specs.HeldRuns.{so_far}
+use Rattle.kahn_session.proofs.Common.{◌≡◌, ◌<◌, ◌++◌, ℕ, List, [], Some, slice_get, slice_index_or, Line, Value, so_far}
 use Rattle.kahn_session.proofs.forms.begun.Given as goal
 
 abbrev pub invariant-loop-line : goal.invariant-loop-line

@@ -1,6 +1,5 @@
 -- The least so far, and of the streams that are left, is that of all.
-use Rattle.std.proofs.Common.{◌≡◌, length}
-use Rattle.kahn_session.specs.Forms.{fewest, next_of}
+use Rattle.kahn_session.proofs.Common.{◌≡◌, length, fewest, next_of}
 use Rattle.kahn_session.proofs.forms.fewest.Given as goal
 
 abbrev pub invariant-columns : goal.invariant-columns

@@ -1,10 +1,4 @@
-use Rattle.std.proofs.Common.{rules, ◌≡◌, ◌∙◌, ◌<◌, ◌≤◌, List, Some, length, map, drop, ap, sym, subst}
-use Rattle.std.specs.Prelude.{slice_get, slice_index_or}
-use Rattle.std.proofs.lemmas.Option.{slice_get-get_or}
-use Rattle.kahn_streams.specs.declared.value.Line.{Line}
-use Rattle.kahn_streams.specs.declared.value.Line.TheVariants.{Channel}
-use Rattle.kahn_sequential.specs.Flows.{flow_lines}
-use Rattle.kahn_sequential.specs.HeldRuns.{so_far}
+use Rattle.kahn_session.proofs.Common.{rules, ◌≡◌, ◌∙◌, ◌<◌, ◌≤◌, List, Some, length, map, drop, ap, sym, subst, slice_get, slice_index_or, slice_get-get_or, Line, Channel, flow_lines, so_far}
 use Rattle.kahn_session.proofs.Fresh.{news_at, news_past, values_new}
 use Rattle.kahn_session.proofs.forms.fresh_of.Goals as goal
 

@@ -1,8 +1,5 @@
 -- None of the streams so far has more values.
-use Rattle.std.proofs.Common.{◌≡◌, drop, length}
-use Rattle.std.specs.Prelude.{nat_lt}
-use Rattle.std.specs.List.{list_any}
-use Rattle.kahn_session.specs.Forms.{next_of}
+use Rattle.kahn_session.proofs.Common.{◌≡◌, drop, length, nat_lt, list_any, next_of}
 use Rattle.kahn_session.proofs.forms.has_more.Given as goal
 
 abbrev pub invariant-loop-number : goal.invariant-loop-number

@@ -1,12 +1,4 @@
-use Rattle.std.proofs.Common.{arith, ◌≡◌, ◌∙◌, ◌<◌, ◌≤◌, ◌++◌, List, [], Some, append-nil, ap, length, map, refl, sym, subst}
-use Rattle.std.specs.Prelude.{slice_get, slice_index_or}
-use Rattle.std.proofs.KnownBytes.{Appends-nil, Appends-trans}
-use Rattle.std.specs.Io.KnownBytes.{Appends}
-use Rattle.std.proofs.lemmas.Option.{slice_get-get_or}
-use Rattle.kahn_streams.specs.declared.value.Line.{Line}
-use Rattle.kahn_streams.specs.declared.value.Line.TheVariants.{Channel}
-use Rattle.kahn_streams.specs.Written.{AppendsFront}
-use Rattle.kahn_texts.proofs.Writing.{fails, goes_on_front, stops}
+use Rattle.kahn_session.proofs.Common.{arith, ◌≡◌, ◌∙◌, ◌<◌, ◌≤◌, ◌++◌, List, [], Some, append-nil, ap, length, map, refl, sym, subst, slice_get, slice_index_or, Appends-nil, Appends-trans, Appends, slice_get-get_or, Line, Channel, AppendsFront, fails, goes_on_front, stops}
 use Rattle.kahn_session.proofs.Fresh.{is_line, news_line, news_moved, news_split, nothing_left, rest_text, stale_up, tokens_new}
 use Rattle.kahn_session.proofs.forms.put_news.Goals as goal
 

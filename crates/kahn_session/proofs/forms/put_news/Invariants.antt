@@ -1,7 +1,5 @@
 -- What isn't of the streams that are left went out.
-use Rattle.std.proofs.Common.{◌≡◌, ℕ, ◌-◌, ◌≤◌, List, ◌++◌, length, map}
-use Rattle.std.specs.Io.KnownBytes.{Appends}
-use Rattle.kahn_session.specs.inner.Kept.{lines_text}
+use Rattle.kahn_session.proofs.Common.{◌≡◌, ℕ, ◌-◌, ◌≤◌, List, ◌++◌, length, map, Appends, lines_text}
 use Rattle.kahn_session.proofs.Fresh.{rest_text}
 use Rattle.kahn_session.proofs.forms.put_news.Given as goal
 

@@ -1,7 +1,4 @@
-use Rattle.std.proofs.Common.{List, subst}
-use Rattle.kahn_streams.specs.declared.value.Value.{Value}
-use Rattle.kahn_streams.specs.Written.{Writes}
-use Rattle.kahn_texts.specs.News.{plain_text}
+use Rattle.kahn_session.proofs.Common.{List, subst, Value, Writes, plain_text}
 use Rattle.kahn_session.proofs.forms.put_plain.Goals as goal
 
 pub returns : goal.returns

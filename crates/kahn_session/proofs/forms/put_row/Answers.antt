@@ -1,11 +1,4 @@
-use Rattle.std.proofs.Common.{◌≡◌, ◌∷◌, ◌++◌, ℕ, List, Option, [], refl, rules, sym, subst}
-use Rattle.std.specs.Prelude.{slice_get}
-use Rattle.std.specs.Io.KnownBytes.{Appends}
-use Rattle.std.proofs.KnownBytes.{Appends-nil, Appends-trans}
-use Rattle.kahn_streams.specs.declared.value.Value.{Value}
-use Rattle.kahn_streams.specs.Written.{AppendsFront}
-use Rattle.kahn_texts.proofs.Writing.{fails, goes_on_front, stops}
-use Rattle.kahn_session.specs.Forms.{cell_news, next_of, row_stop}
+use Rattle.kahn_session.proofs.Common.{◌≡◌, ◌∷◌, ◌++◌, ℕ, List, Option, [], refl, rules, sym, subst, slice_get, Appends, Appends-nil, Appends-trans, Value, AppendsFront, fails, goes_on_front, stops, cell_news, next_of, row_stop}
 use Rattle.kahn_session.proofs.Rows.{row_moved}
 use Rattle.kahn_session.proofs.forms.put_row.Goals as goal
 

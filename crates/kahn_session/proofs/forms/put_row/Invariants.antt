@@ -1,7 +1,5 @@
 -- What isn't of the values that are left went out.
-use Rattle.std.proofs.Common.{◌≡◌, ℕ, List, ◌++◌, length}
-use Rattle.std.specs.Io.KnownBytes.{Appends}
-use Rattle.kahn_session.specs.Forms.{next_of, row_news}
+use Rattle.kahn_session.proofs.Common.{◌≡◌, ℕ, List, ◌++◌, length, Appends, next_of, row_news}
 use Rattle.kahn_session.proofs.forms.put_row.Given as goal
 
 abbrev pub invariant-columns : goal.invariant-columns

@@ -1,9 +1,4 @@
-use Rattle.std.proofs.Common.{◌≤◌, ◌++◌, [], refl, rules, sym, subst}
-use Rattle.std.specs.Io.KnownBytes.{Appends}
-use Rattle.std.proofs.KnownBytes.{Appends-nil, Appends-trans}
-use Rattle.kahn_streams.specs.Written.{AppendsFront}
-use Rattle.kahn_texts.proofs.Writing.{fails, goes_on_front, stops}
-use Rattle.kahn_session.specs.Forms.{next_of, row_news}
+use Rattle.kahn_session.proofs.Common.{◌≤◌, ◌++◌, [], refl, rules, sym, subst, Appends, Appends-nil, Appends-trans, AppendsFront, fails, goes_on_front, stops, next_of, row_news}
 use Rattle.kahn_session.proofs.Rows.{rows_done, rows_moved}
 use Rattle.kahn_session.proofs.forms.put_rows.Goals as goal
 

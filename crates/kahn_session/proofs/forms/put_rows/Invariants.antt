@@ -1,7 +1,5 @@
 -- What isn't of the rows that are left went out.
-use Rattle.std.proofs.Common.{◌≡◌, ℕ, ◌-◌, List, ◌++◌}
-use Rattle.std.specs.Io.KnownBytes.{Appends}
-use Rattle.kahn_session.specs.Forms.{next_of, rows_news}
+use Rattle.kahn_session.proofs.Common.{◌≡◌, ℕ, ◌-◌, List, ◌++◌, Appends, next_of, rows_news}
 use Rattle.kahn_session.proofs.forms.put_rows.Given as goal
 
 abbrev pub invariant-loop-place : goal.invariant-loop-place

@@ -1,6 +1,4 @@
-use Rattle.std.proofs.Common.{rules, ◌≡◌, ◌∙◌, ◌+◌, ◌++◌, ◌∷◌, [], List, drop, subst, sym}
-use Rattle.kahn_streams.specs.declared.value.Value.{Value}
-use Rattle.kahn_session.specs.Forms.{next_of}
+use Rattle.kahn_session.proofs.Common.{rules, ◌≡◌, ◌∙◌, ◌+◌, ◌++◌, ◌∷◌, [], List, drop, subst, sym, Value, next_of}
 use Rattle.kahn_session.proofs.Waiting.{none_waits, one_waits}
 use Rattle.kahn_session.proofs.forms.waiting_of.Goals as goal
 

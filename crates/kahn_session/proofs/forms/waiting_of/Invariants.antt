@@ -1,6 +1,5 @@
 -- What was taken, and what is left of the values, are those behind the rows.
-use Rattle.std.proofs.Common.{◌≡◌, ◌++◌, drop}
-use Rattle.kahn_session.specs.Forms.{next_of}
+use Rattle.kahn_session.proofs.Common.{◌≡◌, ◌++◌, drop, next_of}
 use Rattle.kahn_session.proofs.forms.waiting_of.Given as goal
 
 abbrev pub invariant-loop-place : goal.invariant-loop-place

@@ -1,5 +1,4 @@
-use Rattle.std.specs.Prelude.{option_copied}
-use Rattle.kahn_texts.proofs.Writing.{fails, goes_on, stops}
+use Rattle.kahn_session.proofs.Common.{option_copied, fails, goes_on, stops}
 use Rattle.kahn_session.specs.Refusals.{hint_text, refusal_line}
 use Rattle.kahn_session.proofs.refusal.write_refusal.Goals as goal
 

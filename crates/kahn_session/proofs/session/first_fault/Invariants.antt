@@ -1,6 +1,5 @@
 -- None of the ends so far is a fault.
-use Rattle.std.proofs.Common.{◌≡◌, ◌+◌, suc, length}
-use Rattle.kahn_session.specs.Live.{first_faulted}
+use Rattle.kahn_session.proofs.Common.{◌≡◌, ◌+◌, suc, length, first_faulted}
 use Rattle.kahn_session.proofs.session.first_fault.Given as goal
 
 abbrev pub invariant-ends : goal.invariant-ends

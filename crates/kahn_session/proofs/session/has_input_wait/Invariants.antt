@@ -1,8 +1,5 @@
 -- None of the ends so far is one.
-use Rattle.std.proofs.Common.{◌≡◌, drop}
-use Rattle.std.specs.List.{list_any}
-use Rattle.kahn_streams.specs.Network.{network_of}
-use Rattle.kahn_session.specs.Live.{waits_on_input}
+use Rattle.kahn_session.proofs.Common.{◌≡◌, drop, list_any, network_of, waits_on_input}
 use Rattle.kahn_session.proofs.session.has_input_wait.Given as goal
 
 abbrev pub invariant-loop-end : goal.invariant-loop-end

@@ -1,5 +1,4 @@
-use Rattle.std.proofs.Common.{ℕ, ◌<◌}
-use Rattle.kahn_session.specs.Live.{IsNamedAt}
+use Rattle.kahn_session.proofs.Common.{ℕ, ◌<◌, IsNamedAt}
 use Rattle.kahn_session.proofs.session.line_of.Given as goal
 
 abbrev pub invariant-loop-number : goal.invariant-loop-number

@@ -1,6 +1,4 @@
-use Rattle.std.proofs.Common.{◌∙◌, arith, ap, sym}
-use Rattle.std.specs.Prelude.{option_copied}
-use Rattle.kahn_session.specs.Live.{is_other_input}
+use Rattle.kahn_session.proofs.Common.{◌∙◌, arith, ap, sym, option_copied, is_other_input}
 use Rattle.kahn_session.proofs.Named.{no_other_further}
 use Rattle.kahn_session.proofs.session.other_input.Goals as goal
 

@@ -1,7 +1,5 @@
 -- None of the channels so far is one.
-use Rattle.std.proofs.Common.{◌<◌, ℕ}
-use Rattle.std.specs.Prelude.{option_copied}
-use Rattle.kahn_session.specs.Live.{IsNoOther}
+use Rattle.kahn_session.proofs.Common.{◌<◌, ℕ, option_copied, IsNoOther}
 use Rattle.kahn_session.proofs.session.other_input.Given as goal
 
 abbrev pub invariant-loop-number : goal.invariant-loop-number

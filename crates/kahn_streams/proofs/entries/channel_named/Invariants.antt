@@ -1,6 +1,4 @@
-use Rattle.std.proofs.Common.{◌≡◌, ◌+◌, drop}
-use Rattle.kahn_streams.specs.View.{place_of}
-use Rattle.kahn_streams.specs.Network.{channel_names}
+use Rattle.kahn_streams.proofs.Common.{◌≡◌, ◌+◌, drop, place_of, channel_names}
 use Rattle.kahn_streams.proofs.entries.channel_named.Given as goal
 
 abbrev pub invariant-loop-channel : goal.invariant-loop-channel

@@ -1,10 +1,5 @@
-use Rattle.std.proofs.Common.{rules, arith, ◌≡◌, ap, ◌+◌, length, map, false, slice_index_or}
-use Rattle.std.proofs.lemmas.List.{length_push, map-append}
-use Rattle.std.proofs.lemmas.Iterator.Adapters.{YieldsList-from_vec}
-use Rattle.std.proofs.lemmas.Iterator.Consumers.{YieldsList-so_far, YieldsList-turn}
-use Rattle.std.proofs.lemmas.Result.{err_from_is_err_and}
-use Rattle.kahn_streams.specs.Inputs.{Entry, entry_of, channel_of}
-use Rattle.kahn_streams.specs.inner.Marked.{IsFitHere, IsRefusedAt}
+use Rattle.kahn_streams.proofs.Common.{rules, arith, ◌≡◌, ap, ◌+◌, length, map, false, slice_index_or, length_push, map-append, err_from_is_err_and, Entry, entry_of, channel_of, IsFitHere, IsRefusedAt}
+use Rattle.std.proofs.{lemmas.Iterator.Adapters.YieldsList-from_vec, lemmas.Iterator.Consumers.YieldsList-so_far, lemmas.Iterator.Consumers.YieldsList-turn}
 use Rattle.kahn_streams.proofs.Entered.{more_filled, first_refused, made_fits, read_here, read_so_far}
 use Rattle.kahn_streams.proofs.input.filled.Goals as goal
 

@@ -1,6 +1,5 @@
 -- What the entries so far give.
-use Rattle.std.proofs.Common.{◌≡◌, length, map}
-use Rattle.kahn_streams.specs.Inputs.{entry_of}
+use Rattle.kahn_streams.proofs.Common.{◌≡◌, length, map, entry_of}
 use Rattle.kahn_streams.proofs.Entered.{AreFilled}
 use Rattle.kahn_streams.proofs.input.filled.Given as goal
 

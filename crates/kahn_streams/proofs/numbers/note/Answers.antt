@@ -1,8 +1,5 @@
-use Rattle.std.proofs.Common.{rules, ◌≡◌, ap, ◌∙◌, arith, string_bytes, bytes_eq, Some, None}
-use Rattle.std.proofs.lemmas.Map.Text.{text_keys, btree_map_updates_text}
-use Rattle.std.specs.BTreeMap.{get_by_text}
-use Rattle.std.specs.Map.{update}
-use Rattle.kahn_streams.specs.View.{bytes_of}
+use Rattle.std.proofs.Common.{string_bytes}
+use Rattle.kahn_streams.proofs.Common.{rules, ◌≡◌, ap, ◌∙◌, arith, bytes_eq, Some, None, text_keys, btree_map_updates_text, get_by_text, update, bytes_of}
 use Rattle.kahn_streams.proofs.Noted.{noted_new}
 use Rattle.kahn_streams.proofs.numbers.note.Goals as goal
 

@@ -1,6 +1,4 @@
-use Rattle.std.proofs.Common.{◌≡◌, drop}
-use Rattle.kahn_streams.specs.Syntax.{prints_in}
-use Rattle.kahn_streams.specs.View.{Scope, statement_of}
+use Rattle.kahn_streams.proofs.Common.{◌≡◌, drop, prints_in, Scope, statement_of}
 use Rattle.kahn_streams.proofs.Printing.{any_prints}
 use Rattle.kahn_streams.proofs.prints.+prints.Given as goal
 

@@ -1,5 +1,4 @@
-use Rattle.std.proofs.Common.{sym, ap, ◌∙◌}
-use Rattle.kahn_streams.specs.View.{names_of}
+use Rattle.kahn_streams.proofs.Common.{sym, ap, ◌∙◌, names_of}
 use Rattle.kahn_streams.proofs.Printing.{any_prints, body_prints}
 use Rattle.kahn_streams.proofs.prints.process_prints.Goals as goal
 

@@ -1,6 +1,4 @@
-use Rattle.std.proofs.Common.{◌≡◌, drop}
-use Rattle.kahn_streams.specs.Syntax.{prints_in}
-use Rattle.kahn_streams.specs.View.{body_of, names_of}
+use Rattle.kahn_streams.proofs.Common.{◌≡◌, drop, prints_in, body_of, names_of}
 use Rattle.kahn_streams.proofs.Printing.{any_prints}
 use Rattle.kahn_streams.proofs.prints.process_prints.Given as goal
 

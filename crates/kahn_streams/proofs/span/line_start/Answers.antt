@@ -1,6 +1,5 @@
 use Rattle.std.proofs.Common.{◌≡◌, ℕ, ◌<◌, ◌==◌, not, true, false, sym, arith}
-use Rattle.std.proofs.lemmas.Bool.Decides.{nat_tests}
-use Rattle.std.proofs.lemmas.List.Sums.{suffix_len_is}
+use Rattle.std.proofs.{lemmas.Bool.Decides.nat_tests, lemmas.List.Sums.suffix_len_is}
 use Rattle.kahn_streams.proofs.span.line_start.Goals as goal
 
 other : (b : ℕ) → ¬ (b ≡ 10) → not (b == 10) ≡ true

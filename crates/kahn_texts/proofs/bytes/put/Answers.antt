@@ -1,5 +1,4 @@
-use Rattle.std.proofs.Common.{◌++◌, take, rules}
-use Rattle.std.proofs.KnownBytes.{Appends-trans}
+use Rattle.kahn_texts.proofs.Common.{◌++◌, take, rules, Appends-trans}
 use Rattle.kahn_texts.proofs.Writing.{moves_front, one_more}
 use Rattle.kahn_texts.proofs.bytes.put.Goals as goal
 

@@ -1,6 +1,5 @@
 -- What is gone from `rest` was appended, by at most as many writes.
-use Rattle.std.proofs.Common.{◌≡◌, ℕ, ◌+◌, ◌≤◌, List, ◌++◌, length}
-use Rattle.std.specs.Io.KnownBytes.{Appends}
+use Rattle.kahn_texts.proofs.Common.{◌≡◌, ℕ, ◌+◌, ◌≤◌, List, ◌++◌, length, Appends}
 use Rattle.kahn_texts.proofs.bytes.put.Given as goal
 
 abbrev pub invariant-loop-rest : goal.invariant-loop-rest

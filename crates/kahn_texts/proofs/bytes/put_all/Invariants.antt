@@ -1,6 +1,5 @@
 -- The pieces so far went out, by at most as many writes.
-use Rattle.std.proofs.Common.{◌+◌, ◌≤◌, length, take, flat_map}
-use Rattle.std.specs.Io.KnownBytes.{Appends}
+use Rattle.kahn_texts.proofs.Common.{◌+◌, ◌≤◌, length, take, flat_map, Appends}
 use Rattle.kahn_texts.proofs.bytes.put_all.Given as goal
 
 abbrev pub invariant-loop-piece : goal.invariant-loop-piece

@@ -1,8 +1,6 @@
 -- The values behind those that are left stand at the end of the room, and there is room for those in front of them.
-use Rattle.std.proofs.Common.{◌≡◌, ◌*◌, ◌≤◌, List, length, drop, ◌++◌, flat_map}
-use Rattle.std.specs.Slice.Iter.{iter_rest}
+use Rattle.kahn_texts.proofs.Common.{◌≡◌, ◌*◌, ◌≤◌, List, length, drop, ◌++◌, flat_map, iter_rest, Token}
 use Rattle.std.specs.Iterator.Adapters.{rev_source}
-use Rattle.kahn_streams.specs.declared.token.Token.{Token}
 use Rattle.kahn_texts.proofs.digits.place_values.Given as goal
 
 abbrev pub invariant-loop-token : goal.invariant-loop-token

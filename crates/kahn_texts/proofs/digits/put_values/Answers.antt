@@ -1,9 +1,4 @@
-use Rattle.std.proofs.Common.{◌++◌, flat_map, sym, ap, subst, ◌∙◌, append_assoc, rules}
-use Rattle.std.proofs.lemmas.Grind.{flat_map-append}
-use Rattle.std.proofs.KnownBytes.{Appends-trans}
-use Rattle.std.specs.Slice.Iter.{chunks_rest}
-use Rattle.kahn_streams.specs.declared.token.Token.{Token}
-use Rattle.kahn_streams.specs.Written.{AppendsFront}
+use Rattle.kahn_texts.proofs.Common.{◌++◌, flat_map, sym, ap, subst, ◌∙◌, append_assoc, rules, flat_map-append, Appends-trans, chunks_rest, Token, AppendsFront}
 use Rattle.kahn_texts.proofs.Writing.{fails, few_on, goes_on_front, stops}
 use Rattle.kahn_texts.proofs.digits.put_values.Goals as goal
 

@@ -1,8 +1,5 @@
 -- What isn't of the tokens that are left went out, by at most as many writes.
-use Rattle.std.proofs.Common.{◌≡◌, ℕ, ◌+◌, ◌≤◌, List, length, ◌++◌, flat_map}
-use Rattle.std.specs.Io.KnownBytes.{Appends}
-use Rattle.std.specs.Slice.Iter.{chunks_rest, chunks_size}
-use Rattle.kahn_streams.specs.declared.token.Token.{Token}
+use Rattle.kahn_texts.proofs.Common.{◌≡◌, ℕ, ◌+◌, ◌≤◌, List, length, ◌++◌, flat_map, Appends, chunks_rest, chunks_size, Token}
 use Rattle.kahn_texts.proofs.digits.put_values.Given as goal
 
 abbrev pub invariant-loop-chunk : goal.invariant-loop-chunk

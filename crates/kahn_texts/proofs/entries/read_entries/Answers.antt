@@ -1,12 +1,5 @@
-use Rattle.std.proofs.Common.{rules, tests, ◌≡◌, ◌==◌, ap, inl, inr, ◌+◌, ◌<◌, ◌≤◌, length, [], ◌∷◌, ◌++◌, arith, refl}
-use Rattle.std.proofs.lemmas.List.{length_push}
-use Rattle.std.proofs.lemmas.Iterator.Splits.{YieldsList-from_slice_split}
-use Rattle.std.proofs.lemmas.Iterator.Consumers.{YieldsList-turn, YieldsList-end}
-use Rattle.kahn_streams.specs.Inputs.{entry_of}
-use Rattle.kahn_texts.specs.Formats.{text_lines, content, IsEntry, AreBlanks, HasNoHead, HasNoValues, most_input_bytes}
-use Rattle.kahn_texts.proofs.Parts.{from_part}
-use Rattle.kahn_texts.proofs.Lines.{all_blank, all_entry, good_more, first_such, all_read}
-use Rattle.kahn_texts.proofs.Kept.{kept_entry}
+use Rattle.kahn_texts.proofs.Common.{rules, tests, ◌≡◌, ◌==◌, ap, inl, inr, ◌+◌, ◌<◌, ◌≤◌, length, [], ◌∷◌, ◌++◌, arith, refl, length_push, YieldsList-from_slice_split, YieldsList-turn, YieldsList-end, entry_of, text_lines, content, IsEntry, AreBlanks, HasNoHead, HasNoValues, most_input_bytes}
+use Rattle.kahn_texts.proofs.{Parts.from_part, Lines.all_blank, Lines.all_entry, Lines.good_more, Lines.first_such, Lines.all_read, Kept.kept_entry}
 use Rattle.kahn_texts.proofs.entries.read_entries.Goals as goal
 
 pub loop-line-preserved-in-Ok-None : goal.loop-line-preserved-in-Ok-None

@@ -1,7 +1,5 @@
 -- The entries so far are the first of those of the lines so far, each of which is blank or an entry.
-use Rattle.std.proofs.Common.{◌≡◌, length, map, take, All}
-use Rattle.kahn_streams.specs.Inputs.{entry_of}
-use Rattle.kahn_texts.specs.Formats.{IsGood, text_lines}
+use Rattle.kahn_texts.proofs.Common.{◌≡◌, length, map, take, All, entry_of, IsGood, text_lines}
 use Rattle.kahn_texts.proofs.Kept.{AreRead}
 use Rattle.kahn_texts.proofs.entries.read_entries.Given as goal
 

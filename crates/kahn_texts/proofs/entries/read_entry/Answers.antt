@@ -1,5 +1,4 @@
-use Rattle.std.proofs.Common.{subst}
-use Rattle.kahn_texts.specs.Formats.{AreValues}
+use Rattle.kahn_texts.proofs.Common.{subst, AreValues}
 use Rattle.kahn_texts.proofs.entries.read_entry.Goals as goal
 
 pub returns-in-Err-NoValue : goal.returns-in-Err-NoValue

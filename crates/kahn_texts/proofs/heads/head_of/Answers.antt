@@ -1,5 +1,4 @@
-use Rattle.std.proofs.Common.{◌≡◌, ◌∙◌, sym, subst, All, true}
-use Rattle.kahn_texts.specs.Formats.{HasHead, IsName, is_word_byte}
+use Rattle.kahn_texts.proofs.Common.{◌≡◌, ◌∙◌, sym, subst, All, true, HasHead, IsName, is_word_byte}
 use Rattle.kahn_texts.proofs.Scanned.{found, scanned, all_passed, same_tail}
 use Rattle.kahn_texts.proofs.heads.head_of.Goals as goal
 

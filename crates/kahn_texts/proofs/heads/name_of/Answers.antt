@@ -1,5 +1,4 @@
-use Rattle.std.proofs.Common.{rules}
-use Rattle.kahn_texts.specs.Formats.{IsName}
+use Rattle.kahn_texts.proofs.Common.{rules, IsName}
 use Rattle.kahn_texts.proofs.Words.{named}
 use Rattle.kahn_texts.proofs.heads.name_of.Goals as goal
 

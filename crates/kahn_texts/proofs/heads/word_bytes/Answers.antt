@@ -1,5 +1,4 @@
-use Rattle.std.proofs.Common.{◌∙◌, ap, length}
-use Rattle.std.specs.Option.{unwrap_or}
+use Rattle.kahn_texts.proofs.Common.{◌∙◌, ap, length, unwrap_or}
 use Rattle.kahn_texts.proofs.Scanned.{stop_of}
 use Rattle.kahn_texts.proofs.heads.word_bytes.Goals as goal
 

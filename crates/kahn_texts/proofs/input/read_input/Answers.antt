@@ -1,9 +1,6 @@
-use Rattle.std.proofs.Common.{◌+◌, map}
+use Rattle.kahn_texts.proofs.Common.{◌+◌, map, entry_of, AreFirstEntries}
 use Rattle.std.proofs.lemmas.Result.{err_from_is_err_and}
-use Rattle.kahn_streams.specs.Inputs.{entry_of}
-use Rattle.kahn_texts.specs.Formats.{AreFirstEntries}
-use Rattle.kahn_texts.proofs.Kept.{input_kept}
-use Rattle.kahn_texts.proofs.Told.{input_told}
+use Rattle.kahn_texts.proofs.{Kept.input_kept, Told.input_told}
 use Rattle.kahn_texts.proofs.input.read_input.Goals as goal
 
 pub returns-in_err-new-clause-read : goal.returns-in_err-new-clause-read

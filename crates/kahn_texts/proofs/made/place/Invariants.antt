@@ -1,6 +1,5 @@
 -- Those that are left are right, and so are those that were placed.
-use Rattle.std.proofs.Common.{◌≡◌, length}
-use Rattle.kahn_texts.specs.inner.Pieces.{AreMadeTexts, ArePieceTexts}
+use Rattle.kahn_texts.proofs.Common.{◌≡◌, length, AreMadeTexts, ArePieceTexts}
 use Rattle.kahn_texts.proofs.made.place.Given as goal
 
 abbrev pub invariant-loop-one : goal.invariant-loop-one

@@ -1,6 +1,5 @@
 -- What threads made that are left is right, and so is what was placed.
-use Rattle.std.proofs.Common.{◌≡◌, length}
-use Rattle.kahn_texts.specs.inner.Pieces.{AreAllMadeTexts, ArePieceTexts}
+use Rattle.kahn_texts.proofs.Common.{◌≡◌, length, AreAllMadeTexts, ArePieceTexts}
 use Rattle.kahn_texts.proofs.made.placed.Given as goal
 
 abbrev pub invariant-loop-made : goal.invariant-loop-made

@@ -1,5 +1,4 @@
-use Rattle.std.proofs.Common.{rules, ◌≡◌, [], subst}
-use Rattle.kahn_streams.specs.Written.{Writes}
+use Rattle.kahn_texts.proofs.Common.{rules, ◌≡◌, [], subst, Writes}
 use Rattle.kahn_texts.proofs.Fresh.{tokens_more}
 use Rattle.kahn_texts.proofs.news.news_opened.Goals as goal
 

@@ -1,5 +1,4 @@
-use Rattle.std.proofs.Common.{rules, ◌≡◌, [], ◌∷◌, ◌++◌}
-use Rattle.kahn_texts.specs.inner.Pieces.{IsPiece}
+use Rattle.kahn_texts.proofs.Common.{rules, ◌≡◌, [], ◌∷◌, ◌++◌, IsPiece}
 use Rattle.kahn_texts.proofs.Cut.{one_added}
 use Rattle.kahn_texts.proofs.pieces.add.Goals as goal
 

@@ -1,7 +1,4 @@
-use Rattle.std.proofs.Common.{◌<◌, length, arith}
-use Rattle.std.proofs.lemmas.Grind.{common_steps}
-use Rattle.kahn_streams.specs.declared.answer.Stream.{Stream}
-use Rattle.kahn_texts.specs.Formats.{IsLine}
+use Rattle.kahn_texts.proofs.Common.{◌<◌, length, arith, common_steps, Stream, IsLine}
 use Rattle.kahn_texts.proofs.Cut.{all_later, moved_on, moved_one}
 use Rattle.kahn_texts.proofs.pieces.add_first.Goals as goal
 

@@ -1,6 +1,4 @@
-use Rattle.std.proofs.Common.{rules, ◌≡◌, ◌++◌, flat_map, refl}
-use Rattle.kahn_streams.specs.Written.{line_feed}
-use Rattle.kahn_texts.specs.Formats.{line_head, stream_text, token_text}
+use Rattle.kahn_texts.proofs.Common.{rules, ◌≡◌, ◌++◌, flat_map, refl, line_feed, line_head, stream_text, token_text}
 use Rattle.kahn_texts.proofs.Cut.{closed, part_on, then_added}
 use Rattle.kahn_texts.proofs.pieces.add_parts.Goals as goal
 

@@ -1,8 +1,5 @@
 -- Some of the line was added, and the rest of its values and its end are left.
-use Rattle.std.proofs.Common.{◌≡◌, ℕ, List, ◌++◌, length, flat_map}
-use Rattle.kahn_streams.specs.Written.{line_feed}
-use Rattle.kahn_texts.specs.Formats.{stream_text, token_text}
-use Rattle.kahn_texts.specs.inner.Pieces.{AreAdded}
+use Rattle.kahn_texts.proofs.Common.{◌≡◌, ℕ, List, ◌++◌, length, flat_map, line_feed, stream_text, token_text, AreAdded}
 use Rattle.kahn_texts.proofs.pieces.add_parts.Given as goal
 
 abbrev pub invariant-loop-rest : goal.invariant-loop-rest

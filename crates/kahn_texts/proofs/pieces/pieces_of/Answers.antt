@@ -1,5 +1,4 @@
-use Rattle.std.proofs.Common.{rules, ◌≡◌, [], refl, ◌∙◌, flat_map, length}
-use Rattle.kahn_texts.specs.Formats.{stream_text}
+use Rattle.kahn_texts.proofs.Common.{rules, ◌≡◌, [], refl, ◌∙◌, flat_map, length, stream_text}
 use Rattle.kahn_texts.proofs.Cut.{all_there, none_yet}
 use Rattle.kahn_texts.proofs.pieces.pieces_of.Goals as goal
 

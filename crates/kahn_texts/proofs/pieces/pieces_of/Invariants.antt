@@ -1,7 +1,5 @@
 -- The pieces so far and the lines that are left are all lines.
-use Rattle.std.proofs.Common.{◌≡◌, ℕ, List, ◌++◌, length, flat_map, All}
-use Rattle.kahn_texts.specs.Formats.{IsLine, stream_text}
-use Rattle.kahn_texts.specs.inner.Pieces.{ArePieces}
+use Rattle.kahn_texts.proofs.Common.{◌≡◌, ℕ, List, ◌++◌, length, flat_map, All, IsLine, stream_text, ArePieces}
 use Rattle.kahn_texts.proofs.pieces.pieces_of.Given as goal
 
 abbrev pub invariant-loop-first : goal.invariant-loop-first

@@ -1,5 +1,4 @@
-use Rattle.std.proofs.Common.{flat_map}
-use Rattle.kahn_texts.specs.Formats.{token_text}
+use Rattle.kahn_texts.proofs.Common.{flat_map, token_text}
 use Rattle.kahn_texts.proofs.Writing.{fails, stops, goes_on}
 use Rattle.kahn_texts.proofs.pieces.put_closing.Goals as goal
 

@@ -1,5 +1,4 @@
-use Rattle.kahn_streams.specs.Written.{Writes}
-use Rattle.std.proofs.Common.{subst}
+use Rattle.kahn_texts.proofs.Common.{Writes, subst}
 use Rattle.kahn_texts.proofs.Fresh.{tokens_plain}
 use Rattle.kahn_texts.proofs.plain.plain_opened.Goals as goal
 

@@ -1,5 +1,4 @@
-use Rattle.std.proofs.Common.{rules, ◌+◌, ◌≤◌, ◌-◌, length, ◌++◌, take, arith, length-append, length-take}
-use Rattle.std.proofs.KnownBytes.{Consumes-trans}
+use Rattle.kahn_texts.proofs.Common.{rules, ◌+◌, ◌≤◌, ◌-◌, length, ◌++◌, take, arith, length-append, length-take, Consumes-trans}
 use Rattle.kahn_texts.proofs.read.read_counted.Goals as goal
 
 pub returns-then-is_err-clause-text : goal.returns-then-is_err-clause-text

@@ -1,6 +1,5 @@
 -- The bytes so far came from the reader, in at most as many reads.
-use Rattle.std.proofs.Common.{◌+◌, ◌-◌, ◌≤◌, vec_len}
-use Rattle.std.specs.Io.KnownBytes.{Consumes}
+use Rattle.kahn_texts.proofs.Common.{◌+◌, ◌-◌, ◌≤◌, vec_len, Consumes}
 use Rattle.kahn_texts.proofs.read.read_counted.Given as goal
 
 abbrev pub invariant-loop-chunk : goal.invariant-loop-chunk

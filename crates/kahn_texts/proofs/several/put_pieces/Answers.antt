@@ -1,11 +1,5 @@
-use Rattle.std.proofs.Common.{◌++◌, flat_map, sym, ap, subst, ◌∙◌, append_assoc, rules}
-use Rattle.std.proofs.lemmas.Grind.{flat_map-append}
-use Rattle.std.proofs.KnownBytes.{Appends-trans}
-use Rattle.std.specs.Slice.Iter.{chunks_rest}
-use Rattle.kahn_streams.specs.Written.{AppendsFront}
-use Rattle.kahn_texts.specs.inner.Pieces.{IsPiece, piece_text}
-use Rattle.kahn_texts.proofs.Cut.{all_later}
-use Rattle.kahn_texts.proofs.Writing.{fails, few_on, goes_on_front, stops}
+use Rattle.kahn_texts.proofs.Common.{◌++◌, flat_map, sym, ap, subst, ◌∙◌, append_assoc, rules, flat_map-append, Appends-trans, chunks_rest, AppendsFront, IsPiece, piece_text}
+use Rattle.kahn_texts.proofs.{Cut.all_later, Writing.fails, Writing.few_on, Writing.goes_on_front, Writing.stops}
 use Rattle.kahn_texts.proofs.several.put_pieces.Goals as goal
 
 pub loop-together-preserved : goal.loop-together-preserved

@@ -1,8 +1,5 @@
 -- What isn't of the pieces that are left went out, by at most as many writes.
-use Rattle.std.proofs.Common.{◌≡◌, ℕ, ◌+◌, ◌≤◌, List, length, ◌++◌, flat_map, All}
-use Rattle.std.specs.Io.KnownBytes.{Appends}
-use Rattle.std.specs.Slice.Iter.{chunks_rest}
-use Rattle.kahn_texts.specs.inner.Pieces.{IsPiece, piece_text}
+use Rattle.kahn_texts.proofs.Common.{◌≡◌, ℕ, ◌+◌, ◌≤◌, List, length, ◌++◌, flat_map, All, Appends, chunks_rest, IsPiece, piece_text}
 use Rattle.kahn_texts.proofs.several.put_pieces.Given as goal
 
 abbrev pub invariant-loop-together : goal.invariant-loop-together

@@ -1,7 +1,4 @@
-use Rattle.std.proofs.Common.{rules, ◌≡◌, ◌+◌, ◌≤◌, length, get_or, subst}
-use Rattle.kahn_streams.specs.Written.{AppendsFront}
-use Rattle.kahn_texts.specs.declared.pieces.Piece.{Piece}
-use Rattle.kahn_texts.specs.inner.Pieces.{piece_text}
+use Rattle.kahn_texts.proofs.Common.{rules, ◌≡◌, ◌+◌, ◌≤◌, length, get_or, subst, AppendsFront, Piece, piece_text}
 use Rattle.kahn_texts.proofs.Writing.{fails, loop_fails, loop_few}
 use Rattle.kahn_texts.proofs.several.put_texts.Goals as goal
 

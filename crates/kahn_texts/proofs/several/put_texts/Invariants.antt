@@ -1,7 +1,5 @@
 -- The pieces so far went out, by at most as many writes.
-use Rattle.std.proofs.Common.{◌+◌, ◌≤◌, length, take, flat_map}
-use Rattle.std.specs.Io.KnownBytes.{Appends}
-use Rattle.kahn_texts.specs.inner.Pieces.{piece_text}
+use Rattle.kahn_texts.proofs.Common.{◌+◌, ◌≤◌, length, take, flat_map, Appends, piece_text}
 use Rattle.kahn_texts.proofs.several.put_texts.Given as goal
 
 abbrev pub invariant-loop-number : goal.invariant-loop-number

@@ -1,10 +1,4 @@
-use Rattle.std.proofs.Common.{rules, tests, ◌≡◌, ◌<◌, length, [], ◌∷◌, ◌++◌, arith}
-use Rattle.std.proofs.lemmas.Bool.Decides.{nat_tests}
-use Rattle.std.proofs.lemmas.List.{length_push}
-use Rattle.std.proofs.lemmas.Iterator.Splits.{YieldsList-from_slice_split}
-use Rattle.std.proofs.lemmas.Iterator.Consumers.{YieldsList-turn, YieldsList-end}
-use Rattle.std.specs.List.{slice_split}
-use Rattle.kahn_texts.specs.Formats.{is_blank}
+use Rattle.kahn_texts.proofs.Common.{rules, tests, ◌≡◌, ◌<◌, length, [], ◌∷◌, ◌++◌, arith, nat_tests, length_push, YieldsList-from_slice_split, YieldsList-turn, YieldsList-end, slice_split, is_blank}
 use Rattle.kahn_texts.proofs.Parts.{from_part, all_skips, only_skips, all_more, only_more, spells_none, spells_all}
 use Rattle.kahn_texts.proofs.values.read_values.Goals as goal
 

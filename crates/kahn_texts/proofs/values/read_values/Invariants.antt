@@ -1,8 +1,5 @@
 -- The values so far are those of the parts so far.
-use Rattle.std.proofs.Common.{List, ◌++◌, length, drop}
-use Rattle.std.specs.List.{slice_split}
-use Rattle.kahn_streams.specs.declared.value.Value.{Value}
-use Rattle.kahn_texts.specs.Formats.{SpellsValues, is_blank}
+use Rattle.kahn_texts.proofs.Common.{List, ◌++◌, length, drop, slice_split, Value, SpellsValues, is_blank}
 use Rattle.kahn_texts.proofs.values.read_values.Given as goal
 
 abbrev pub invariant-loop-word : goal.invariant-loop-word

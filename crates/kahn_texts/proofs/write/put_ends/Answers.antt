@@ -1,11 +1,6 @@
-use Rattle.std.proofs.Common.{rules, ◌<◌, length, ◌++◌, get_or, subst, sym}
-use Rattle.std.proofs.KnownBytes.{Appends-trans}
-use Rattle.kahn_streams.specs.declared.answer.End.{End}
+use Rattle.kahn_texts.proofs.Common.{rules, ◌<◌, length, ◌++◌, get_or, subst, sym, Appends-trans, End, end_text, AppendsFront}
 use Rattle.kahn_streams.specs.declared.answer.Outcome.TheVariants.{Ended}
-use Rattle.kahn_texts.specs.Formats.{end_text}
-use Rattle.kahn_streams.specs.Written.{AppendsFront}
-use Rattle.kahn_texts.proofs.Writing.{fails, few_on, goes_on_front, stops}
-use Rattle.kahn_texts.proofs.Ends.{ends_split, ends_moved}
+use Rattle.kahn_texts.proofs.{Writing.fails, Writing.few_on, Writing.goes_on_front, Writing.stops, Ends.ends_split, Ends.ends_moved}
 use Rattle.kahn_texts.proofs.write.put_ends.Goals as goal
 
 nobody : End

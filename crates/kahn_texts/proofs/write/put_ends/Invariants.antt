@@ -1,7 +1,5 @@
 -- What isn't of the ends that are left went out, by at most as many writes.
-use Rattle.std.proofs.Common.{◌≡◌, ℕ, ◌+◌, ◌≤◌, List, ◌++◌, length, drop}
-use Rattle.std.specs.Io.KnownBytes.{Appends}
-use Rattle.kahn_texts.specs.Formats.{ends_text}
+use Rattle.kahn_texts.proofs.Common.{◌≡◌, ℕ, ◌+◌, ◌≤◌, List, ◌++◌, length, drop, Appends, ends_text}
 use Rattle.kahn_texts.proofs.write.put_ends.Given as goal
 
 abbrev pub invariant-loop-instance : goal.invariant-loop-instance

@@ -1,5 +1,4 @@
-use Rattle.std.proofs.Common.{rules}
-use Rattle.kahn_texts.specs.Formats.{stream_text}
+use Rattle.kahn_texts.proofs.Common.{rules, stream_text}
 use Rattle.kahn_texts.proofs.Writing.{fails, loop_fails, loop_few}
 use Rattle.kahn_texts.proofs.write.put_streams.Goals as goal
 

@@ -1,7 +1,5 @@
 -- The lines so far went out, by at most as many writes.
-use Rattle.std.proofs.Common.{◌+◌, ◌≤◌, length, take, flat_map}
-use Rattle.std.specs.Io.KnownBytes.{Appends}
-use Rattle.kahn_texts.specs.Formats.{stream_text}
+use Rattle.kahn_texts.proofs.Common.{◌+◌, ◌≤◌, length, take, flat_map, Appends, stream_text}
 use Rattle.kahn_texts.proofs.write.put_streams.Given as goal
 
 abbrev pub invariant-loop-stream : goal.invariant-loop-stream

@@ -1,5 +1,4 @@
-use Rattle.std.proofs.Common.{flat_map}
-use Rattle.kahn_texts.specs.Formats.{token_text, line_head}
+use Rattle.kahn_texts.proofs.Common.{flat_map, token_text, line_head}
 use Rattle.kahn_texts.proofs.Writing.{fails, stops, goes_on, goes_on_front}
 use Rattle.kahn_texts.proofs.write.put_tokens.Goals as goal
 

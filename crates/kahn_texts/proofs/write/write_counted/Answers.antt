@@ -1,7 +1,5 @@
-use Rattle.std.proofs.Common.{flat_map}
-use Rattle.kahn_texts.specs.Formats.{stream_text}
-use Rattle.kahn_texts.proofs.Flushes.{unflushed}
-use Rattle.kahn_texts.proofs.Writing.{fails, stops, goes_on}
+use Rattle.kahn_texts.proofs.Common.{flat_map, stream_text}
+use Rattle.kahn_texts.proofs.{Flushes.unflushed, Writing.fails, Writing.stops, Writing.goes_on}
 use Rattle.kahn_texts.proofs.write.write_counted.Goals as goal
 
 pub returns-in_err-put_streams-clause-text : goal.returns-in_err-put_streams-clause-text

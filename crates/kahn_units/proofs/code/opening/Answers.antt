@@ -1,5 +1,4 @@
-use Rattle.std.proofs.Common.{sym, subst, ◌∙◌}
-use Rattle.kahn_units.specs.inner.Standing.{IsOfSite}
+use Rattle.kahn_units.proofs.Common.{sym, subst, ◌∙◌, IsOfSite}
 use Rattle.kahn_units.proofs.Opening.{stands_first}
 use Rattle.kahn_units.proofs.code.opening.Goals as goal
 

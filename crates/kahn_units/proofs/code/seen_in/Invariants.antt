@@ -1,5 +1,4 @@
-use Rattle.std.proofs.Common.{◌≡◌}
-use Rattle.kahn_units.specs.inner.Standing.{IsOfSite}
+use Rattle.kahn_units.proofs.Common.{◌≡◌, IsOfSite}
 use Rattle.kahn_units.proofs.code.seen_in.Given as goal
 
 abbrev pub invariant-loop-number : goal.invariant-loop-number

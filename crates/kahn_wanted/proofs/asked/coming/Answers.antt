@@ -1,6 +1,5 @@
 use Rattle.kahn_wanted.proofs.Common.{AllMayCome, And, Contains-append_left, Contains-push, IsToldIfItComes, Word, [], ap, arith, awaited_parts, get_or, length, sym, terminals, ◌<◌, ◌∙◌, ◌∷◌}
-use Rattle.kahn_wanted.proofs.Classes.{all_grown, one_less, one_more}
-use Rattle.kahn_wanted.proofs.Walking.{may_come, none_comes}
+use Rattle.kahn_wanted.proofs.{Classes.all_grown, Classes.one_less, Classes.one_more, Walking.may_come, Walking.none_comes}
 use Rattle.kahn_wanted.proofs.asked.coming.Goals as goal
 use Rattle.kahn_wanted.proofs.asked.coming.Goals.{then-branch+in_ok-push, else-branch}
 

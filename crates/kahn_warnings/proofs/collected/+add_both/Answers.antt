@@ -1,8 +1,6 @@
-use Rattle.kahn_warnings.proofs.Common.{[], arith, common_steps, contains, drop, is_assigned_in, is_used_in, statement_of, ◌+◌, ◌∷◌, ◌≡◌}
-use Rattle.std.proofs.Common.{rules}
+use Rattle.kahn_warnings.proofs.Common.{[], arith, common_steps, contains, drop, is_assigned_in, is_used_in, statement_of, ◌+◌, ◌∷◌, ◌≡◌, rules}
 use Rattle.kahn_streams.specs.declared.tree.Action.TheViews.{the_lemmas}
-use Rattle.kahn_warnings.proofs.Getting.{got_begun, got_done, got_next}
-use Rattle.kahn_warnings.proofs.Lists.{any_in, block_is_assigned_in, block_is_used_in}
+use Rattle.kahn_warnings.proofs.{Getting.got_begun, Getting.got_done, Getting.got_next, Lists.any_in, Lists.block_is_assigned_in, Lists.block_is_used_in}
 use Rattle.kahn_warnings.proofs.collected.+add_both.Goals as goal
 
 pub loop-inner-init : goal.loop-inner-init

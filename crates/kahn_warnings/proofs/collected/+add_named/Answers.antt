@@ -1,8 +1,5 @@
-use Rattle.kahn_warnings.proofs.Common.{[], ap, arith, common_steps, contains, drop, expression_of, is_named, sym, ◌+◌, ◌||◌, ◌∙◌, ◌∷◌, ◌≡◌}
-use Rattle.std.proofs.Common.{rules}
-use Rattle.kahn_streams.specs.declared.tree.Form.TheViews.{the_lemmas}
-use Rattle.kahn_warnings.proofs.Getting.{got_first}
-use Rattle.kahn_warnings.proofs.Lists.{level_named, operands_named}
+use Rattle.kahn_warnings.proofs.Common.{[], ap, arith, common_steps, contains, drop, expression_of, is_named, sym, ◌+◌, ◌||◌, ◌∙◌, ◌∷◌, ◌≡◌, rules, the_lemmas}
+use Rattle.kahn_warnings.proofs.{Getting.got_first, Lists.level_named, Lists.operands_named}
 use Rattle.kahn_warnings.proofs.collected.+add_named.Goals as goal
 
 pub loop-operand-init : goal.loop-operand-init

@@ -1,6 +1,5 @@
 use Rattle.kahn_warnings.proofs.Common.{[], arith, common_steps, contains, drop, is_assigned_in, is_used_in, ◌+◌, ◌∷◌, ◌≡◌}
-use Rattle.kahn_warnings.proofs.Getting.{got_begun, got_done, got_next}
-use Rattle.kahn_warnings.proofs.Lists.{body_is_assigned_in, body_is_used_in}
+use Rattle.kahn_warnings.proofs.{Getting.got_begun, Getting.got_done, Getting.got_next, Lists.body_is_assigned_in, Lists.body_is_used_in}
 use Rattle.kahn_warnings.proofs.collected.add_all.Goals as goal
 
 pub loop-statement-init : goal.loop-statement-init

@@ -1,5 +1,4 @@
-use Rattle.kahn_warnings.proofs.Common.{[], ap, arith, common_steps, drop, flat_map, is_seen, list_warnings, never_ends, statement_of, statement_warnings, sym, ◌++◌, ◌+◌, ◌∙◌, ◌∷◌, ◌≡◌}
-use Rattle.std.proofs.Common.{rules}
+use Rattle.kahn_warnings.proofs.Common.{[], ap, arith, common_steps, drop, flat_map, is_seen, list_warnings, never_ends, statement_of, statement_warnings, sym, ◌++◌, ◌+◌, ◌∙◌, ◌∷◌, ◌≡◌, rules}
 use Rattle.kahn_streams.specs.declared.tree.Action.TheViews.{the_lemmas}
 use Rattle.kahn_warnings.proofs.Lists.{all_told, any_done, any_in, any_next, block_is_seen, block_never_ends, block_statement, each, one_on}
 use Rattle.kahn_warnings.proofs.program.+add_statement.Goals as goal

@@ -1,6 +1,4 @@
-use Rattle.kahn_warnings.proofs.Common.{Option, Scope, Value, [], ap, append-nil, append_assoc, arith, common_steps, constant_of, drop, expression_of, form_sites, sym, ◌++◌, ◌∙◌, ◌≡◌}
-use Rattle.std.proofs.Common.{rules}
-use Rattle.kahn_streams.specs.declared.tree.Form.TheViews.{the_lemmas}
+use Rattle.kahn_warnings.proofs.Common.{Option, Scope, Value, [], ap, append-nil, append_assoc, arith, common_steps, constant_of, drop, expression_of, form_sites, sym, ◌++◌, ◌∙◌, ◌≡◌, rules, the_lemmas}
 use Rattle.kahn_warnings.proofs.Folding.{level_constant, level_folds, level_sited, operands_sites}
 use Rattle.kahn_warnings.proofs.sites.+add_expression.Goals as goal
 

@@ -1,5 +1,4 @@
-use Rattle.kahn_warnings.proofs.Common.{action_sites, ap, arith, common_steps, flat_map, sym, take, ◌++◌, ◌∙◌, ◌≡◌}
-use Rattle.std.proofs.Common.{rules}
+use Rattle.kahn_warnings.proofs.Common.{action_sites, ap, arith, common_steps, flat_map, sym, take, ◌++◌, ◌∙◌, ◌≡◌, rules}
 use Rattle.kahn_streams.specs.declared.tree.Action.TheViews.{the_lemmas}
 use Rattle.kahn_warnings.proofs.Folding.{row_sited, sites_of}
 use Rattle.kahn_warnings.proofs.sites.+add_statement.Goals as goal

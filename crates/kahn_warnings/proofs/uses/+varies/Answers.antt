@@ -1,5 +1,4 @@
-use Rattle.std.proofs.Common.{rules}
-use Rattle.kahn_streams.specs.declared.tree.Form.TheViews.{the_lemmas}
+use Rattle.kahn_warnings.proofs.Common.{rules, the_lemmas}
 use Rattle.kahn_warnings.proofs.Lists.{row_varies}
 use Rattle.kahn_warnings.proofs.uses.+varies.Goals as goal
 

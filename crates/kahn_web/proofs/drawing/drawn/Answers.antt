@@ -1,6 +1,5 @@
-use Rattle.std.proofs.Common.{[], string_bytes, subst}
+use Rattle.kahn_web.proofs.Common.{[], string_bytes, subst, IsChecked}
 use Rattle.kahn_graph.specs.Graph.{IsPicture}
-use Rattle.kahn_fault.specs.Work.{IsChecked}
 use Rattle.kahn_web.proofs.drawing.drawn.Goals as goal
 
 pub returns-in-Ok-picture_text : goal.returns-in-Ok-picture_text

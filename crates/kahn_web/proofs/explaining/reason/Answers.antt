@@ -1,7 +1,4 @@
-use Rattle.std.proofs.Common.{ℕ, subst}
-use Rattle.std.specs.declared.alloc.Global.{Global}
-use Rattle.std.specs.declared.vec.Vec.{Vec}
-use Rattle.kahn_web.specs.Explained.{IsReason}
+use Rattle.kahn_web.proofs.Common.{ℕ, subst, Global, Vec, IsReason}
 use Rattle.kahn_web.proofs.Reasons.{some_of}
 use Rattle.kahn_web.proofs.explaining.reason.Goals as goal
 

@@ -1,8 +1,5 @@
-use Rattle.std.proofs.Common.{Some, Ok, ◌++◌, List, ℕ, ap₂, subst}
+use Rattle.kahn_web.proofs.Common.{Some, Ok, ◌++◌, List, ℕ, ap₂, subst, HasWritten, Stopped, alone}
 use Rattle.kahn_why.proofs.Right_ends.{answered}
-use Rattle.kahn_why.specs.inner.Told.{HasWritten}
-use Rattle.kahn_why.specs.declared.explaining.Came.TheVariants.{Stopped}
-use Rattle.kahn_web.specs.Alone.{alone}
 use Rattle.kahn_web.proofs.Reasons.{stopped}
 use Rattle.kahn_web.proofs.explaining.stopped.Goals as goal
 

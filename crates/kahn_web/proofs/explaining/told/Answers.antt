@@ -1,6 +1,5 @@
-use Rattle.std.proofs.Common.{◌≡◌, Some, Ok, List, ℕ, codes, false, inl, rules, subst}
+use Rattle.kahn_web.proofs.Common.{◌≡◌, Some, Ok, List, ℕ, codes, false, inl, rules, subst, HasRefused}
 use Rattle.kahn_why.proofs.Parts.{are_allowed}
-use Rattle.kahn_why.specs.inner.Told.{HasRefused}
 use Rattle.kahn_web.proofs.Reasons.{refused}
 use Rattle.kahn_web.proofs.explaining.told.Goals as goal
 

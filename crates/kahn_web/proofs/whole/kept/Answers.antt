@@ -1,8 +1,4 @@
-use Rattle.std.proofs.Common.{ℕ, ◌≡◌, subst}
-use Rattle.std.specs.declared.alloc.Global.{Global}
-use Rattle.std.specs.declared.vec.Vec.{Vec}
-use Rattle.kahn_texts.proofs.Answer_lines.{right_lines}
-use Rattle.kahn_web.specs.Whole.{IsWholeText, whole_text}
+use Rattle.kahn_web.proofs.Common.{ℕ, ◌≡◌, subst, Global, Vec, right_lines, IsWholeText, whole_text}
 use Rattle.kahn_web.proofs.Reasons.{some_of}
 use Rattle.kahn_web.proofs.whole.kept.Goals as goal
 

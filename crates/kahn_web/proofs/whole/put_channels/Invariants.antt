@@ -1,6 +1,5 @@
 -- The lines of the channels so far were added.
-use Rattle.std.proofs.Common.{◌≡◌, ◌++◌}
-use Rattle.kahn_web.specs.Whole.{channels_text}
+use Rattle.kahn_web.proofs.Common.{◌≡◌, ◌++◌, channels_text}
 use Rattle.kahn_web.proofs.whole.put_channels.Given as goal
 
 abbrev pub invariant-loop-channel : goal.invariant-loop-channel

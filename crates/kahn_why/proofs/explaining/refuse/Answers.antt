@@ -1,6 +1,4 @@
-use Rattle.std.proofs.Common.{None, inl, refl, string_bytes, subst}
-use Rattle.std.specs.Prelude.{MatchOption}
-use Rattle.kahn_why.specs.Refusing.{IsNoteOn, IsRefusal}
+use Rattle.kahn_why.proofs.Common.{None, inl, refl, string_bytes, subst, MatchOption, IsNoteOn, IsRefusal}
 use Rattle.kahn_why.proofs.Parts.{refusal_out, unplaced}
 use Rattle.kahn_why.proofs.explaining.refuse.Goals as goal
 

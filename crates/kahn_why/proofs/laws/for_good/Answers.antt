@@ -1,5 +1,4 @@
-use Rattle.kahn_why.proofs.Lasting.{for_ever}
-use Rattle.kahn_why.proofs.Stands.{for_good}
+use Rattle.kahn_why.proofs.{Lasting.for_ever, Stands.for_good}
 use Rattle.kahn_why.proofs.laws.for_good.Goals as goal
 
 pub returns : goal.returns

@@ -1,7 +1,4 @@
-use Rattle.std.proofs.Common.{◌≡◌, ◌<◌, All, arith, length, string_bytes, subst, take}
-use Rattle.std.proofs.lemmas.List.{take_all}
-use Rattle.std.proofs.lemmas.List.Elements.{All-more}
-use Rattle.kahn_why.specs.Noting.{StandsIn}
+use Rattle.kahn_why.proofs.Common.{◌≡◌, ◌<◌, All, arith, length, string_bytes, subst, take, take_all, All-more, StandsIn}
 use Rattle.kahn_why.proofs.Noted.{all_longer}
 use Rattle.kahn_why.proofs.noting.faults_note.Goals as goal
 

@@ -1,8 +1,4 @@
-use Rattle.std.proofs.Common.{◌≡◌, ◌==◌, ◌<◌, ◌∙◌, [], All, ap, arith, length, string_bytes, subst, take, true}
-use Rattle.std.proofs.lemmas.List.{take_all}
-use Rattle.std.proofs.lemmas.List.Elements.{All-more}
-use Rattle.kahn_marks.specs.Told.{most_notes}
-use Rattle.kahn_why.specs.Noting.{StandsIn}
+use Rattle.kahn_why.proofs.Common.{◌≡◌, ◌==◌, ◌<◌, ◌∙◌, [], All, ap, arith, length, string_bytes, subst, take, true, take_all, All-more, most_notes, StandsIn}
 use Rattle.kahn_why.proofs.Noted.{all_longer, none_stand}
 use Rattle.kahn_why.proofs.noting.warned_lines.Goals as goal
 

@@ -1,6 +1,5 @@
 -- The notes so far stand in the lines.
-use Rattle.std.proofs.Common.{All, string_bytes, take}
-use Rattle.kahn_why.specs.Noting.{StandsIn}
+use Rattle.kahn_why.proofs.Common.{All, string_bytes, take, StandsIn}
 use Rattle.kahn_why.proofs.noting.warned_lines.Given as goal
 
 abbrev pub invariant-loop-note : goal.invariant-loop-note

@@ -1,5 +1,4 @@
-use Rattle.std.proofs.Common.{◌∙◌, ◌≡◌, string_bytes, subst, sym}
-use Rattle.kahn_why.specs.Refusing.{IsRefusedWords}
+use Rattle.kahn_why.proofs.Common.{◌∙◌, ◌≡◌, string_bytes, subst, sym, IsRefusedWords}
 use Rattle.kahn_why.proofs.Refused.{told_placed}
 use Rattle.kahn_why.proofs.refusing.placed_note.Goals as goal
 

@@ -1,6 +1,5 @@
-use Rattle.std.proofs.Common.{sym}
+use Rattle.kahn_why.proofs.Common.{sym, IsPlacedNote, IsSyntaxNote}
 use Rattle.std.proofs.lemmas.Result.{IfOk-weaker}
-use Rattle.kahn_why.specs.Refusing.{IsPlacedNote, IsSyntaxNote}
 use Rattle.kahn_why.proofs.Refused.{expected, told_expected, told_other}
 use Rattle.kahn_why.proofs.refusing.syntax_note.Goals as goal
 

@@ -1,9 +1,7 @@
 use Rattle.kahn_board.proofs.Common.{arith, ne_eqb, eqb, ◌≡◌, ℕ, Bool, cond, [], ◌∷◌, map, length, sym, ap, ◌∙◌, Some, map-append, IsSome, subst, refl, some, some-injective, get_elem?, slots_filled, slots_items, belongs, wired, dealt}
 use Rattle.std.proofs.lemmas.List.{length-append}
-use Rattle.kahn_board.proofs.Reseats.{all_home}
+use Rattle.kahn_board.proofs.{Reseats.all_home, Closes.one_more, Closes.all_read, Closes.still_filled, Closes.emptied, Ends.closes}
 use mathlib.Core.Bool.{not}
-use Rattle.kahn_board.proofs.Closes.{one_more, all_read, still_filled, emptied}
-use Rattle.kahn_board.proofs.Ends.{closes}
 use Rattle.kahn_board.proofs.board.Board.close.Goals as goal
 
 pub unwrap-requires : goal.unwrap-requires

@@ -1,6 +1,5 @@
 use Rattle.kahn_board.proofs.Common.{arith, belongs, dealt, wired}
-use Rattle.kahn_board.proofs.Reseats.{joins}
-use Rattle.kahn_board.proofs.Seats.{empty_handed}
+use Rattle.kahn_board.proofs.{Reseats.joins, Seats.empty_handed}
 use Rattle.kahn_board.proofs.board.Board.join.Goals as goal
 
 pub join_seat-requires : goal.join_seat-requires

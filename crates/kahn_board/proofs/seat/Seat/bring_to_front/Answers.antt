@@ -1,8 +1,7 @@
 use Rattle.kahn_board.proofs.Common.{◌≡◌, ℕ, ◌<◌, List, Option, Some, map, get_or, arith, sym, ap, ◌∙◌, subst, Carries, IsIn, Seat, SeatView, only, total}
 use Rattle.std.specs.Option.{option_map, unwrap_or}
 use denote.Bor.{Bor}
-use Rattle.kahn_board.proofs.Counting.{before, before_turned, some_listed}
-use Rattle.kahn_board.proofs.Seats.{carries_shifted, first_is, numbers_shifted}
+use Rattle.kahn_board.proofs.{Counting.before, Counting.before_turned, Counting.some_listed, Seats.carries_shifted, Seats.first_is, Seats.numbers_shifted}
 use Rattle.kahn_board.proofs.seat.Seat.bring_to_front.Goals as goal
 
 -- an instance in the hands is listed

@@ -1,8 +1,5 @@
 use Rattle.kahn_board.proofs.Common.{rules, arith, none, belongs, wired, ap, steps_of, dite, ℕ_discrete}
-use Rattle.kahn_board.proofs.Steps.{claims_at}
-use Rattle.kahn_board.proofs.Returns.{claimed_here}
-use Rattle.kahn_board.proofs.Placed.{placed}
-use Rattle.kahn_board.proofs.Seats.{facts_noted, facts_took, room_for}
+use Rattle.kahn_board.proofs.{Steps.claims_at, Returns.claimed_here, Placed.placed, Seats.facts_noted, Seats.facts_took, Seats.room_for}
 use Rattle.kahn_board.proofs.seat.Seat.claim.Goals as goal
 
 pub compare_exchange-found-requires : goal.compare_exchange-found-requires

@@ -1,7 +1,5 @@
 use Rattle.kahn_board.proofs.Common.{rules, arith, refl, holds, ap, steps_of}
-use Rattle.kahn_board.proofs.Hot.{counts_down}
-use Rattle.kahn_board.proofs.Keeps.{was_at}
-use Rattle.kahn_board.proofs.Placed.{placed}
+use Rattle.kahn_board.proofs.{Hot.counts_down, Keeps.was_at, Placed.placed}
 use Rattle.kahn_board.proofs.seat.Seat.count_down.Goals as goal
 
 pub fetch_sub-requires : goal.fetch_sub-requires

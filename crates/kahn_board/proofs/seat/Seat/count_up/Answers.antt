@@ -1,6 +1,5 @@
 use Rattle.kahn_board.proofs.Common.{rules, arith, ap, steps_of}
-use Rattle.kahn_board.proofs.Hot.{counts_up}
-use Rattle.kahn_board.proofs.Placed.{placed}
+use Rattle.kahn_board.proofs.{Hot.counts_up, Placed.placed}
 use Rattle.kahn_board.proofs.seat.Seat.count_up.Goals as goal
 
 pub fetch_add-requires : goal.fetch_add-requires

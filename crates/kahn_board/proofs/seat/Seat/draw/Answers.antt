@@ -1,6 +1,5 @@
 use Rattle.kahn_board.proofs.Common.{rules, arith, ap, ◌∙◌, steps_of, dite, ℕ_discrete}
-use Rattle.kahn_board.proofs.Hot.{notes, draws}
-use Rattle.kahn_board.proofs.Placed.{placed, noted}
+use Rattle.kahn_board.proofs.{Hot.notes, Hot.draws, Placed.placed, Placed.noted}
 use Rattle.kahn_board.proofs.seat.Seat.draw.Goals as goal
 
 pub load-found-requires : goal.load-found-requires

@@ -1,6 +1,5 @@
 use Rattle.kahn_board.proofs.Common.{rules, arith, ap, steps_of}
-use Rattle.kahn_board.proofs.Hot.{gives_back}
-use Rattle.kahn_board.proofs.Placed.{placed}
+use Rattle.kahn_board.proofs.{Hot.gives_back, Placed.placed}
 use Rattle.kahn_board.proofs.seat.Seat.give_back.Goals as goal
 
 pub fetch_add-requires : goal.fetch_add-requires

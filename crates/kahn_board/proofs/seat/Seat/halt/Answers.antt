@@ -1,6 +1,5 @@
 use Rattle.kahn_board.proofs.Common.{rules, refl, arith, ap, steps_of}
-use Rattle.kahn_board.proofs.Hot.{stops}
-use Rattle.kahn_board.proofs.Placed.{placed}
+use Rattle.kahn_board.proofs.{Hot.stops, Placed.placed}
 use Rattle.kahn_board.proofs.seat.Seat.halt.Goals as goal
 
 pub store-requires : goal.store-requires

@@ -1,7 +1,5 @@
 use Rattle.kahn_board.proofs.Common.{rules, ◌≡◌, refl, sym, arith, ap, ◌∙◌, holds, after_step, steps_of, dite, ℕ_discrete}
-use Rattle.kahn_board.proofs.Hot.{looks_halted, looks_count, looks_budget}
-use Rattle.kahn_board.proofs.Keeps.{was_at}
-use Rattle.kahn_board.proofs.Placed.{placed, noted}
+use Rattle.kahn_board.proofs.{Hot.looks_halted, Hot.looks_count, Hot.looks_budget, Keeps.was_at, Placed.placed, Placed.noted}
 use Rattle.kahn_board.proofs.seat.Seat.look.Goals as goal
 
 pub load-requires : goal.load-requires

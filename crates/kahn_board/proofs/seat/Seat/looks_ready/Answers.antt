@@ -1,6 +1,5 @@
 use Rattle.kahn_board.proofs.Common.{rules, arith, ap, steps_of}
-use Rattle.kahn_board.proofs.Hot.{notes}
-use Rattle.kahn_board.proofs.Placed.{placed}
+use Rattle.kahn_board.proofs.{Hot.notes, Placed.placed}
 use Rattle.kahn_board.proofs.seat.Seat.looks_ready.Goals as goal
 
 pub load-found-requires : goal.load-found-requires

@@ -1,6 +1,5 @@
 use Rattle.kahn_board.proofs.Common.{rules, ◌≡◌, true≢false, ap, ◌∙◌, subst, refl, arith, none, wired, TheFirst, GaveUp, first_of, steps_of, dite, ℕ_discrete, ◌*◌}
-use Rattle.kahn_board.proofs.Returns.{gave_up}
-use Rattle.kahn_board.proofs.Owed.{brought, parks_at}
+use Rattle.kahn_board.proofs.{Returns.gave_up, Owed.brought, Owed.parks_at}
 use Rattle.kahn_board.proofs.seat.Seat.park.Goals as goal
 
 pub compare_exchange-found-requires : goal.compare_exchange-found-requires

@@ -1,9 +1,5 @@
 use Rattle.kahn_board.proofs.Common.{rules, Some, ◌≡◌, ap, refl, arith, ◌%◌, ◌∙◌, belongs, wired, after_waking, TableId, steps_of, dite, ℕ_discrete}
-use Rattle.kahn_board.proofs.Owed.{publishes_at}
-use Rattle.kahn_board.proofs.Returns.{woke}
-use Rattle.kahn_board.proofs.Sole.{reader_in, writer_in}
-use Rattle.kahn_board.proofs.Placed.{placed}
-use Rattle.kahn_board.proofs.Seats.{room_for, facts_took, facts_waking}
+use Rattle.kahn_board.proofs.{Owed.publishes_at, Returns.woke, Sole.reader_in, Sole.writer_in, Placed.placed, Seats.room_for, Seats.facts_took, Seats.facts_waking}
 use Rattle.kahn_board.proofs.seat.Seat.publish.Goals as goal
 
 pub swap-found-requires : goal.swap-found-requires

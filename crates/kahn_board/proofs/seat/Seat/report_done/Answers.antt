@@ -1,6 +1,5 @@
 use Rattle.kahn_board.proofs.Common.{rules, arith, ap, steps_of}
-use Rattle.kahn_board.proofs.Hot.{uses_some}
-use Rattle.kahn_board.proofs.Placed.{placed}
+use Rattle.kahn_board.proofs.{Hot.uses_some, Placed.placed}
 use Rattle.kahn_board.proofs.seat.Seat.report_done.Goals as goal
 
 pub load_with-requires : goal.load_with-requires

@@ -1,6 +1,5 @@
 use Rattle.kahn_board.proofs.Common.{rules, ◌≡◌, ℕ, ◌*◌, ◌/◌, ap, ◌∙◌, subst, arith, wired, TheFirst, GaveUp, downs_of, steps_of}
-use Rattle.kahn_board.proofs.Returns.{gave_up}
-use Rattle.kahn_board.proofs.Owed.{brought, readies, ends}
+use Rattle.kahn_board.proofs.{Returns.gave_up, Owed.brought, Owed.readies, Owed.ends}
 use Rattle.kahn_board.proofs.seat.Seat.set_down.Goals.{in-Ready, in-Over}
 use Rattle.kahn_board.proofs.seat.Seat.set_down.Goals as goal
 

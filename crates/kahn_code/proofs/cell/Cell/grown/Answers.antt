@@ -1,5 +1,4 @@
-use Rattle.std.proofs.Common.{sym, subst}
-use Rattle.kahn_code.proofs.Common.{AreInputsExtended, inputs_of}
+use Rattle.kahn_code.proofs.Common.{sym, subst, AreInputsExtended, inputs_of}
 use Rattle.kahn_code.proofs.cell.Cell.grown.Goals as goal
 
 pub regrown-requires : goal.regrown-requires

@@ -1,5 +1,4 @@
-use Rattle.std.proofs.Common.{subst}
-use Rattle.kahn_code.proofs.Common.{HasRunFor}
+use Rattle.kahn_code.proofs.Common.{subst, HasRunFor}
 use Rattle.kahn_code.proofs.cell.Cell.run.Goals as goal
 
 pub returns-clause-ran : goal.returns-clause-ran

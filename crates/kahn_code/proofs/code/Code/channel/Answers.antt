@@ -1,5 +1,4 @@
-use Rattle.std.proofs.Common.{None, Some}
-use Rattle.kahn_code.proofs.Common.{network_of}
+use Rattle.kahn_code.proofs.Common.{None, Some, network_of}
 use Rattle.kahn_code.proofs.Uses.{routed}
 use Rattle.kahn_code.proofs.code.Code.channel.Goals as goal
 

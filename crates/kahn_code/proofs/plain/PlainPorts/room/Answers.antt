@@ -1,5 +1,4 @@
-use Rattle.std.proofs.Common.{arith, sym, subst, ◌<◌}
-use Rattle.std.proofs.lemmas.Result.{on_ok_weaker, on_err_weaker}
+use Rattle.kahn_code.proofs.Common.{arith, sym, subst, ◌<◌, on_ok_weaker, on_err_weaker}
 use Rattle.kahn_code.proofs.Queued.{write_inside, room_queued, room_stays, room_leaves, room_keeps, room_there, room_here, room_gone, room_rooms}
 use Rattle.kahn_code.proofs.plain.PlainPorts.room.Goals as goal
 

@@ -1,5 +1,4 @@
-use Rattle.std.proofs.Common.{sym, subst}
-use Rattle.kahn_code.proofs.Common.{AreInputsExtended, inputs_of, AllBegin}
+use Rattle.kahn_code.proofs.Common.{sym, subst, AreInputsExtended, inputs_of, AllBegin}
 use Rattle.kahn_code.proofs.Begin.{all_longer}
 use Rattle.kahn_code.proofs.queue.Queue.regrow.Goals as goal
 

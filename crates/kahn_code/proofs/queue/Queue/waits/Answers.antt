@@ -1,5 +1,5 @@
-use Rattle.std.proofs.Common.{arith, ◌≡◌, ◌<◌, length, Some, slice_get, refl, sym, subst}
-use Rattle.kahn_code.proofs.Common.{slice_get_read, Channel, Token}
+use Rattle.std.proofs.Common.{slice_get}
+use Rattle.kahn_code.proofs.Common.{arith, ◌≡◌, ◌<◌, length, Some, refl, sym, subst, slice_get_read, Channel, Token}
 use Rattle.kahn_code.proofs.Begin.{begins_at, followed_at}
 use Rattle.kahn_code.proofs.queue.Queue.waits.Goals as goal
 

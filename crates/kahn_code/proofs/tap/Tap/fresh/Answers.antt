@@ -1,5 +1,4 @@
-use Rattle.std.proofs.Common.{arith, ◌≡◌, ◌<◌, ◌++◌, length, sym, ap, ◌∙◌, subst}
-use Rattle.kahn_code.proofs.Common.{tokens}
+use Rattle.kahn_code.proofs.Common.{arith, ◌≡◌, ◌<◌, ◌++◌, length, sym, ap, ◌∙◌, subst, tokens}
 use Rattle.kahn_code.proofs.Behind.{fresh_of, within_behind}
 use Rattle.kahn_code.proofs.tap.Tap.fresh.Goals as goal
 

@@ -1,5 +1,4 @@
-use Rattle.std.proofs.Common.{◌≡◌, length, sym, ◌∙◌, subst, map}
-use Rattle.kahn_code.proofs.Common.{length-map, network_of, instance_at}
+use Rattle.kahn_code.proofs.Common.{◌≡◌, length, sym, ◌∙◌, subst, map, length-map, network_of, instance_at}
 use Rattle.kahn_code.proofs.Behind.{behind_length}
 use Rattle.kahn_code.proofs.tap.Tap.into_lists.Goals as goal
 

@@ -1,5 +1,4 @@
-use Rattle.std.proofs.Common.{rules, ap, ◌∙◌}
-use Rattle.kahn_code.proofs.Common.{network_of}
+use Rattle.kahn_code.proofs.Common.{rules, ap, ◌∙◌, network_of}
 use Rattle.kahn_code.proofs.Celled.{opened_as, standing_opened}
 use Rattle.kahn_code.proofs.tap.Tap.new.Goals as goal
 

@@ -1,5 +1,4 @@
-use Rattle.std.proofs.Common.{refl, sym, ap, ◌∙◌, subst, ◌+◌, ◌*◌, ◌<◌, ◌≤◌, length}
-use Rattle.kahn_code.proofs.Common.{network_of, instance_at, AreDriven, stmt_code, HasArguments, HasRunFor, site_code, site_of, told_of}
+use Rattle.kahn_code.proofs.Common.{refl, sym, ap, ◌∙◌, subst, ◌+◌, ◌*◌, ◌<◌, ◌≤◌, length, network_of, instance_at, AreDriven, stmt_code, HasArguments, HasRunFor, site_code, site_of, told_of}
 use Rattle.kahn_code.proofs.Celled.{sits_of, site_after}
 use Rattle.kahn_code.proofs.tap.Tap.run.Goals as goal
 

@@ -1,5 +1,4 @@
-use Rattle.std.proofs.Common.{subst}
-use Rattle.kahn_code.proofs.Common.{network_of, inputs_of, core_of, AreCounts}
+use Rattle.kahn_code.proofs.Common.{subst, network_of, inputs_of, core_of, AreCounts}
 use Rattle.kahn_code.proofs.Few.{taken_bound, sent_bound}
 use Rattle.kahn_code.proofs.tap.Tap.sized.Goals as goal
 

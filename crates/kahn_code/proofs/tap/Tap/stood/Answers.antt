@@ -1,7 +1,5 @@
-use Rattle.std.proofs.Common.{◌≡◌, sym, ap, ◌∙◌, subst}
-use Rattle.kahn_code.proofs.Common.{IsWellWired, network_of, inputs_of, StoodBy, Tapped, core_of, core_view, told_view}
-use Rattle.kahn_code.proofs.Readers.{driven}
-use Rattle.kahn_code.proofs.Stand.{stood_by}
+use Rattle.kahn_code.proofs.Common.{◌≡◌, sym, ap, ◌∙◌, subst, IsWellWired, network_of, inputs_of, StoodBy, Tapped, core_of, core_view, told_view}
+use Rattle.kahn_code.proofs.{Readers.driven, Stand.stood_by}
 use Rattle.kahn_code.proofs.tap.Tap.stood.Goals as goal
 
 pub returns : goal.returns

@@ -1,7 +1,4 @@
-use Rattle.std.proofs.Common.{length, subst}
-use Rattle.kahn_streams.specs.Inputs.{inputs_of}
-use Rattle.kahn_streams.specs.Network.{network_of}
-use Rattle.kahn_explain.specs.Needing.{AreFirstEnds}
+use Rattle.kahn_explain.proofs.Common.{length, subst, inputs_of, network_of, AreFirstEnds}
 use Rattle.kahn_explain.proofs.needing.replying.firsts_told.Goals as goal
 
 pub firsts-requires-clause-run : goal.firsts-requires-clause-run

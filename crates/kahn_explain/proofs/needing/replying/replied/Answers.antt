@@ -1,7 +1,4 @@
-use Rattle.std.specs.Prelude.{MatchResult}
-use Rattle.std.proofs.Common.{subst, sym}
-use Rattle.kahn_explain.specs.Histories.{IsUntraced}
-use Rattle.kahn_explain.specs.Needing.{IsAskable, IsReply}
+use Rattle.kahn_explain.proofs.Common.{MatchResult, subst, sym, IsUntraced, IsAskable, IsReply}
 use Rattle.kahn_explain.proofs.needing.replying.replied.Goals as goal
 
 pub firsts_told-requires : goal.firsts_told-requires

@@ -1,7 +1,4 @@
-use Rattle.std.proofs.Common.{refl, arith, ◌∙◌}
-use Rattle.kahn_streams.specs.Inputs.{inputs_of}
-use Rattle.kahn_streams.specs.Network.{network_of}
-use Rattle.kahn_needs.specs.Finding.{AreNeedsFound}
+use Rattle.kahn_explain.proofs.Common.{refl, arith, ◌∙◌, inputs_of, network_of, AreNeedsFound}
 use Rattle.kahn_needs.specs.declared.needs.Found.TheVariants as found
 use Rattle.kahn_explain.proofs.Firsts.{rows_more, same_search}
 use Rattle.kahn_explain.proofs.needing.rows.add_rows.Goals as goal

@@ -1,8 +1,5 @@
 -- Each place so far has a value.
-use Rattle.std.proofs.Common.{◌≡◌, ◌≤◌}
-use Rattle.kahn_streams.specs.Inputs.{inputs_of}
-use Rattle.kahn_streams.specs.Network.{network_of}
-use Rattle.kahn_explain.specs.Needing.{AreRows}
+use Rattle.kahn_explain.proofs.Common.{◌≡◌, ◌≤◌, inputs_of, network_of, AreRows}
 use Rattle.kahn_explain.proofs.needing.rows.add_rows.Given as goal
 
 abbrev pub invariant-loop-place : goal.invariant-loop-place

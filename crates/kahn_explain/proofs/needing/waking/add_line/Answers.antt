@@ -1,8 +1,4 @@
-use Rattle.std.proofs.Common.{◌≡◌, refl, subst, sym}
-use Rattle.std.proofs.lemmas.Bool.{iff_false}
-use Rattle.kahn_streams.specs.Network.{Given, network_of}
-use Rattle.kahn_streams.specs.Solution.{source}
-use Rattle.kahn_explain.specs.Needing.{IsFirstNeeding}
+use Rattle.kahn_explain.proofs.Common.{◌≡◌, refl, subst, sym, iff_false, Given, network_of, source, IsFirstNeeding}
 use Rattle.kahn_explain.proofs.Firsts.{same_search}
 use Rattle.kahn_explain.proofs.needing.waking.add_line.Goals as goal
 

@@ -1,8 +1,4 @@
-use Rattle.std.proofs.Common.{arith, refl, ◌∙◌}
-use Rattle.std.proofs.lemmas.Bool.{iff_false}
-use Rattle.kahn_streams.specs.Inputs.{inputs_of}
-use Rattle.kahn_streams.specs.Network.{network_of}
-use Rattle.kahn_needs.specs.Finding.{AreNeedsFound}
+use Rattle.kahn_explain.proofs.Common.{arith, refl, ◌∙◌, iff_false, inputs_of, network_of, AreNeedsFound}
 use Rattle.kahn_explain.proofs.Firsts.{first_is, not_more, same_search}
 use Rattle.kahn_explain.proofs.needing.waking.first_needing.Goals as goal
 

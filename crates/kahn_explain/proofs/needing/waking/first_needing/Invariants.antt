@@ -1,8 +1,5 @@
 -- The values so far don't need it.
-use Rattle.std.proofs.Common.{◌≡◌, ℕ, ◌≤◌, ◌<◌}
-use Rattle.kahn_streams.specs.Inputs.{inputs_of}
-use Rattle.kahn_streams.specs.Network.{network_of}
-use Rattle.kahn_explain.specs.Needing.{NeedsNot}
+use Rattle.kahn_explain.proofs.Common.{◌≡◌, ℕ, ◌≤◌, ◌<◌, inputs_of, network_of, NeedsNot}
 use Rattle.kahn_explain.proofs.needing.waking.first_needing.Given as goal
 
 abbrev pub invariant-loop-place : goal.invariant-loop-place

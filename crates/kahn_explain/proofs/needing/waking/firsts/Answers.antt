@@ -1,8 +1,4 @@
-use Rattle.std.proofs.Common.{rules, length, refl, subst, sym, add-one}
-use Rattle.std.proofs.lemmas.Option.{slice_get_read}
-use Rattle.kahn_streams.specs.Inputs.{inputs_of}
-use Rattle.kahn_streams.specs.Network.{network_of}
-use Rattle.kahn_explain.specs.Needing.{AreFirstEnds}
+use Rattle.kahn_explain.proofs.Common.{rules, length, refl, subst, sym, add-one, slice_get_read, inputs_of, network_of, AreFirstEnds}
 use Rattle.kahn_explain.proofs.Kept_columns.{stream_listed}
 use Rattle.kahn_explain.proofs.needing.waking.firsts.Goals as goal
 

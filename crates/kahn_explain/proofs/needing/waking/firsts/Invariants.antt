@@ -1,7 +1,5 @@
 -- How the searches of the streams so far ended.
-use Rattle.kahn_streams.specs.Inputs.{inputs_of}
-use Rattle.kahn_streams.specs.Network.{network_of}
-use Rattle.kahn_explain.specs.Needing.{AreFirstEnds}
+use Rattle.kahn_explain.proofs.Common.{inputs_of, network_of, AreFirstEnds}
 use Rattle.kahn_explain.proofs.needing.waking.firsts.Given as goal
 
 abbrev pub invariant-loop-number : goal.invariant-loop-number

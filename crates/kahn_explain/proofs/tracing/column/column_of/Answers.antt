@@ -1,5 +1,4 @@
-use Rattle.std.proofs.Common.{arith}
-use Rattle.std.proofs.lemmas.Grind.{common_steps}
+use Rattle.kahn_explain.proofs.Common.{arith, common_steps}
 use Rattle.kahn_explain.proofs.tracing.column.column_of.Goals as goal
 
 pub loop-token-preserved : goal.loop-token-preserved

@@ -1,6 +1,5 @@
 -- No stream so far is of the line.
-use Rattle.std.proofs.Common.{◌≡◌, ℕ, ◌<◌, Some, slice_get}
-use Rattle.kahn_streams.specs.declared.answer.Stream.{Stream}
+use Rattle.kahn_explain.proofs.Common.{◌≡◌, ℕ, ◌<◌, Some, slice_get, Stream}
 use Rattle.kahn_explain.proofs.tracing.column.stream_of.Given as goal
 
 abbrev pub invariant-loop-stream : goal.invariant-loop-stream

@@ -1,6 +1,5 @@
 -- The columns of the channels so far.
-use Rattle.kahn_explain.specs.Histories.{all_channels}
-use Rattle.kahn_explain.specs.inner.Columns.{AreColumns}
+use Rattle.kahn_explain.proofs.Common.{all_channels, AreColumns}
 use Rattle.kahn_explain.proofs.tracing.histories.channel_columns.Given as goal
 
 abbrev pub invariant-loop-channel : goal.invariant-loop-channel

@@ -1,6 +1,5 @@
 -- The columns of the streams so far were added.
-use Rattle.std.proofs.Common.{take}
-use Rattle.kahn_explain.specs.inner.Columns.{AddsPrints}
+use Rattle.kahn_explain.proofs.Common.{take, AddsPrints}
 use Rattle.kahn_explain.proofs.tracing.prints.add_prints.Given as goal
 
 abbrev pub invariant-loop-stream : goal.invariant-loop-stream

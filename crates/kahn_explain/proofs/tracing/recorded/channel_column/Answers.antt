@@ -1,6 +1,4 @@
-use Rattle.std.proofs.Common.{◌∙◌, sym}
-use Rattle.std.proofs.lemmas.Result.{IfOk-weaker}
-use Rattle.kahn_streams.specs.declared.value.Line.TheVariants.{Channel}
+use Rattle.kahn_explain.proofs.Common.{◌∙◌, sym, IfOk-weaker, Channel}
 use Rattle.kahn_explain.proofs.Kept_columns.{output_column, output_line}
 use Rattle.kahn_explain.proofs.tracing.recorded.channel_column.Goals as goal
 

@@ -1,6 +1,4 @@
-use Rattle.std.proofs.Common.{◌≡◌, ◌<◌, Some, arith, length, refl, slice_get}
-use Rattle.std.proofs.lemmas.Option.{slice_get_read}
-use Rattle.std.proofs.lemmas.Result.{IfOk-weaker}
+use Rattle.kahn_explain.proofs.Common.{◌≡◌, ◌<◌, Some, arith, length, refl, slice_get, slice_get_read, IfOk-weaker}
 use Rattle.kahn_explain.proofs.Kept_columns.{how_many, kept_column}
 use Rattle.kahn_explain.proofs.tracing.recorded.kept_column.Goals as goal
 

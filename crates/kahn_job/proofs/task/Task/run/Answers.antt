@@ -1,6 +1,5 @@
 use Rattle.kahn_job.proofs.Common.{ℕ, List, sym, ap, ◌∙◌, subst, Identity, Continues, Tasked, HasPaused}
-use Rattle.kahn_job.proofs.Berthed.{advanced}
-use Rattle.kahn_job.proofs.Trues.{ran, same_cell, same_width, true_after}
+use Rattle.kahn_job.proofs.{Berthed.advanced, Trues.ran, Trues.same_cell, Trues.same_width, Trues.true_after}
 use Rattle.kahn_job.proofs.task.Task.run.Goals as goal
 
 pub invariant_of-self : goal.invariant_of-self

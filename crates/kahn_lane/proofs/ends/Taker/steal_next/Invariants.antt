@@ -1,5 +1,4 @@
-use Rattle.std.proofs.Common.{◌≡◌, ◌+◌, ◌≤◌, ◌⊎◌, length}
-use Rattle.crossbeam_deque.specs.Handles.{view}
+use Rattle.kahn_lane.proofs.Common.{◌≡◌, ◌+◌, ◌≤◌, ◌⊎◌, length, view}
 use Rattle.kahn_lane.specs.RelayEnds.{taker_relay, got, known_given, left_items}
 use Rattle.kahn_lane.proofs.ends.Taker.steal_next.Given as goal
 

@@ -1,8 +1,4 @@
-use Rattle.std.proofs.Common.{arith, ap, subst, sym, ◌∙◌, Some}
-use Rattle.kahn_lane.specs.Places.{StandFrom, tag_name, token_name, moved_to}
-use Rattle.kahn_lane.specs.inner.Settles.{IsGrown}
-use Rattle.kahn_streams.specs.declared.token.Token.{Token}
-use Rattle.kahn_lane.specs.declared.name.LaneName.{LaneName}
+use Rattle.kahn_lane.proofs.Common.{arith, ap, subst, sym, ◌∙◌, Some, StandFrom, tag_name, token_name, moved_to, IsGrown, Token, LaneName}
 use Rattle.kahn_lane.proofs.Places.{placed_more, token_name-moved}
 use Rattle.kahn_lane.proofs.lifted.Lifted.put.Goals as goal
 

@@ -1,7 +1,4 @@
-use Rattle.std.proofs.Common.{arith, ap, subst, sym, ◌∙◌}
-use Rattle.kahn_lane.specs.Places.{tag_name}
-use Rattle.kahn_lane.specs.inner.Settles.{IsGrown}
-use Rattle.kahn_lane.specs.declared.name.Tag.{Tag}
+use Rattle.kahn_lane.proofs.Common.{arith, ap, subst, sym, ◌∙◌, tag_name, IsGrown, Tag}
 use Rattle.kahn_lane.proofs.Places.{placed_at, same_name}
 use Rattle.kahn_lane.proofs.lifted.Lifted.put_all.Goals as goal
 

@@ -1,6 +1,4 @@
-use Rattle.std.proofs.Common.{◌≡◌, ◌+◌}
-use Rattle.std.specs.Vec.{vec_len}
-use Rattle.kahn_lane.specs.inner.Settles.{LiftsTo, SameLifted}
+use Rattle.kahn_lane.proofs.Common.{◌≡◌, ◌+◌, vec_len, LiftsTo, SameLifted}
 use Rattle.kahn_lane.proofs.lifted.Lifted.put_all.Given as goal
 
 abbrev pub invariant-loop-at : goal.invariant-loop-at

@@ -1,10 +1,4 @@
-use Rattle.std.proofs.Common.{arith, ap, subst, sym, ◌∙◌, Some}
-use Rattle.crossbeam_deque.specs.Handles.{worker_view}
-use Rattle.kahn_lane.specs.Places.{StandFrom, tag_name}
-use Rattle.kahn_lane.specs.inner.LaneRule.{tokens_of}
-use Rattle.kahn_lane.specs.inner.Settles.{IsGrown}
-use Rattle.kahn_lane.specs.declared.name.Tag.{Tag}
-use Rattle.kahn_lane.specs.declared.segments.Mark.{Mark}
+use Rattle.kahn_lane.proofs.Common.{arith, ap, subst, sym, ◌∙◌, Some, worker_view, StandFrom, tag_name, tokens_of, IsGrown, Tag, Mark}
 use Rattle.kahn_lane.proofs.LaneMoves.{empties}
 use Rattle.kahn_lane.proofs.lifted.Lifted.put_rest.Goals as goal
 

@@ -1,9 +1,4 @@
-use Rattle.std.proofs.Common.{◌≡◌, ◌+◌, ◌-◌, ◌≤◌, true, Some}
-use Rattle.std.specs.Vec.{vec_len, vec_capacity}
-use Rattle.crossbeam_deque.specs.Handles.{worker_view, worker_flavor}
-use Rattle.kahn_lane.specs.Places.{tag_name}
-use Rattle.kahn_lane.specs.inner.Settles.{LiftsTo, SameLifted}
-use Rattle.kahn_lane.specs.declared.segments.Stage.TheVariants.{Running}
+use Rattle.kahn_lane.proofs.Common.{◌≡◌, ◌+◌, ◌-◌, ◌≤◌, true, Some, vec_len, vec_capacity, worker_view, worker_flavor, tag_name, LiftsTo, SameLifted, Running}
 use Rattle.kahn_lane.proofs.lifted.Lifted.put_rest.Given as goal
 
 abbrev pub invariant-loop-segment : goal.invariant-loop-segment

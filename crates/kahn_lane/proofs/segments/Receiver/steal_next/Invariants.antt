@@ -1,5 +1,4 @@
-use Rattle.std.proofs.Common.{◌≡◌, ◌+◌, ◌≤◌, ◌⊎◌}
-use Rattle.crossbeam_deque.specs.Handles.{view}
+use Rattle.kahn_lane.proofs.Common.{◌≡◌, ◌+◌, ◌≤◌, ◌⊎◌, view}
 use Rattle.kahn_lane.specs.LaneEnds.{receiver_lane, received, waiting, heard, left}
 use Rattle.kahn_lane.proofs.segments.Receiver.steal_next.Given as goal
 

@@ -1,6 +1,4 @@
-use Rattle.std.proofs.Common.{arith, ap, subst, sym, ◌∙◌, Some}
-use Rattle.kahn_streams.specs.declared.token.Token.{Token}
-use Rattle.kahn_lane.specs.Places.{IsOn, token_name}
+use Rattle.kahn_lane.proofs.Common.{arith, ap, subst, sym, ◌∙◌, Some, Token, IsOn, token_name}
 use Rattle.kahn_lane.proofs.Places.{placed_at}
 use Rattle.kahn_lane.proofs.segments.Receiver.take.Goals as goal
 

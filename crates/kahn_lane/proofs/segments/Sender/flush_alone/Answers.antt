@@ -1,10 +1,5 @@
-use Rattle.std.proofs.Common.{arith, ◌≡◌, ap, length, subst, sym, None}
-use Rattle.crossbeam_deque.specs.Handles.{worker_view}
-use Rattle.kahn_lane.specs.Places.{StandFrom}
-use Rattle.kahn_lane.specs.inner.LaneRule.{tokens_of}
-use Rattle.kahn_lane.specs.declared.segments.Segment.{Segment}
-use Rattle.kahn_lane.proofs.LaneMoves.{flushes}
-use Rattle.kahn_lane.proofs.Places.{tokens_alone}
+use Rattle.kahn_lane.proofs.Common.{arith, ◌≡◌, ap, length, subst, sym, None, worker_view, StandFrom, tokens_of, Segment}
+use Rattle.kahn_lane.proofs.{LaneMoves.flushes, Places.tokens_alone}
 use Rattle.kahn_lane.proofs.segments.Sender.flush_alone.Goals as goal
 
 pub push_as-requires-clause-pushes : goal.push_as-requires-clause-pushes

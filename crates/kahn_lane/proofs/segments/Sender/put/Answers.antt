@@ -1,6 +1,4 @@
-use Rattle.std.proofs.Common.{arith, subst, sym}
-use Rattle.crossbeam_deque.specs.Handles.{worker_view}
-use Rattle.kahn_lane.specs.Places.{StandFrom}
+use Rattle.kahn_lane.proofs.Common.{arith, subst, sym, worker_view, StandFrom}
 use Rattle.kahn_lane.proofs.Places.{placed_more}
 use Rattle.kahn_lane.proofs.segments.Sender.put.Goals as goal
 

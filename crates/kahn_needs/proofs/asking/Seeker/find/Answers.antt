@@ -1,11 +1,7 @@
-use Rattle.std.proofs.Common.{subst, sym, refl}
+use Rattle.kahn_needs.proofs.Common.{subst, sym, refl, inputs_of, network_of, AreNeedsFound}
 use Rattle.std.specs.Prelude.{IfOk}
-use Rattle.kahn_streams.specs.Inputs.{inputs_of}
-use Rattle.kahn_streams.specs.Network.{network_of}
-use Rattle.kahn_needs.specs.Finding.{AreNeedsFound}
 use Rattle.kahn_needs.specs.declared.needs.Found.TheVariants as found
-use Rattle.kahn_needs.proofs.Seeking.{as_sought, first_later, forced_later, root_there}
-use Rattle.kahn_needs.proofs.Telling.{never_stands}
+use Rattle.kahn_needs.proofs.{Seeking.as_sought, Seeking.first_later, Seeking.forced_later, Seeking.root_there, Telling.never_stands}
 use Rattle.kahn_needs.proofs.asking.Seeker.find.Goals as goal
 use Rattle.kahn_needs.proofs.asking.Seeker.find.Goals.{in-Come, in-Never, in-Ring, in-Bound, in-NoMemory}
 

@@ -1,6 +1,4 @@
-use Rattle.std.proofs.Common.{arith, refl, sym, ap, ◌∙◌, subst}
-use Rattle.kahn_needs.specs.inner.Bench.{HasActed, Seats, events_seen, seats_of}
-use Rattle.std.proofs.Common.{slice_get}
+use Rattle.kahn_needs.proofs.Common.{arith, refl, sym, ap, ◌∙◌, subst, HasActed, Seats, events_seen, seats_of, slice_get}
 use Rattle.kahn_needs.proofs.Benched as Benched
 use Rattle.kahn_needs.proofs.bench.Bench.act.Goals as goal
 

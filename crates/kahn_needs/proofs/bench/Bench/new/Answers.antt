@@ -1,5 +1,4 @@
-use Rattle.std.proofs.Common.{subst, sym, ap}
-use Rattle.kahn_needs.specs.inner.Bench.{HaveNotMoved, Seats}
+use Rattle.kahn_needs.proofs.Common.{subst, sym, ap, HaveNotMoved, Seats}
 use Rattle.kahn_needs.proofs.Benched.{laid_first}
 use Rattle.kahn_needs.proofs.bench.Bench.new.Goals as goal
 

@@ -1,6 +1,4 @@
-use Rattle.std.proofs.Common.{sym, subst}
-use Rattle.kahn_streams.specs.declared.value.Line.TheVariants.{Channel}
-use Rattle.kahn_needs.specs.inner.Finding.{HasSentSoMany}
+use Rattle.kahn_needs.proofs.Common.{sym, subst, Channel, HasSentSoMany}
 use Rattle.kahn_needs.proofs.Searching.{parameter_there, sent_there}
 use Rattle.kahn_needs.proofs.bench.Bench.sent_on.Goals as goal
 

@@ -1,6 +1,4 @@
-use Rattle.std.proofs.Common.{sym, subst}
-use Rattle.kahn_streams.specs.declared.value.Line.{Line}
-use Rattle.kahn_needs.specs.inner.Finding.{HasCome, HasValue}
+use Rattle.kahn_needs.proofs.Common.{sym, subst, Line, HasCome, HasValue}
 use Rattle.kahn_needs.proofs.bench.Bench.value.Goals as goal
 
 pub returns-in-Channel : goal.returns-in-Channel

@@ -1,6 +1,5 @@
 use Rattle.std.proofs.Common.{arith}
-use Rattle.kahn_needs.proofs.Counted.{value_there}
-use Rattle.kahn_needs.proofs.Searching.{parameter_there}
+use Rattle.kahn_needs.proofs.{Counted.value_there, Searching.parameter_there}
 use Rattle.kahn_needs.proofs.bench.Bench.value_on.Goals as goal
 
 pub kept-requires : goal.kept-requires

@@ -1,10 +1,5 @@
-use Rattle.std.proofs.Common.{◌-◌, List, sym, ◌∙◌, subst, refl}
-use Rattle.kahn_pool.proofs.Common.{AreKeptOf, Work, cells_of, IsConcluded, HeldRun, IsAnswerOf, AreEnded, held_state, Answer, planned}
-use Rattle.kahn_streams.specs.declared.answer.End.{End}
-use Rattle.kahn_sequential.proofs.Filled.{are_streams}
-use Rattle.kahn_pool.proofs.Held_runs.{answer_is}
-use Rattle.kahn_pool.proofs.Kept.{idle_lists}
-use Rattle.kahn_sequential.proofs.Righted.{answer_right}
+use Rattle.kahn_pool.proofs.Common.{◌-◌, List, sym, ◌∙◌, subst, refl, AreKeptOf, Work, cells_of, IsConcluded, HeldRun, IsAnswerOf, AreEnded, held_state, Answer, planned, End, are_streams, answer_right}
+use Rattle.kahn_pool.proofs.{Held_runs.answer_is, Kept.idle_lists}
 use Rattle.kahn_pool.proofs.held.Held.answer.Goals as goal
 
 pub fill-requires-clause-named : goal.fill-requires-clause-named

@@ -1,7 +1,4 @@
-use Rattle.std.proofs.Common.{◌≡◌, List, Some, sym, subst}
-use Rattle.kahn_pool.proofs.Common.{HeldRun, IsRightSoFar, AreEnded, held_state, cells_of, planned}
-use Rattle.kahn_streams.specs.declared.answer.End.{End}
-use Rattle.kahn_sequential.proofs.Righted.{right_with}
+use Rattle.kahn_pool.proofs.Common.{◌≡◌, List, Some, sym, subst, HeldRun, IsRightSoFar, AreEnded, held_state, cells_of, planned, End, right_with}
 use Rattle.kahn_pool.proofs.held.Held.ends.Goals as goal
 
 pub returns : goal.returns

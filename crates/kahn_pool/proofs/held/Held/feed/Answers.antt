@@ -1,7 +1,5 @@
-use Rattle.std.proofs.Common.{ap, refl, subst, None}
-use Rattle.kahn_pool.proofs.Common.{err_from_is_err_and, HasFed, HeldRun, IsUnfed, network_of, inputs_of, run_of, planned}
-use Rattle.kahn_pool.proofs.Held_runs.{goes_on_fed, holding_fed}
-use Rattle.kahn_pool.proofs.Held_streams.{given_on}
+use Rattle.kahn_pool.proofs.Common.{ap, refl, subst, None, err_from_is_err_and, HasFed, HeldRun, IsUnfed, network_of, inputs_of, run_of, planned}
+use Rattle.kahn_pool.proofs.{Held_runs.goes_on_fed, Held_runs.holding_fed, Held_streams.given_on}
 use Rattle.kahn_pool.proofs.held.Held.feed.Goals as goal
 
 pub invariant_of-self-2 : goal.invariant_of-self-2

@@ -1,7 +1,5 @@
-use Rattle.std.proofs.Common.{arith, rules, ◌≡◌, ◌+◌, ◌<◌, ◌^◌, Some, None, refl, ◌∙◌, subst}
-use Rattle.kahn_pool.proofs.Common.{HasResumed, HeldRun, IsResumed, run_of, planned}
-use Rattle.kahn_pool.proofs.Held_runs.{few, resumed, resumed_ok, several, still_holding, still_same}
-use Rattle.kahn_pool.proofs.Held_jobs.{held_more}
+use Rattle.kahn_pool.proofs.Common.{arith, rules, ◌≡◌, ◌+◌, ◌<◌, ◌^◌, Some, None, refl, ◌∙◌, subst, HasResumed, HeldRun, IsResumed, run_of, planned}
+use Rattle.kahn_pool.proofs.{Held_runs.few, Held_runs.resumed, Held_runs.resumed_ok, Held_runs.several, Held_runs.still_holding, Held_runs.still_same, Held_jobs.held_more}
 use Rattle.kahn_pool.proofs.held.Held.resume.Goals as goal
 
 pub run_part-stopped-requires-clause-part : goal.run_part-stopped-requires-clause-part

@@ -1,8 +1,4 @@
-use Rattle.std.proofs.Common.{arith, rules, refl, sym, ap, ◌∙◌, subst}
-use Rattle.kahn_pool.proofs.Common.{Crewing, IsAsConfigured, IsCrew, network_of, inputs_of, cells_of}
-use Rattle.kahn_streams.specs.Answers.{IsWatched}
-use Rattle.kahn_sequential.proofs.Giving.{begun_none}
-use Rattle.kahn_sequential.proofs.Righted.{none_done}
+use Rattle.kahn_pool.proofs.Common.{arith, rules, refl, sym, ap, ◌∙◌, subst, Crewing, IsAsConfigured, IsCrew, network_of, inputs_of, cells_of, IsWatched, begun_none, none_done}
 use Rattle.kahn_pool.proofs.held.Held.start.Goals as goal
 
 pub invariant_of-result : goal.invariant_of-result

@@ -1,7 +1,4 @@
-use Rattle.std.proofs.Common.{arith, ◌≡◌, length, Some, sym, subst}
-use Rattle.kahn_pool.proofs.Common.{HeldRun, planned}
-use Rattle.std.specs.Vec.{vec_len}
-use Rattle.kahn_streams.specs.declared.answer.Verdict.{Verdict as VerdictOf}
+use Rattle.kahn_pool.proofs.Common.{arith, ◌≡◌, length, Some, sym, subst, HeldRun, planned, vec_len, Verdict as VerdictOf}
 use Rattle.kahn_pool.proofs.Held_streams.{job_there, given_so_far_here, kept_so_far, printed_here, printed_so_far, streamed_here, width_there}
 use Rattle.kahn_pool.proofs.held.Held.stream.Goals as goal
 

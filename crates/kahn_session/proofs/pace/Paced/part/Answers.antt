@@ -1,7 +1,5 @@
-use Rattle.std.proofs.Common.{◌≡◌, ◌+◌, sym, subst}
-use Rattle.kahn_session.specs.Pace.{Pace, part_bound}
-use Rattle.kahn_session.proofs.Showing.{kept_lines}
-use Rattle.kahn_session.proofs.Steps.{after_part}
+use Rattle.kahn_session.proofs.Common.{◌≡◌, ◌+◌, sym, subst, Pace, part_bound}
+use Rattle.kahn_session.proofs.{Showing.kept_lines, Steps.after_part}
 use Rattle.kahn_session.proofs.pace.Paced.part.Goals as goal
 
 pub invariant_of-self : goal.invariant_of-self

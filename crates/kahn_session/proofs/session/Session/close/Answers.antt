@@ -1,8 +1,4 @@
-use Rattle.std.proofs.Common.{◌≡◌, ◌∙◌, ℕ, List, Some, sym, ap, subst}
-use Rattle.kahn_streams.specs.declared.answer.Verdict.{Verdict as VerdictOf}
-use Rattle.kahn_texts.specs.News.{closing_text}
-use Rattle.kahn_streams.specs.Written.{AppendsFront}
-use Rattle.kahn_session.specs.Live.{IsLastText, Live}
+use Rattle.kahn_session.proofs.Common.{◌≡◌, ◌∙◌, ℕ, List, Some, sym, ap, subst, Verdict as VerdictOf, closing_text, AppendsFront, IsLastText, Live}
 use Rattle.kahn_session.proofs.session.Session.close.Goals as goal
 
 pub returns-in-Err : goal.returns-in-Err

@@ -1,12 +1,6 @@
-use Rattle.std.proofs.Common.{◌≡◌, Some, map, subst, sym}
-use Rattle.kahn_streams.specs.declared.answer.Verdict.{Verdict}
-use Rattle.kahn_streams.specs.Inputs.{inputs_of}
-use Rattle.kahn_streams.specs.Network.{network_of}
+use Rattle.kahn_session.proofs.Common.{◌≡◌, Some, map, subst, sym, Verdict, inputs_of, network_of, AreStandings, stands, IsRightSoFar, Live}
 use Rattle.kahn_streams.specs.Wiring.{IsWellWired}
-use Rattle.kahn_chain.specs.Chain.{AreStandings, stands}
 use Rattle.kahn_chain.proofs.Standing_ends.{stand}
-use Rattle.kahn_sequential.specs.HeldRuns.{IsRightSoFar}
-use Rattle.kahn_session.specs.Live.{Live}
 use Rattle.kahn_session.proofs.session.Session.ends.Goals as goal
 
 pub returns-clause-stood : goal.returns-clause-stood

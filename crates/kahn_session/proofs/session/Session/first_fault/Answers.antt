@@ -1,6 +1,4 @@
-use Rattle.std.proofs.Common.{◌≡◌, Some, sym, subst}
-use Rattle.kahn_streams.specs.declared.answer.Verdict.{Verdict}
-use Rattle.kahn_session.specs.Live.{IsFirstFault, Live}
+use Rattle.kahn_session.proofs.Common.{◌≡◌, Some, sym, subst, Verdict, IsFirstFault, Live}
 use Rattle.kahn_session.proofs.session.Session.first_fault.Goals as goal
 
 pub returns : goal.returns

@@ -1,6 +1,4 @@
-use Rattle.std.proofs.Common.{◌∙◌, ap, sym, subst}
-use Rattle.std.specs.Prelude.{option_copied}
-use Rattle.kahn_session.specs.Live.{IsFirstInput}
+use Rattle.kahn_session.proofs.Common.{◌∙◌, ap, sym, subst, option_copied, IsFirstInput}
 use Rattle.kahn_session.proofs.session.Session.first_input.Goals as goal
 
 pub returns : goal.returns

@@ -1,5 +1,4 @@
-use Rattle.std.proofs.Common.{◌≡◌, subst}
-use Rattle.kahn_session.specs.Live.{Live, has_left}
+use Rattle.kahn_session.proofs.Common.{◌≡◌, subst, Live, has_left}
 use Rattle.kahn_session.proofs.session.Session.has_left.Goals as goal
 
 pub returns : goal.returns

@@ -1,8 +1,4 @@
-use Rattle.std.proofs.Common.{◌∙◌, map, subst, ap, sym}
-use Rattle.kahn_streams.specs.declared.tree.Program.{Program}
-use Rattle.kahn_streams.specs.Network.{network_of}
-use Rattle.kahn_chain.specs.Chain.{AreStandings, HasRing, stands}
-use Rattle.kahn_session.specs.Live.{Live}
+use Rattle.kahn_session.proofs.Common.{◌∙◌, map, subst, ap, sym, Program, network_of, AreStandings, HasRing, stands, Live}
 use Rattle.kahn_session.proofs.session.Session.has_ring.Goals as goal
 
 pub has_ring-requires : goal.has_ring-requires

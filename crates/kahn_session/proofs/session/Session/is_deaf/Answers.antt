@@ -1,7 +1,4 @@
-use Rattle.std.proofs.Common.{◌≡◌, ◌∙◌, ◌&&◌, not, Some, ap, sym, subst}
-use Rattle.std.specs.List.{list_any}
-use Rattle.kahn_streams.specs.Network.{network_of}
-use Rattle.kahn_session.specs.Live.{IsDeaf, Live, is_finished, waits_on_input}
+use Rattle.kahn_session.proofs.Common.{◌≡◌, ◌∙◌, ◌&&◌, not, Some, ap, sym, subst, list_any, network_of, IsDeaf, Live, is_finished, waits_on_input}
 use Rattle.kahn_session.proofs.session.Session.is_deaf.Goals as goal
 
 pub returns : goal.returns

@@ -1,6 +1,4 @@
-use Rattle.std.proofs.Common.{◌∙◌, Some, ap, sym, subst}
-use Rattle.std.specs.Prelude.{option_copied}
-use Rattle.kahn_session.specs.Live.{IsOtherInput}
+use Rattle.kahn_session.proofs.Common.{◌∙◌, Some, ap, sym, subst, option_copied, IsOtherInput}
 use Rattle.kahn_session.proofs.session.Session.other_input.Goals as goal
 
 pub returns : goal.returns

@@ -1,5 +1,4 @@
-use Rattle.std.proofs.Common.{sym, ap, ◌∙◌}
-use Rattle.kahn_sequential.specs.Flows.{flow_lines}
+use Rattle.kahn_session.proofs.Common.{sym, ap, ◌∙◌, flow_lines}
 use Rattle.kahn_session.proofs.Named.{same_found}
 use Rattle.kahn_session.proofs.session.Session.stream_of.Goals as goal
 

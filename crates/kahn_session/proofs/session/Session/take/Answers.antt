@@ -1,10 +1,4 @@
-use Rattle.std.proofs.Common.{◌∙◌, true, refl, sym, subst}
-use Rattle.kahn_streams.specs.declared.tree.Program.{Program}
-use Rattle.kahn_streams.specs.Written.{AppendsFront}
-use Rattle.std.specs.Io.KnownBytes.{Appends}
-use Rattle.kahn_session.specs.Forms.{form_text}
-use Rattle.kahn_session.specs.Live.{HasBroken, HasTaken, Live}
-use Rattle.kahn_session.specs.Pace.{Pace}
+use Rattle.kahn_session.proofs.Common.{◌∙◌, true, refl, sym, subst, Program, AppendsFront, Appends, form_text, HasBroken, HasTaken, Live, Pace}
 use Rattle.kahn_session.proofs.Taking.{after_is, answered, live, taken, whole_on}
 use Rattle.kahn_session.proofs.session.Session.take.Goals as goal
 

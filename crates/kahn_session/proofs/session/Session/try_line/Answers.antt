@@ -1,5 +1,4 @@
-use Rattle.std.proofs.Common.{MatchResult, subst}
-use Rattle.kahn_session.specs.Live.{IsMeantLine, IsUnfedBy, Live}
+use Rattle.kahn_session.proofs.Common.{MatchResult, subst, IsMeantLine, IsUnfedBy, Live}
 use Rattle.kahn_session.proofs.Steps.{tried}
 use Rattle.kahn_session.proofs.session.Session.try_line.Goals as goal
 

@@ -1,7 +1,5 @@
 -- It owns nothing, so any thread may share it.
-use denote.RattleType.{RattleType}
-use denote.Param.Send.{IsSync, part_keyless}
-use Rattle.kahn_streams.specs.contracts.about.About.{the_row}
+use Rattle.kahn_streams.proofs.Common.{RattleType, IsSync, part_keyless, the_row}
 use Rattle.kahn_streams.proofs.about.About.TheSendSync.Send.{send}
 
 pub sync : (Y : RattleType) → IsSync (the_row Y)

@@ -1,8 +1,5 @@
-use Rattle.std.proofs.Common.{rules, arith, ◌≡◌, ◌≤◌, ◌+◌, ◌++◌, length, length-append, map, slice_set, sym}
-use Rattle.std.proofs.lemmas.Result.{err_from_is_err_and}
-use Rattle.kahn_streams.specs.Inputs.{most_values, inputs_of}
-use Rattle.kahn_streams.proofs.Fed.{item_fed, item_kept}
-use Rattle.kahn_streams.proofs.Few.{put_few, same_few}
+use Rattle.kahn_streams.proofs.Common.{rules, arith, ◌≡◌, ◌≤◌, ◌+◌, ◌++◌, length, length-append, map, slice_set, sym, err_from_is_err_and, most_values, inputs_of}
+use Rattle.kahn_streams.proofs.{Fed.item_fed, Fed.item_kept, Few.put_few, Few.same_few}
 use Rattle.kahn_streams.proofs.input.Input.append.Goals as goal
 
 pub returns-in_err-add_values-clause-lists : goal.returns-in_err-add_values-clause-lists

@@ -1,6 +1,4 @@
-use Rattle.std.proofs.Common.{rules, ◌≡◌, ◌≤◌, ◌++◌, slice_set}
-use Rattle.kahn_streams.specs.Inputs.{Entry, channel_of, most_values, inputs_of}
-use Rattle.kahn_streams.specs.Feeds.{IsMeant, total_after}
+use Rattle.kahn_streams.proofs.Common.{rules, ◌≡◌, ◌≤◌, ◌++◌, slice_set, Entry, channel_of, most_values, inputs_of, IsMeant, total_after}
 use Rattle.kahn_streams.proofs.Fed.{fed, fed_grown}
 use Rattle.kahn_streams.proofs.input.Input.extend.Goals as goal
 

@@ -1,7 +1,5 @@
 -- The lists so far fit their channels.
-use Rattle.std.proofs.Common.{ℕ, ◌<◌}
-use Rattle.kahn_streams.specs.Network.{network_of}
-use Rattle.kahn_streams.specs.Inputs.{IsListFor, inputs_of}
+use Rattle.kahn_streams.proofs.Common.{ℕ, ◌<◌, network_of, IsListFor, inputs_of}
 use Rattle.kahn_streams.proofs.input.Input.fits.Given as goal
 
 abbrev pub invariant-loop-channel : goal.invariant-loop-channel

@@ -1,5 +1,4 @@
-use Rattle.std.proofs.Common.{ap, sym, ◌∙◌, map, slice_set}
-use Rattle.std.proofs.lemmas.List.{map-set}
+use Rattle.kahn_streams.proofs.Common.{ap, sym, ◌∙◌, map, slice_set, map-set}
 use Rattle.kahn_streams.proofs.Few.{put_few, same_few}
 use Rattle.kahn_streams.proofs.input.Input.give.Goals as goal
 

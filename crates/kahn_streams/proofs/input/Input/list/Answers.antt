@@ -1,6 +1,4 @@
-use Rattle.std.proofs.Common.{arith, ◌≡◌, map}
-use Rattle.std.proofs.lemmas.Grind.{common_steps}
-use Rattle.kahn_streams.specs.Inputs.{inputs_of}
+use Rattle.kahn_streams.proofs.Common.{arith, ◌≡◌, map, common_steps, inputs_of}
 use Rattle.kahn_streams.proofs.Few.{list_few}
 use Rattle.kahn_streams.proofs.input.Input.list.Goals as goal
 

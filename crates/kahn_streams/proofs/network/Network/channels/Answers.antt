@@ -1,5 +1,4 @@
-use Rattle.std.proofs.Common.{rules, ◌∙◌, ap, length}
-use Rattle.kahn_streams.specs.Network.{network_of}
+use Rattle.kahn_streams.proofs.Common.{rules, ◌∙◌, ap, length, network_of}
 use Rattle.kahn_streams.proofs.Kept_network.{wire_count}
 use Rattle.kahn_streams.proofs.network.Network.channels.Goals as goal
 

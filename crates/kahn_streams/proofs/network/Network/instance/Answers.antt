@@ -1,10 +1,6 @@
-use Rattle.std.proofs.Common.{rules, ◌≡◌, ◌∙◌, sym, ap, subst, ◌<◌, length, Some, None, refl}
+use Rattle.kahn_streams.proofs.Common.{rules, ◌≡◌, ◌∙◌, sym, ap, subst, ◌<◌, length, Some, None, refl, IsMadeOf, network_of, instance_at, instance_from, channel_names, the_process, process_at}
 use Rattle.kahn_streams.specs.declared.tree.Declaration.TheVariants as D
-use Rattle.kahn_streams.specs.Made.{IsMadeOf}
-use Rattle.kahn_streams.specs.Network.{network_of, instance_at, instance_from, channel_names}
-use Rattle.kahn_streams.specs.Wires.{the_process, process_at}
-use Rattle.kahn_streams.proofs.By_number.{at_index}
-use Rattle.kahn_streams.proofs.Kept_network.{process_count, instance_count, number_within, instance_declared, instance_kept, never_channels}
+use Rattle.kahn_streams.proofs.{By_number.at_index, Kept_network.process_count, Kept_network.instance_count, Kept_network.number_within, Kept_network.instance_declared, Kept_network.instance_kept, Kept_network.never_channels}
 use Rattle.kahn_streams.proofs.network.Network.instance.Goals as goal
 
 pub index-requires : goal.index-requires

@@ -1,7 +1,5 @@
-use Rattle.std.proofs.Common.{rules, sym, subst, ◌<◌, length}
-use Rattle.kahn_streams.specs.Network.{network_of}
-use Rattle.kahn_streams.proofs.By_number.{at_index}
-use Rattle.kahn_streams.proofs.Kept_network.{IsWire, wire_count, wire_at}
+use Rattle.kahn_streams.proofs.Common.{rules, sym, subst, ◌<◌, length, network_of}
+use Rattle.kahn_streams.proofs.{By_number.at_index, Kept_network.IsWire, Kept_network.wire_count, Kept_network.wire_at}
 use Rattle.kahn_streams.proofs.network.Network.reader.Goals as goal
 
 pub index-requires : goal.index-requires

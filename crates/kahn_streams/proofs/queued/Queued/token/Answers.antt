@@ -1,5 +1,4 @@
-use Rattle.std.proofs.Common.{sym, ap, ◌∙◌}
-use Rattle.kahn_streams.specs.declared.token.Token.{Token}
+use Rattle.kahn_streams.proofs.Common.{sym, ap, ◌∙◌, Token}
 use Rattle.kahn_streams.proofs.Token_lists.{token_same}
 use Rattle.kahn_streams.proofs.queued.Queued.token.Goals as goal
 

@@ -1,43 +1,9 @@
 -- It counts the call, and answers what the inner allocator answers. Assumes `Logic`.
-use Rattle.std.proofs.Common.{◌≡◌, ℕ, Bool, sym, subst, ◌+◌, ◌^◌, ◌<◌, true, false, List, [], ◌∷◌, Ok, Err, refl, w64, Bor}
-use seplogic.Ra.Ura.{Ura}
-use mir.Syntax.{Ty, Args, Fn, a_type, dnil, dcons}
-use mir.Val.{Val, vbool, vint, vptr, has_ty, WT}
+use Rattle.kahn_units.proofs.Common.{◌≡◌, ℕ, Bool, sym, subst, ◌+◌, ◌^◌, ◌<◌, true, false, List, [], ◌∷◌, Ok, Err, refl, w64, Bor, Ura, Ty, Args, Fn, a_type, dnil, dcons, Val, vbool, vint, vptr, has_ty, WT, Fml, fsep, froom, inst_fn, SProp, ent, id⊢, Lft, Share, ftrue, flft, Memory, size, align, capped, up, Routine, WpFn, Tables, Logic, ◌⊑◌, ⊑_trans, Fun, fact, tables, fm_of, WpFn-mono, stop, fld, addr, lit, no_more, and_then, of_opd, first, branches, exec, returns, enter, yes, owns, shr_vals, unhide, bounded, param, layout, uint_vals, uint_Tells, Slot, plain, types_at, heard, nothing, Ended, Clauses, triple_of, Triple, entered, cited, Stays, stay_dropped, walk_of, ends_at, walked, Goes-dropped, walk_Meets, ⋆, by, at_ret, rewrite, ‵, raw, ◌⊛◌, later, given, some, pick, learn, ◌$◌, ◌∵◌, !, qed, move, keep, drop, use0, use1, use2, split, split3, join, fsplit, fjoin, suffices, await, done, env, lands_last, sets_last, alloc_all, pass_all, free_all, look_at, get, through, sets, lands_as, block_ptr, usize, RefOf, calls_at, calls_at_last, token, Al, α, seen, Answer, answer_val, Answer-typed, Answer-Ok, Answer-err, takes_key, Takes, at_takes, Answered, Takes-goes, Takes-gives, answers}
 use lib.Dec.{T}
-use base.Fml.{Fml, fsep, froom}
 use Rattle.std.proofs.alloc.Shapes.{after}
-use mir.MapTy.{inst_fn}
-use base.Logic.{SProp, ent, id⊢}
-use base.Fml.{Lft, Share, ftrue, flft}
-use prog.Memory.{Memory, size, align, capped, up}
-use prog.Routine.{Routine}
-use prog.Wp.{WpFn, Tables}
-use types.Logic.{Logic}
-use contract.BorrowLft.{◌⊑◌, ⊑_trans}
-use contract.Monad.{Fun, fact}
-use contract.Running.{tables, tables_of}
-use sound.WpLaws.{fm_of, WpFn-mono}
-use types.Run.{stop, fld, addr, lit, no_more, and_then, of_opd, first, branches, exec, returns, enter}
+use contract.Running.{tables_of}
 use types.Part.{agg}
-use denote.Exit.{yes}
-use denote.RattleType.{owns}
-use denote.Ref.{shr_vals}
-use denote.Opens.{unhide}
-use denote.Param.{bounded, param, layout}
-use denote.Plain.{uint_vals, uint_Tells}
-use denote.Signature.{Slot, plain, types_at}
-use denote.Steps.{heard, nothing}
-use denote.Triple.Clauses.{Ended, Clauses}
-use denote.Triple.Spec.{triple_of}
-use denote.Triple.Statement.{Triple}
-use denote.Triple.Table.{entered, cited}
-use denote.Triple.Walked.{Stays, stay_dropped, walk_of, ends_at, walked, Goes-dropped, walk_Meets}
-use types.Kit.{⋆, by, at_ret, rewrite, ‵, raw, ◌⊛◌, later, given, some, pick, learn, ◌$◌, ◌∵◌, !, qed, move, keep, drop, use0, use1, use2, split, split3, join, fsplit, fjoin, suffices, await, done}
-use types.ByLocal.{env, lands_last, sets_last, alloc_all, pass_all, free_all, look_at, get, through, sets, lands_as}
-use denote.RawPtr.{block_ptr}
-use denote.Builtin.{usize, RefOf}
-use denote.Triple.Call.{calls_at, calls_at_last}
-use Rattle.std.proofs.alloc.Calls.{token, Al, α, seen, Answer, answer_val, Answer-typed, Answer-Ok, Answer-err, takes_key, Takes, at_takes, Answered, Takes-goes, Takes-gives, answers}
 use Rattle.kahn_units.proofs.Granted.{Grants, at_grants, Grants-goes, Grants-gives}
 use Rattle.kahn_units.proofs.rationed.grants.Symbol as c_sym
 use Rattle.kahn_units.proofs.rationed.grants.Met as c_met

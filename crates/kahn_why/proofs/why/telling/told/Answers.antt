@@ -1,8 +1,4 @@
-use Rattle.std.proofs.Common.{◌∙◌, ap, map, string_bytes, subst, sym}
-use Rattle.kahn_streams.specs.Network.{network_of}
-use Rattle.kahn_chain.specs.Chain.{AreStandings, stands}
-use Rattle.kahn_chain.specs.Reasons.{AreReasons}
-use Rattle.kahn_why.specs.Why.{came_to}
+use Rattle.kahn_why.proofs.Common.{◌∙◌, ap, map, string_bytes, subst, sym, network_of, AreStandings, stands, AreReasons, came_to}
 use Rattle.kahn_why.proofs.why.telling.told.Goals as goal
 
 pub reasons-requires : goal.reasons-requires
