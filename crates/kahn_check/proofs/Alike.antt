@@ -1,8 +1,9 @@
 -- Tables in which each name stands for the same, and what they say is wrong.
-use Rattle.kahn_check.proofs.Common.{◌≡◌, inl, inr, ℕ, suc, ◌+◌, Bool, true, false, cond, List, [], ◌∷◌, ◌++◌, length, Option, None, Some, Ok, Err, refl, ap, sym, ◌∙◌, subst, append_assoc, bytes_eq, arith, option_or, lookup, Span, Name, Kind, Role, Direction, Taking, Parameter, Argument, Declaration, Instance, Side, Inner, Input, Output, In, Out, bytes_of, entries, Global, IsChannel, IsProcess, handed, handed_in, parameters_of, side_at, same_direction, Handover, verdict, IsMet, most_channels, most_instances, too_many, repeated, process_faults, misplaced, miscounted, missing, CheckFault, NoWriter, NoReader, TooMany, channel_parts, declaration_parts, StandAlike, kept_first, kept_as, AreAsMany, HaveKept, got_first, seat_faults, seats_parts, sides_parts, Ends, HaveGot, held, taken, place_faults, places_faults, made_in, meant, handed_to, side_in, Table, as_channels, bytes_true, append-nil, beyond, lookup_append, placed}
+use Rattle.kahn_check.proofs.Common.{◌≡◌, inl, inr, ℕ, suc, ◌+◌, Bool, true, false, cond, List, [], ◌∷◌, ◌++◌, length, Option, None, Some, Ok, Err, refl, ap, sym, ◌∙◌, subst, append_assoc, bytes_eq, arith, option_or, lookup, Span, Name, Kind, Role, Direction, Taking, Parameter, Argument, Declaration, Instance, Side, Inner, Input, Output, In, Out, bytes_of, entries, Global, IsChannel, IsProcess, handed, handed_in, parameters_of, side_at, same_direction, Handover, verdict, IsMet, most_channels, most_instances, too_many, repeated, process_faults, misplaced, miscounted, missing, CheckFault, NoWriter, NoReader, TooMany, channel_parts, declaration_parts, StandAlike, kept_first, kept_as, AreAsMany, HaveKept, got_first, seat_faults, seats_parts, sides_parts, Ends, HaveGot, held, taken, place_faults, places_faults, made_in, meant, handed_to, side_in, Table, as_channels, bytes_true, append-nil}
 use Rattle.kahn_streams.specs.declared.tree.Taking.TheVariants as T
 use Rattle.kahn_streams.specs.declared.tree.Argument.TheVariants as A
 use Rattle.kahn_streams.specs.declared.tree.Declaration.TheVariants as D
+use Rattle.kahn_check.proofs.{Declared.beyond, Wired.lookup_append, Wired.placed}
 
 -- ---- tables
 

@@ -22,7 +22,3 @@ pub use Rattle.std.specs.Ordering.{is_eq}
 pub use Rattle.std.specs.Prelude.{◌↔◌, IfOk, slice_get}
 pub use Rattle.kahn_streams.specs.declared.{fault.CheckFault.CheckFault, fault.CheckFault.TheVariants.DeclaredTwice, fault.CheckFault.TheVariants.NoMemory, fault.CheckFault.TheVariants.NoReader, fault.CheckFault.TheVariants.NoWriter, fault.CheckFault.TheVariants.TooMany, fault.CheckFault.TheVariants.Unknown, fault.CheckFault.TheVariants.WrongCount, sides.Side.Side, span.Span.Span, tree.Action.Action, tree.Action.Assign, tree.Action.Block', tree.Action.Empty, tree.Action.Held-Action-If-2, tree.Action.If', tree.Action.None', tree.Action.Print, tree.Action.Repeat', tree.Action.Row_of-Statement, tree.Action.Send, tree.Action.Some', tree.Action.While', tree.Action.end_of-Statement, tree.Action.more_of-Statement, tree.Argument.Argument, tree.Declaration.Declaration, tree.Direction.Direction, tree.Direction.TheVariants.In, tree.Direction.TheVariants.Out, tree.Form.Bracket', tree.Form.Conditional', tree.Form.Form, tree.Form.Level', tree.Form.Negate', tree.Form.Not', tree.Form.Number, tree.Form.Row_of-Operand, tree.Form.Variable, tree.Form.Wait, tree.Form.end_of-Operand, tree.Form.more_of-Operand, tree.Instance.Instance, tree.Kind.Kind, tree.Name.Name, tree.Parameter.Parameter, tree.Process.Process, tree.Program.Program, tree.Role.Role, tree.Role.TheVariants.Inner, tree.Role.TheVariants.Input, tree.Role.TheVariants.Output, tree.Taking.Taking, tree.Taking.TheVariants.Channel, tree.Taking.TheVariants.Value}
 pub use Rattle.std.specs.declared.vec.Vec.{Vec}
-pub use Rattle.kahn_check.proofs.Declared.{beyond, channels_done, met_after, met_first, more_channels, more_declared, more_process, process_done}
-pub use Rattle.kahn_check.proofs.Linked.{all_handed, first_taken, handed_same, link_made, link_side, met_instances, met_sides, sides_more, table, whole}
-pub use Rattle.kahn_check.proofs.Placed.{taken_append, taken_more}
-pub use Rattle.kahn_check.proofs.Wired.{lookup_append, placed, well_wired}

@@ -1,7 +1,8 @@
 -- The declared channels in turn.
-use Rattle.kahn_check.proofs.Common.{◌≡◌, ℕ, Bool, true, false, cond, ◌&&◌, List, [], ◌∷◌, ◌++◌, map, Some, refl, ap, sym, ◌∙◌, subst, append_assoc, bytes_eq, lookup, Vec, map-append, Name, Kind, Role, Direction, Declaration, Program, In, Out, bytes_of, CheckFault, IsMet, Ends, taken, handed_all, side_in, sides_in, as_lines, line_in, lines_in, Line, first, channel_line, lines_of, Handover, same_direction, ends, handed_from, declared_channels, Table, met_first, all_handed, first_taken, sides_more, handed_same, table}
+use Rattle.kahn_check.proofs.Common.{◌≡◌, ℕ, Bool, true, false, cond, ◌&&◌, List, [], ◌∷◌, ◌++◌, map, Some, refl, ap, sym, ◌∙◌, subst, append_assoc, bytes_eq, lookup, Vec, map-append, Name, Kind, Role, Direction, Declaration, Program, In, Out, bytes_of, CheckFault, IsMet, Ends, taken, handed_all, side_in, sides_in, as_lines, line_in, lines_in, Line, first, channel_line, lines_of, Handover, same_direction, ends, handed_from, declared_channels, Table}
 use Rattle.std.specs.declared.alloc.Global.{Global}
 use Rattle.kahn_streams.specs.declared.tree.Declaration.TheVariants as D
+use Rattle.kahn_check.proofs.{Declared.met_first, Linked.all_handed, Linked.first_taken, Linked.sides_more, Linked.handed_same, Linked.table}
 
 pub lines_step : (w r : Ends) (kind : Kind) (role : Role) (x : Name) (xs : List Name) → side_in w r x role ≡ [] →
     sides_in w r (as_lines kind role (x ∷ xs)) ≡ sides_in w r (as_lines kind role xs)

@@ -1,8 +1,8 @@
 -- What is wrong by the tables is what is wrong by the definition.
-use Rattle.kahn_check.proofs.Common.{arith, nat_tests, first, ◌≡◌, ℕ, suc, Bool, true, false, cond, ◌&&◌, List, [], ◌∷◌, ◌++◌, length, Option, None, Some, refl, ap, sym, ◌∙◌, subst, bytes_eq, append_assoc, lookup, Span, Name, Kind, Role, Direction, Taking, Parameter, Argument, Instance, Program, Side, Inner, Input, Output, In, Out, bytes_of, CheckFault, NoWriter, NoReader, IsMet, wrong, most_instances, too_many, miscounted, overtaken, misplaced, argument_faults, arguments_faults, made_faults, instance_faults, missing, side_faults, sides_faults, declaration_faults, faults, entries, Global, IsChannel, IsProcess, declared_of, declared_channels, global, Handover, handed, handed_by, handed_from, same_direction, ends, writers, readers, IsWellWired, side_at, is_closed, Ends, held, taken, place_faults, places_faults, made_in, handed_all, seats_faults, side_in, sides_in, Table, well_wired, taken_append, met_first, met_after}
+use Rattle.kahn_check.proofs.Common.{arith, nat_tests, first, ◌≡◌, ℕ, suc, Bool, true, false, cond, ◌&&◌, List, [], ◌∷◌, ◌++◌, length, Option, None, Some, refl, ap, sym, ◌∙◌, subst, bytes_eq, append_assoc, lookup, Span, Name, Kind, Role, Direction, Taking, Parameter, Argument, Instance, Program, Side, Inner, Input, Output, In, Out, bytes_of, CheckFault, NoWriter, NoReader, IsMet, wrong, most_instances, too_many, miscounted, overtaken, misplaced, argument_faults, arguments_faults, made_faults, instance_faults, missing, side_faults, sides_faults, declaration_faults, faults, entries, Global, IsChannel, IsProcess, declared_of, declared_channels, global, Handover, handed, handed_by, handed_from, same_direction, ends, writers, readers, IsWellWired, side_at, is_closed, Ends, held, taken, place_faults, places_faults, made_in, handed_all, seats_faults, side_in, sides_in, Table}
 use Rattle.kahn_streams.specs.declared.tree.Taking.TheVariants as T
 use Rattle.kahn_streams.specs.declared.tree.Argument.TheVariants as A
-use Rattle.kahn_check.proofs.{Typed.both}
+use Rattle.kahn_check.proofs.{Wired.well_wired, Placed.taken_append, Declared.met_first, Declared.met_after, Typed.both}
 
 pub sides_more : (w r : Ends) (xs ys : List (Name × (Kind × Role))) → sides_in w r (xs ++ ys) ≡ sides_in w r xs ++ sides_in w r ys
 sides_more w r [] ys = refl

@@ -1,7 +1,7 @@
 -- A name that is added to those that are found by their hash, or by their text.
-use Rattle.kahn_check.proofs.Common.{◌≡◌, ℕ, Bool, true, false, cond, List, [], ◌∷◌, ◌++◌, Option, None, Some, String, string_bytes, is_some, refl, ap, sym, ◌∙◌, bytes_eq, arith, nat_cmp, subst, option_or, is_eq, lookup, update, bytes_true, AreFound, found, hashed, lookup_append}
+use Rattle.kahn_check.proofs.Common.{◌≡◌, ℕ, Bool, true, false, cond, List, [], ◌∷◌, ◌++◌, Option, None, Some, String, string_bytes, is_some, refl, ap, sym, ◌∙◌, bytes_eq, arith, nat_cmp, subst, option_or, is_eq, lookup, update, bytes_true, AreFound, found, hashed}
 use Rattle.std.proofs.lemmas.Slice.Eq.{bytes_eq-Decides}
-use Rattle.kahn_check.proofs.{Alike.or_none}
+use Rattle.kahn_check.proofs.{Alike.or_none, Wired.lookup_append}
 
 nat_same : (a b : ℕ) → is_eq (nat_cmp a b) ≡ true → a ≡ b
 nat_same a b h = grind (arith, h)

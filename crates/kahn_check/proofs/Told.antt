@@ -1,10 +1,10 @@
 -- What is told of each part in turn, by tables that keep the first of each name.
-use Rattle.kahn_check.proofs.Common.{◌≡◌, inl, inr, ℕ, suc, ◌+◌, ◌≤◌, List, [], ◌∷◌, ◌++◌, map, length, Option, None, Some, refl, ap, sym, ◌∙◌, subst, append_assoc, bytes_eq, arith, ◌==◌, eqb-true, true≢false, Bool, true, false, option_or, append-nil, map-append, lookup, Name, Kind, Role, Direction, Process, Parameter, Argument, Declaration, Instance, Program, In, Out, bytes_of, Vec, entries, IsChannel, IsProcess, declared_of, declared_channels, handed, handed_in, handed_from, parameters_of, side_at, Handover, global, handed_by, CheckFault, NoMemory, Unknown, verdict, IsMet, most_channels, most_instances, too_many, repeated, process_faults, miscounted, made_faults, side_faults, channel_parts, declaration_parts, instance_parts, parts, side_parts, firsts, first_alone, faults_by_part, unless_empty, StandAlike, kept_first, AreAsMany, HaveKept, HasTold, HaveToldNames, first_fault, fault_alone, first_then, name_faults, HasAdded, HasAddedFirst, seat_faults, seats_parts, sides_parts, Ends, taken, place_faults, places_faults, made_in, meant, handed_to, handed_all, side_in, as_lines, Table, as_channels, more_channels, more_declared, more_process, all_handed, table, link_made, link_side, handed_same, taken_append, taken_more}
+use Rattle.kahn_check.proofs.Common.{◌≡◌, inl, inr, ℕ, suc, ◌+◌, ◌≤◌, List, [], ◌∷◌, ◌++◌, map, length, Option, None, Some, refl, ap, sym, ◌∙◌, subst, append_assoc, bytes_eq, arith, ◌==◌, eqb-true, true≢false, Bool, true, false, option_or, append-nil, map-append, lookup, Name, Kind, Role, Direction, Process, Parameter, Argument, Declaration, Instance, Program, In, Out, bytes_of, Vec, entries, IsChannel, IsProcess, declared_of, declared_channels, handed, handed_in, handed_from, parameters_of, side_at, Handover, global, handed_by, CheckFault, NoMemory, Unknown, verdict, IsMet, most_channels, most_instances, too_many, repeated, process_faults, miscounted, made_faults, side_faults, channel_parts, declaration_parts, instance_parts, parts, side_parts, firsts, first_alone, faults_by_part, unless_empty, StandAlike, kept_first, AreAsMany, HaveKept, HasTold, HaveToldNames, first_fault, fault_alone, first_then, name_faults, HasAdded, HasAddedFirst, seat_faults, seats_parts, sides_parts, Ends, taken, place_faults, places_faults, made_in, meant, handed_to, handed_all, side_in, as_lines, Table, as_channels}
 use Rattle.std.specs.{Result.result_err, declared.alloc.Global.Global}
 use Rattle.kahn_streams.specs.declared.tree.Declaration.TheVariants as D
 use Rattle.kahn_streams.specs.Wiring
 use Rattle.kahn_check.proofs.Alike.{alike_more, alike_on, alike_kept, alike_is, same_names, same_declarations, same_places, same_seats, same_sides}
-use Rattle.kahn_check.proofs.{Parts.firsts_append}
+use Rattle.kahn_check.proofs.{Declared.more_channels, Declared.more_declared, Declared.more_process, Linked.all_handed, Linked.table, Linked.link_made, Linked.link_side, Linked.handed_same, Parts.firsts_append, Placed.taken_append, Placed.taken_more}
 
 pub alone : (fs : List CheckFault) → fault_alone (first_fault fs) ≡ first_alone fs
 alone [] = refl

@@ -1,5 +1,6 @@
 -- An answer put together from cells at rest is right.
-use Rattle.kahn_sequential.proofs.Common.{⊎_elim, fun_ext, arith, ◌≡◌, ◌⊎◌, inl, inr, ℕ, ◌<◌, ◌≤◌, List, [], length, map, refl, sym, ap, ◌∙◌, subst, true, Option, Some, None, slice_get, pos, sum_by, ◌+◌, ◌∷◌, zero, suc, false, true≢false, Bool, same_Some, Line, Channel, Print, Number, Dry, Cut, Got, Fault, Store, Network, idle, Reads, Writes, Hands, instance_at, actual_at, Source, Given, Written, Nobody, Histories, Inputs, tapes_of, exec_at, out, values_at, goes_to, source, fed, input_list, iterate, IsPrefix, Stands, IsWhole, HasEnd, Ending, ending, IsQuiet, IsSettled, begins_nil, prefix_refl, settled, AllStand, View, AreKeptTokens, is_streamed, token_value, Answer, Stream, Token, Verdict, Finished, Bound, Memory, Ended, Faulted, More, AreRight, IsRight, IsOutcome, IsWaiting, IsDryOn, IsEnd, HasStream, values_of, no_view, view_at, IsFrom, IsGiven, IsOutcomeOf, stand_in, StoodBy, cases_lt, there, none-some, get_or_past, Tapes, sent_on, sent_stands, exec_on, Stays, sum_by-cons, end_events, view_events, stream_lines, AreStreams, IsConcluded, IsVerdict, HasEndIn, RunState, End, Outcome, Waits, and_more, tape_of, length-append, prefix_stands, both_stand, reads_or, nothing_more, same_writer, more, same_left, same_sends, same_outcome, next_event, get_map}
+use Rattle.kahn_sequential.proofs.Common.{⊎_elim, fun_ext, arith, ◌≡◌, ◌⊎◌, inl, inr, ℕ, ◌<◌, ◌≤◌, List, [], length, map, refl, sym, ap, ◌∙◌, subst, true, Option, Some, None, slice_get, pos, sum_by, ◌+◌, ◌∷◌, zero, suc, false, true≢false, Bool, same_Some, Line, Channel, Print, Number, Dry, Cut, Got, Fault, Store, Network, idle, Reads, Writes, Hands, instance_at, actual_at, Source, Given, Written, Nobody, Histories, Inputs, tapes_of, exec_at, out, values_at, goes_to, source, fed, input_list, iterate, IsPrefix, Stands, IsWhole, HasEnd, Ending, ending, IsQuiet, IsSettled, begins_nil, prefix_refl, settled, AllStand, View, AreKeptTokens, is_streamed, token_value, Answer, Stream, Token, Verdict, Finished, Bound, Memory, Ended, Faulted, More, AreRight, IsRight, IsOutcome, IsWaiting, IsDryOn, IsEnd, HasStream, values_of, no_view, view_at, IsFrom, IsGiven, IsOutcomeOf, stand_in, StoodBy, cases_lt, there, none-some, get_or_past, Tapes, sent_on, sent_stands, exec_on, Stays, sum_by-cons, end_events, view_events, stream_lines, AreStreams, IsConcluded, IsVerdict, HasEndIn, RunState, End, Outcome, Waits, and_more, tape_of, length-append}
+use Rattle.kahn_sequential.proofs.{Lists.prefix_stands, Lists.both_stand, Lists.reads_or, Lists.nothing_more, Lists.same_writer, Events.more, Events.same_left, Events.same_sends, Events.same_outcome, Events.next_event, Benched.get_map}
 use Rattle.kahn_streams.specs.Script as script
 use Rattle.kahn_streams.specs.Solution as net
 

@@ -55,7 +55,7 @@ pub use Rattle.std.proofs.lemmas.Bool.{cases_eq, cases_lt}
 pub use Rattle.std.proofs.lemmas.Bool.Decides.{nat_tests}
 pub use Rattle.std.proofs.lemmas.List.Folds.{fold-map}
 pub use Rattle.std.proofs.lemmas.List.Sums.{get_or-le-sum_by, sum_by-cons, sum_by-set}
-pub use Rattle.std.proofs.lemmas.List.{get_or-map, get_or-set_other, get_or_past, length-map, map-append, map-set, replicate-append-replicate, take_all, take_at, drop_all, length-append, length-set, length-take-le}
+pub use Rattle.std.proofs.lemmas.List.{get_or-map, get_or-set_other, get_or_past, length-map, map-append, map-set, replicate-append-replicate, take_all, take_at, drop_all, length-append, length-set}
 pub use Rattle.std.proofs.lemmas.Option.{get_or_from_slice_get, none-some, same_Some, slice_get-get_or, slice_get_read, slice_get_within}
 pub use Rattle.std.proofs.lemmas.Result.{err_from_is_err_and}
 pub use Rattle.std.specs.Option.{SomeIff}
@@ -65,17 +65,3 @@ pub use Rattle.kahn_sequential.specs.inner.Recording.{AreCountsOf, AreOpenChanne
 pub use Rattle.std.proofs.Common.{⊎_elim, Bool, List, None, Option, Some, [], add-one, ap, append-nil, append_assoc, arith, bytes_eq, cond, drop, drop-cons, eq-eqb, eqb-true, false, if◌then◌else◌, inl, inr, le_of_suc-le-suc, le_refl, le_trans, length, map, max, min, not-suc-le-zero, pos, refl, replicate, rules, slice_get, slice_index_or, slice_set, subst, suc, suc-le-suc, sum_by, sym, take, true, true≢false, vec_capacity, zero, ℕ, ◌++◌, ◌+◌, ◌-◌, ◌<◌, ◌==◌, ◌^◌, ◌||◌, ◌↔◌, ◌∙◌, ◌∷◌, ◌≡◌, ◌≢◌, ◌≤◌, ◌⊎◌}
 pub use mathlib.Core.Path.{fun_ext}
 pub use Rattle.std.specs.declared.{alloc.Global.Global, vec.Vec.Vec}
-pub use Rattle.kahn_sequential.proofs.Assembling.{are_right, assembled, assembled_long, assembled_taken, assembled_whole, kept_values, nobodys_values, printed_values, whole_tapes}
-pub use Rattle.kahn_sequential.proofs.Benched.{get_map, got, same_actual, seated_at, sent_there, taken_there, viewed, within_get}
-pub use Rattle.kahn_sequential.proofs.Emptied.{all_stand_by, fresh_within}
-pub use Rattle.kahn_sequential.proofs.Events.{more, next_event, none_sent, one_or_other, same_left, same_outcome, same_sends}
-pub use Rattle.kahn_sequential.proofs.Filled.{are_streams, filling_goes, next_declared}
-pub use Rattle.kahn_sequential.proofs.Giving.{input_role}
-pub use Rattle.kahn_sequential.proofs.Growing.{kept_grows, one_event, printed_grows, sent_grows}
-pub use Rattle.kahn_sequential.proofs.Lists.{ChangedTo, all_changed, all_of_it, both_stand, map_changed, map_map, next_old, nothing_more, old_item, one_changed, one_of_sum, prefix_stands, reads_or, same_writer, sum_over}
-pub use Rattle.kahn_sequential.proofs.Named.{HasLine, declared, has_line, line_at, once}
-pub use Rattle.kahn_sequential.proofs.Noted.{nobody_reads, nobody_woken, own_reader, reader_is, woken_as}
-pub use Rattle.kahn_sequential.proofs.Once_written.{input_watched, written_once, wrote}
-pub use Rattle.kahn_sequential.proofs.Recording.{Adds, adds_one, all_added}
-pub use Rattle.kahn_sequential.proofs.Tapping.{found, left_whole, sent_here, tap_at, worked_on}
-pub use Rattle.kahn_streams.proofs.Given_values.{no_channel}

@@ -1,6 +1,7 @@
 -- Cells that let go of all that they kept, and how all stand.
-use Rattle.kahn_sequential.proofs.Common.{⊎_elim, arith, ◌≡◌, ◌⊎◌, inl, inr, ℕ, zero, suc, ◌+◌, ◌<◌, ◌≤◌, true, Option, List, [], ◌∷◌, ◌++◌, length, map, refl, sym, ap, ◌∙◌, subst, Some, None, slice_get, slice_index_or, slice_set, length-set, HasForgotten, cases_eq, set_each, set_here, slice_get_read, length-map, Program, Input, network_of, instance_at, role_at, Lists, inputs_of, Token, StoodBy, AreQueued, taken_of, waiting_of, tokens, CellView, told_view, Gone, nothing_gone, Tapped, Seen, same_Some, seen_at, seen_of, unseen, AllStandBy, HasEmptied, IsLaid, IsSeated, StandsAsTold, Table, gone_in, table_of, told_in, HaveChanged, mapped_at, cases_lt, Lines as Queues, Woken, AreSpent, AreSpentBut, IsTakenFrom, IsWoken, HasSpent, IsSameTap, IsSpent, IsSpentBy, IsSpentTap, got, get_map, found, tap_at, old_item, map_changed, map_map, no_channel}
-use Rattle.kahn_sequential.proofs.{Benched.mapped}
+use Rattle.kahn_sequential.proofs.Common.{⊎_elim, arith, ◌≡◌, ◌⊎◌, inl, inr, ℕ, zero, suc, ◌+◌, ◌<◌, ◌≤◌, true, Option, List, [], ◌∷◌, ◌++◌, length, map, refl, sym, ap, ◌∙◌, subst, Some, None, slice_get, slice_index_or, slice_set, length-set, HasForgotten, cases_eq, set_each, set_here, slice_get_read, length-map, Program, Input, network_of, instance_at, role_at, Lists, inputs_of, Token, StoodBy, AreQueued, taken_of, waiting_of, tokens, CellView, told_view, Gone, nothing_gone, Tapped, Seen, same_Some, seen_at, seen_of, unseen, AllStandBy, HasEmptied, IsLaid, IsSeated, StandsAsTold, Table, gone_in, table_of, told_in, HaveChanged, mapped_at, cases_lt, Lines as Queues, Woken, AreSpent, AreSpentBut, IsTakenFrom, IsWoken, HasSpent, IsSameTap, IsSpent, IsSpentBy, IsSpentTap}
+use Rattle.kahn_sequential.proofs.{Benched.got, Benched.mapped, Benched.get_map, Tapping.found, Tapping.tap_at, Lists.old_item, Lists.map_changed, Lists.map_map}
+use Rattle.kahn_streams.proofs.Given_values.{no_channel}
 
 -- ---- what it makes of a bench
 

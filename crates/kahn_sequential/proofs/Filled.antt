@@ -1,5 +1,6 @@
 -- Streams filled from the lists of the cells, one by one.
-use Rattle.kahn_sequential.proofs.Common.{Option, arith, ◌≡◌, ℕ, ◌<◌, ◌≤◌, List, [], length, map, Some, refl, sym, ap, ◌∙◌, subst, slice_get, slice_set, slice_index_or, ◌+◌, zero, suc, ◌∷◌, Program, Lists, CellView, AreKeptOf, AreOpen, network_of, inputs_of, told_view, map-set, length-map, get_or-set_other, get_or-map, slice_get-get_or, Line, Channel, Print, Token, source, Network, Writes, Source, Given, Written, Nobody, instance_at, actual_at, Kept, HaveChanged, Stream, RunState, AreStreams, view_at, IsFrom, stream_line, stream_lines, AreNamed, IsDeclared, IsFilled, IsFilledStream, OpensWith, AreLists, KeepsOtherLines, kept_lists, kept_in, printed_list, printed_in, map-set_same, set_each, length-set, map_changed, ChangedTo, next_old, one_changed, old_item, HasLine, has_line, line_at, declared, once}
+use Rattle.kahn_sequential.proofs.Common.{Option, arith, ◌≡◌, ℕ, ◌<◌, ◌≤◌, List, [], length, map, Some, refl, sym, ap, ◌∙◌, subst, slice_get, slice_set, slice_index_or, ◌+◌, zero, suc, ◌∷◌, Program, Lists, CellView, AreKeptOf, AreOpen, network_of, inputs_of, told_view, map-set, length-map, get_or-set_other, get_or-map, slice_get-get_or, Line, Channel, Print, Token, source, Network, Writes, Source, Given, Written, Nobody, instance_at, actual_at, Kept, HaveChanged, Stream, RunState, AreStreams, view_at, IsFrom, stream_line, stream_lines, AreNamed, IsDeclared, IsFilled, IsFilledStream, OpensWith, AreLists, KeepsOtherLines, kept_lists, kept_in, printed_list, printed_in, map-set_same, set_each, length-set}
+use Rattle.kahn_sequential.proofs.{Lists.map_changed, Lists.ChangedTo, Lists.next_old, Lists.one_changed, Lists.old_item, Named.HasLine, Named.has_line, Named.line_at, Named.declared, Named.once}
 
 -- ---- one list of a cell changed
 

@@ -1,6 +1,6 @@
 -- A flow: what its parts, more input and letting go make of it.
-use Rattle.kahn_sequential.proofs.Common.{vec_capacity, sum_by, arith, ◌≡◌, ◌⊎◌, inl, inr, true, ℕ, suc, ◌+◌, ◌-◌, ◌<◌, ◌≤◌, ◌^◌, List, [], ◌∷◌, ◌++◌, length, map, replicate, take, refl, sym, ap, ◌∙◌, subst, append-nil, Option, Some, slice_get, slice_index_or, length-map, map-append, take_all, take_at, Source, Given, Written, Nobody, Writes, channel_source, network_of, instance_at, actual_at, role_at, Token, Value, Line, Channel, Print, AreInputsExtended, source, Lists, inputs_of, none_of, prefix_refl, View, token_value, IsPoured, tokens, told_view, Gone, nothing_gone, poured_grown, GoesOn, IsLineOf, HeldRun, given_so_far, seen_at, seen_of, so_far, writing, stream_lines, Verdict, all_events, IsConcluded, AreEnded, AreNew, HasLetGo, IsRunOn, AreLent, IsFlowOf, flow_of, let_go_by, let_go_of, run_of_bench, no_view, AreAllGiven, AllStandBy, AreWhole, HasEmptied, HasTakenIn, HasWorked, IsLaid, IsVerdict, Table, sight_of, writes, HaveRisen, Plan, Program, seen_events, length-append, End, PartEnd, Woken, IsPartEnd, AreNoted, AreSpent, IsWoken, Global, Vec, IsStale, HoldNumbers, IsNumberOf, IsSpent, input_role, input_watched, written_once, HasLine, has_line}
-use Rattle.kahn_sequential.proofs.{Benched.mapped, Going_on.Grows, Going_on.goes_on, Going_on.grows_not, Going_on.seen_grows, Righted.events_seen, Righted.settled_by}
+use Rattle.kahn_sequential.proofs.Common.{vec_capacity, sum_by, arith, ◌≡◌, ◌⊎◌, inl, inr, true, ℕ, suc, ◌+◌, ◌-◌, ◌<◌, ◌≤◌, ◌^◌, List, [], ◌∷◌, ◌++◌, length, map, replicate, take, refl, sym, ap, ◌∙◌, subst, append-nil, Option, Some, slice_get, slice_index_or, length-map, map-append, take_all, take_at, Source, Given, Written, Nobody, Writes, channel_source, network_of, instance_at, actual_at, role_at, Token, Value, Line, Channel, Print, AreInputsExtended, source, Lists, inputs_of, none_of, prefix_refl, View, token_value, IsPoured, tokens, told_view, Gone, nothing_gone, poured_grown, GoesOn, IsLineOf, HeldRun, given_so_far, seen_at, seen_of, so_far, writing, stream_lines, Verdict, all_events, IsConcluded, AreEnded, AreNew, HasLetGo, IsRunOn, AreLent, IsFlowOf, flow_of, let_go_by, let_go_of, run_of_bench, no_view, AreAllGiven, AllStandBy, AreWhole, HasEmptied, HasTakenIn, HasWorked, IsLaid, IsVerdict, Table, sight_of, writes, HaveRisen, Plan, Program, seen_events, length-append, End, PartEnd, Woken, IsPartEnd, AreNoted, AreSpent, IsWoken, Global, Vec, IsStale, HoldNumbers, IsNumberOf, IsSpent}
+use Rattle.kahn_sequential.proofs.{Benched.mapped, Giving.input_role, Going_on.Grows, Going_on.goes_on, Going_on.grows_not, Going_on.seen_grows, Once_written.input_watched, Once_written.written_once, Named.HasLine, Named.has_line, Righted.events_seen, Righted.settled_by}
 
 -- ---- it goes on
 

@@ -1,6 +1,6 @@
 -- Cells that have done no fewer events: their streams have grown.
-use Rattle.kahn_sequential.proofs.Common.{arith, ◌≡◌, ◌⊎◌, inl, inr, ℕ, zero, suc, ◌≤◌, List, [], ◌∷◌, length, map, refl, sym, subst, Option, Some, slice_get, slice_index_or, Program, Line, Source, Given, Written, Nobody, network_of, instance_at, Channel, Print, AreInputsExtended, IsPrefix, source, inputs_of, prefix_refl, begins_nil, token_value, CellView, told_view, GoesOn, HeldRun, Seen, seen_at, seen_of, unseen, given_so_far, so_far, writing, AllStandBy, HaveRisen, got, within_get, kept_grows, printed_grows}
-use Rattle.kahn_sequential.proofs.{Benched.mapped}
+use Rattle.kahn_sequential.proofs.Common.{arith, ◌≡◌, ◌⊎◌, inl, inr, ℕ, zero, suc, ◌≤◌, List, [], ◌∷◌, length, map, refl, sym, subst, Option, Some, slice_get, slice_index_or, Program, Line, Source, Given, Written, Nobody, network_of, instance_at, Channel, Print, AreInputsExtended, IsPrefix, source, inputs_of, prefix_refl, begins_nil, token_value, CellView, told_view, GoesOn, HeldRun, Seen, seen_at, seen_of, unseen, given_so_far, so_far, writing, AllStandBy, HaveRisen}
+use Rattle.kahn_sequential.proofs.{Benched.got, Benched.mapped, Benched.within_get, Growing.kept_grows, Growing.printed_grows}
 
 -- more is seen of a process later on: no fewer events, and what it kept and printed has grown
 pub record Grows (x y : Seen) : Type 0 where

@@ -1,5 +1,6 @@
 -- What a process sent by some of its events is a prefix of what it sent by more of them, also for longer inputs.
-use Rattle.kahn_sequential.proofs.Common.{fun_ext, refl, Bool, false, true≢false, ◌≡◌, ◌⊎◌, inl, inr, ℕ, suc, ◌≤◌, [], map, sym, ap, subst, Option, true, List, length, arith, ◌<◌, ◌∙◌, ◌++◌, Actual, Hands, Token, begins_nil, Line, Network, Reads, Writes, instance_at, actual_at, Channel, Print, AreInputsExtended, Inputs, IsPrefix, goes_to, values_at, inputs_grow, prefix_refl, prefix_trans, StoodBy, View, is_streamed, token_value, stand_in, Value, cases_lt, AllStand, sent_on, and_more, empty, Tapes, Begins, exec_on, play_alike, exec_alike, grows_play, script_at, values_append, length-append, one_or_other, same_left, same_sends, reads_or, prefix_stands, both_stand}
+use Rattle.kahn_sequential.proofs.Common.{fun_ext, refl, Bool, false, true≢false, ◌≡◌, ◌⊎◌, inl, inr, ℕ, suc, ◌≤◌, [], map, sym, ap, subst, Option, true, List, length, arith, ◌<◌, ◌∙◌, ◌++◌, Actual, Hands, Token, begins_nil, Line, Network, Reads, Writes, instance_at, actual_at, Channel, Print, AreInputsExtended, Inputs, IsPrefix, goes_to, values_at, inputs_grow, prefix_refl, prefix_trans, StoodBy, View, is_streamed, token_value, stand_in, Value, cases_lt, AllStand, sent_on, and_more, empty, Tapes, Begins, exec_on, play_alike, exec_alike, grows_play, script_at, values_append, length-append}
+use Rattle.kahn_sequential.proofs.{Events.one_or_other, Events.same_left, Events.same_sends, Lists.reads_or, Lists.prefix_stands, Lists.both_stand}
 
 module _ (N : Network) (I J : Inputs) (grown : AreInputsExtended I J) (watch : Option ℕ) (p : ℕ) (c d : View) (old : StoodBy N I watch p c)
     (new : StoodBy N J watch p d) (more : c.events ≤ d.events) where

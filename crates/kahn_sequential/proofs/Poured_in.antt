@@ -1,6 +1,6 @@
 -- A flow that is given more input.
-use Rattle.kahn_sequential.proofs.Common.{nat_tests, drop, arith, ◌≡◌, ℕ, zero, suc, ◌+◌, ◌≤◌, ◌==◌, Bool, true, false, if◌then◌else◌, eqb-true, eq-eqb, true≢false, List, [], ◌∷◌, ◌++◌, length, map, refl, sym, ap, ◌∙◌, subst, append-nil, append_assoc, Option, Some, None, slice_get, slice_index_or, Source, Given, Written, Nobody, network_of, role_at, Token, Value, Line, Channel, Print, Entry, channel_of, most_values, Lists, inputs_of, IsMeant, source, is_watched, stream_lines, token_value, AreQueued, IsPoured, waiting_of, Waiting, Verdict, HasPouredIn, AreLent, Plan, flow_of, let_go_by, let_go_of, HasTakenIn, IsLaid, Table, input_role, HasLine, has_line, input_watched}
-use Rattle.kahn_sequential.proofs.{Flowed.front_of, Flowed.map_on, Flowed.poured_goes_on}
+use Rattle.kahn_sequential.proofs.Common.{nat_tests, drop, arith, ◌≡◌, ℕ, zero, suc, ◌+◌, ◌≤◌, ◌==◌, Bool, true, false, if◌then◌else◌, eqb-true, eq-eqb, true≢false, List, [], ◌∷◌, ◌++◌, length, map, refl, sym, ap, ◌∙◌, subst, append-nil, append_assoc, Option, Some, None, slice_get, slice_index_or, Source, Given, Written, Nobody, network_of, role_at, Token, Value, Line, Channel, Print, Entry, channel_of, most_values, Lists, inputs_of, IsMeant, source, is_watched, stream_lines, token_value, AreQueued, IsPoured, waiting_of, Waiting, Verdict, HasPouredIn, AreLent, Plan, flow_of, let_go_by, let_go_of, HasTakenIn, IsLaid, Table}
+use Rattle.kahn_sequential.proofs.{Flowed.front_of, Flowed.map_on, Flowed.poured_goes_on, Giving.input_role, Named.HasLine, Named.has_line, Once_written.input_watched}
 
 -- ---- the longer input
 

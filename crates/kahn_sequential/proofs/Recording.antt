@@ -1,7 +1,8 @@
 -- What is kept of the channels after a turn, and in the end.
-use Rattle.kahn_sequential.proofs.Common.{nat_tests, ⊎_elim, arith, ◌≡◌, ◌⊎◌, inl, inr, ℕ, suc, ◌+◌, ◌-◌, ◌<◌, ◌≤◌, ◌==◌, Bool, true, false, cond, min, List, [], ◌∷◌, ◌++◌, length, refl, sym, ap, ◌∙◌, subst, Option, Some, None, slice_get, AllStandBy, AreKeptTokens, AreStreams, Answer, Channel, Finished, Given, HasRunCell, HasWorked, HaveChanged, Inner, Input, Inputs, IsConcluded, IsGiven, IsLaid, IsOpenStream, IsRight, IsWhole, Lists, Network, OpensWith, Output, Pause, Program, Reads, Role, Round, RunState, Side, Source, Stream, Table, View, Waiting, Writes, Written, actual_at, all_events, cases_eq, channel_source, events_at, get_or-set_other, given_of, inputs_of, instance_at, is_output, joins_within, length-map, network_of, no_view, one_first, prefix_refl, role_at, sight_of, slice_get_within, source, stream_lines, taken_of, told_view, token_value, turn_of, values_of, view_at, view_events, AllStand, StoodBy, mapped_at, Lines as Queues, Holds, IsServed, IsWriter, inputs, writes, AreCountsOf, AreOpenChannels, AreRecorded, AreTurnShort, HasGiven, IsCountOf, HasOthers, IsRecorded, AreTokensOf, IsSentOn, IsTurnShort, IsWrittenByOthers, StoodIn, TakesTurns, AreRecordedOf, AreTurnShortOf, assembled, assembled_long, assembled_taken, assembled_whole, seated_at, sent_there, taken_there, viewed, none_sent, one_event, sent_grows, all_of_it, both_stand, old_item, one_of_sum, prefix_stands}
+use Rattle.kahn_sequential.proofs.Common.{nat_tests, ⊎_elim, arith, ◌≡◌, ◌⊎◌, inl, inr, ℕ, suc, ◌+◌, ◌-◌, ◌<◌, ◌≤◌, ◌==◌, Bool, true, false, cond, min, List, [], ◌∷◌, ◌++◌, length, refl, sym, ap, ◌∙◌, subst, Option, Some, None, slice_get, AllStandBy, AreKeptTokens, AreStreams, Answer, Channel, Finished, Given, HasRunCell, HasWorked, HaveChanged, Inner, Input, Inputs, IsConcluded, IsGiven, IsLaid, IsOpenStream, IsRight, IsWhole, Lists, Network, OpensWith, Output, Pause, Program, Reads, Role, Round, RunState, Side, Source, Stream, Table, View, Waiting, Writes, Written, actual_at, all_events, cases_eq, channel_source, events_at, get_or-set_other, given_of, inputs_of, instance_at, is_output, joins_within, length-map, network_of, no_view, one_first, prefix_refl, role_at, sight_of, slice_get_within, source, stream_lines, taken_of, told_view, token_value, turn_of, values_of, view_at, view_events, AllStand, StoodBy, mapped_at, Lines as Queues, Holds, IsServed, IsWriter, inputs, writes, AreCountsOf, AreOpenChannels, AreRecorded, AreTurnShort, HasGiven, IsCountOf, HasOthers, IsRecorded, AreTokensOf, IsSentOn, IsTurnShort, IsWrittenByOthers, StoodIn, TakesTurns, AreRecordedOf, AreTurnShortOf}
 use Rattle.kahn_streams.proofs.{Finding.found, Sided.channel_served, Token_lists.token_stands}
 use Rattle.kahn_sequential.specs.{Recordings.AreCountsIn, Recordings.AreHistoriesIn, Recordings.IsHistoryIn, declared.counted.Count.Count}
+use Rattle.kahn_sequential.proofs.{Assembling.assembled, Assembling.assembled_long, Assembling.assembled_taken, Assembling.assembled_whole, Benched.seated_at, Benched.sent_there, Benched.taken_there, Benched.viewed, Events.none_sent, Growing.one_event, Growing.sent_grows, Lists.all_of_it, Lists.both_stand, Lists.old_item, Lists.one_of_sum, Lists.prefix_stands}
 
 -- ---- the queues, as the cells see them
 

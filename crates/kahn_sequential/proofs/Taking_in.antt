@@ -1,5 +1,6 @@
 -- A bench that goes on for a longer input.
-use Rattle.kahn_sequential.proofs.Common.{arith, ◌≡◌, ℕ, zero, suc, ◌+◌, ◌==◌, Bool, true, false, List, [], ◌∷◌, map, refl, sym, ap, ◌∙◌, subst, eqb-true, Option, Some, None, slice_get, if◌then◌else◌, length-map, Program, Input, Actual, Reads, Writes, Hands, network_of, instance_at, actual_at, role_at, writes, AreInputsExtended, Lists, inputs_of, HasPoured, given_of, next_at, place_at, taken_of, waiting_of, Waiting, CellView, told_view, Tapped, regrown_tap, seen_of, HasTakenIn, IsLaid, IsSeated, Table, gone_in, table_of, told_in, Lines as Queues, get_map, map_map}
+use Rattle.kahn_sequential.proofs.Common.{arith, ◌≡◌, ℕ, zero, suc, ◌+◌, ◌==◌, Bool, true, false, List, [], ◌∷◌, map, refl, sym, ap, ◌∙◌, subst, eqb-true, Option, Some, None, slice_get, if◌then◌else◌, length-map, Program, Input, Actual, Reads, Writes, Hands, network_of, instance_at, actual_at, role_at, writes, AreInputsExtended, Lists, inputs_of, HasPoured, given_of, next_at, place_at, taken_of, waiting_of, Waiting, CellView, told_view, Tapped, regrown_tap, seen_of, HasTakenIn, IsLaid, IsSeated, Table, gone_in, table_of, told_in, Lines as Queues}
+use Rattle.kahn_sequential.proofs.{Benched.get_map, Lists.map_map}
 
 given_sum : (o : Option Waiting) → given_of o ≡ taken_of o + waiting_of o
 given_sum None = refl

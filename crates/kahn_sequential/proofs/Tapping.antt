@@ -1,6 +1,6 @@
 -- Taps over plain queues, one of which runs.
-use Rattle.kahn_sequential.proofs.Common.{arith, ◌≡◌, ◌⊎◌, inl, inr, ℕ, ◌<◌, ◌≤◌, List, ◌++◌, length, map, replicate, refl, sym, ap, ◌∙◌, subst, Option, Some, slice_get, slice_set, slice_index_or, StoodIn, StoodBy, count, inputs_of, told_view, map-set_same, get_or-set_other, length-map, map-set, cases_eq, slice_get_read, Program, network_of, Lists, Gone, kept_behind, nothing_gone, Tapped, View, Pause, Kept, HasRunCell, RunState, events_at, no_view, view_at, kept_lists, printed_list, AreKeptOf, HaveChanged, none_of, IsLaid, IsLeft, HasWorked, Table, actual_count, gone_in, parameter_count, sight_of, table_of, told_in, Lines as Queues, get_map, viewed, map_changed, map_map}
-use Rattle.kahn_sequential.proofs.{Benched.mapped, Benched.ran}
+use Rattle.kahn_sequential.proofs.Common.{arith, ◌≡◌, ◌⊎◌, inl, inr, ℕ, ◌<◌, ◌≤◌, List, ◌++◌, length, map, replicate, refl, sym, ap, ◌∙◌, subst, Option, Some, slice_get, slice_set, slice_index_or, StoodIn, StoodBy, count, inputs_of, told_view, map-set_same, get_or-set_other, length-map, map-set, cases_eq, slice_get_read, Program, network_of, Lists, Gone, kept_behind, nothing_gone, Tapped, View, Pause, Kept, HasRunCell, RunState, events_at, no_view, view_at, kept_lists, printed_list, AreKeptOf, HaveChanged, none_of, IsLaid, IsLeft, HasWorked, Table, actual_count, gone_in, parameter_count, sight_of, table_of, told_in, Lines as Queues}
+use Rattle.kahn_sequential.proofs.{Benched.get_map, Benched.mapped, Benched.ran, Benched.viewed, Lists.map_changed, Lists.map_map}
 
 -- ---- later states of a bench
 

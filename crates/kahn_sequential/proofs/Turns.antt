@@ -1,6 +1,7 @@
 -- Rounds over cells.
 use Rattle.std.proofs.Common.{length-append}
-use Rattle.kahn_sequential.proofs.Common.{⊎_elim, arith, ◌≡◌, ◌⊎◌, inl, inr, ℕ, suc, ◌+◌, ◌^◌, ◌<◌, ◌≤◌, [], ◌∷◌, ◌++◌, length, sum_by, refl, sym, ap, ◌∙◌, subst, Some, slice_get, slice_set, Bool, true, false, cond, min, vec_capacity, Store, at_last, Pause, More, Reads, actual_at, instance_at, view_at, IsOutcomeOf, TookAll, Round, RunState, IsPaused, HasEndIn, events_at, view_events, all_events, weight, AreEnds, HasAdvanced, HasTakenTurn, HasRunCell, IsInRound, LacksMemory, Marked, MayRun, PausedAt, no_view, Table, sight_of, sum_by-set, HasWorked, turn_of, length-set, End, Outcome, Waits, worked_on, one_of_sum}
+use Rattle.kahn_sequential.proofs.Common.{⊎_elim, arith, ◌≡◌, ◌⊎◌, inl, inr, ℕ, suc, ◌+◌, ◌^◌, ◌<◌, ◌≤◌, [], ◌∷◌, ◌++◌, length, sum_by, refl, sym, ap, ◌∙◌, subst, Some, slice_get, slice_set, Bool, true, false, cond, min, vec_capacity, Store, at_last, Pause, More, Reads, actual_at, instance_at, view_at, IsOutcomeOf, TookAll, Round, RunState, IsPaused, HasEndIn, events_at, view_events, all_events, weight, AreEnds, HasAdvanced, HasTakenTurn, HasRunCell, IsInRound, LacksMemory, Marked, MayRun, PausedAt, no_view, Table, sight_of, sum_by-set, HasWorked, turn_of, length-set, End, Outcome, Waits}
+use Rattle.kahn_sequential.proofs.{Tapping.worked_on, Lists.one_of_sum}
 use Rattle.kahn_streams.specs.Script as script
 use Rattle.kahn_code.specs.declared.progress.Pause.TheVariants as pause
 

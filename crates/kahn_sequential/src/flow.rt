@@ -2,7 +2,8 @@
 
 ghost use Rattle.std.specs.Prelude.{◌≡◌, ◌↔◌, ℕ, ◌+◌, ◌++◌, ◌<◌, ◌≤◌, ◌^◌, [], Some, length, map, slice_get, sum_by, false, true, vec_capacity, IfOk, IsTrue, MatchResult, OnOk};
 ghost use Rattle.kahn_sequential.specs.inner.Below.{Holds, Input as InputRole, Names, Value as ValueOf, Verdict as VerdictOf, inputs_of, is_watched, network_of, role_at, stream_lines, token_value};
-ghost use Rattle.kahn_sequential.specs.{HeldRuns.IsLineOf, HeldRuns.IsRightSoFar, HeldRuns.IsUnstarted, HeldRuns.seen_events, Flows.AreNew, Flows.HasFlowed, Flows.HasLetGo, Flows.HasPouredIn, Flows.IsNotRun, Flows.IsRunOn, Flows.IsStale, Flows.IsUnpoured};
+ghost use Rattle.kahn_sequential.specs.HeldRuns.{IsLineOf, IsRightSoFar, IsUnstarted, seen_events};
+ghost use Rattle.kahn_sequential.specs.Flows.{AreNew, HasFlowed, HasLetGo, HasPouredIn, IsNotRun, IsRunOn, IsStale, IsUnpoured};
 
 use crate::bench::Sequential;
 use crate::held_fault::HeldFault;

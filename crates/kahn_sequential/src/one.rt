@@ -1,6 +1,9 @@
 //! A run on the caller's thread.
 
-ghost use Rattle.kahn_sequential.specs.{inner.Below.IsCutShort, inner.Below.IsRight, inner.Below.Settles, inner.Below.inputs_of, inner.Below.network_of, HeldRuns.IsRefusedRun, inner.FlowBench.IsPartEnd, inner.Workbench.AreStreamsReady, inner.Workbench.AreWhole, inner.Workbench.IsRightAlone, inner.Workbench.IsWide};
+ghost use Rattle.kahn_sequential.specs.inner.Below.{IsCutShort, IsRight, Settles, inputs_of, network_of};
+ghost use Rattle.kahn_sequential.specs.HeldRuns.{IsRefusedRun};
+ghost use Rattle.kahn_sequential.specs.inner.FlowBench.{IsPartEnd};
+ghost use Rattle.kahn_sequential.specs.inner.Workbench.{AreStreamsReady, AreWhole, IsRightAlone, IsWide};
 ghost use Rattle.std.specs.Prelude.{◌≡◌, ◌<◌, ◌^◌, length, IfOk, IfErr, None, vec_capacity};
 
 use crate::bench::Sequential;

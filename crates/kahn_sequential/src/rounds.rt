@@ -4,7 +4,8 @@
 //! Which these are, and whether there is work for several workers, are hints (`awake.rt`, `run_queue.rt`, `looks.rt`). They have no
 //! clauses on purpose, since no answer depends on them: they only save time.
 
-ghost use Rattle.kahn_sequential.specs.{inner.Bench.HasRunCell, inner.Bench.PausedAt, inner.Bench.HasEndIn, inner.Bench.IsVerdict, inner.Bench.all_events, inner.Bench.events_at, inner.FlowBench.IsPartEnd};
+ghost use Rattle.kahn_sequential.specs.inner.Bench.{HasRunCell, PausedAt, HasEndIn, IsVerdict, all_events, events_at};
+ghost use Rattle.kahn_sequential.specs.inner.FlowBench.{IsPartEnd};
 ghost use Rattle.kahn_sequential.specs.inner.Workbench.{HasAdvanced, HasComeToRest, HasTakenTurn, HasVisited, HasWorked, IsInRound, IsMarked, MayGoOn, MayRun, sight_of, turn_of, weight};
 ghost use Rattle.kahn_streams.specs.declared.answer.Outcome.TheVariants as outcome;
 ghost use Rattle.kahn_code.specs.declared.progress.Pause.TheVariants as pause;

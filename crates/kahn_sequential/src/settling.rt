@@ -1,7 +1,11 @@
 //! A part of a run for which the ends of the part before were noted: only the instances that were woken since have turns, and those that
 //! they wake, as long as that is little to do.
 
-ghost use Rattle.kahn_sequential.specs.{inner.Below.More, inner.Bench.all_events, inner.FlowBench.IsPartEnd, inner.Noted.AreAtRest, inner.Noted.AreNoted, inner.Noted.AreNotedBut, inner.Noted.AreSpent, inner.Workbench.HasAdvanced, inner.Workbench.HasWorked, inner.Workbench.MayRun, inner.Workbench.sight_of};
+ghost use Rattle.kahn_sequential.specs.inner.Below.{More};
+ghost use Rattle.kahn_sequential.specs.inner.Bench.{all_events};
+ghost use Rattle.kahn_sequential.specs.inner.FlowBench.{IsPartEnd};
+ghost use Rattle.kahn_sequential.specs.inner.Noted.{AreAtRest, AreNoted, AreNotedBut, AreSpent};
+ghost use Rattle.kahn_sequential.specs.inner.Workbench.{HasAdvanced, HasWorked, MayRun, sight_of};
 ghost use Rattle.std.specs.Prelude.{◌≡◌, ◌<◌, ◌≤◌, ◌+◌, ◌^◌, length, false, true, vec_capacity, IsTrue};
 
 use crate::bench::Sequential;

@@ -1,6 +1,8 @@
 //! The taps of all processes of a network, one after another.
 
-ghost use Rattle.kahn_sequential.specs.{inner.Below.AreCounts, inner.Below.HasForgotten, inner.Below.Lists, inner.Below.Tapped, inner.Below.network_of, inner.Noted.AreSpentBut, inner.Streams.HaveChanged};
+ghost use Rattle.kahn_sequential.specs.inner.Below.{AreCounts, HasForgotten, Lists, Tapped, network_of};
+ghost use Rattle.kahn_sequential.specs.inner.Noted.{AreSpentBut};
+ghost use Rattle.kahn_sequential.specs.inner.Streams.{HaveChanged};
 ghost use Rattle.kahn_sequential.specs.inner.Workbench.{AreOpeningCells, AreWhole, HasSpent, IsSameTap, IsLeft, IsSpentTap, StandsAsTold, gone_in, told_in};
 ghost use Rattle.std.specs.Prelude.{◌≡◌, ◌<◌, ◌≤◌, ℕ, [], Some, length, map, slice_get, true, vec_capacity, IfOk};
 

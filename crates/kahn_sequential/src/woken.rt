@@ -1,7 +1,8 @@
 //! The instances that were woken: those that may stand otherwise than it was noted, or keep more than was let go of.
 
 ghost use Rattle.std.specs.Prelude.{◌≡◌, ◌<◌, false, length, true, IfOk, IfSome};
-ghost use Rattle.kahn_sequential.specs.{inner.Below.Finished, inner.Noted.HasWoken, inner.Noted.IsTakenFrom};
+ghost use Rattle.kahn_sequential.specs.inner.Below.{Finished};
+ghost use Rattle.kahn_sequential.specs.inner.Noted.{HasWoken, IsTakenFrom};
 
 use kahn_streams::{NoMemory, Verdict};
 use std::alloc::Global;

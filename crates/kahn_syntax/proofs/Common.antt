@@ -28,16 +28,6 @@ pub use Rattle.std.specs.Char.{to_ascii_lowercase}
 pub use Rattle.std.specs.Int.{IsInRange}
 pub use Rattle.std.specs.Prelude.{All, FitsSigned, IfOk, IsCharBoundary, IsUtf8, MatchResult, codes, nat_le, slice_range, is_some, slice_index, ◌||◌}
 pub use Rattle.std.specs.Str.Parse.{ParsesSigned, digits_value}
-pub use Rattle.kahn_syntax.proofs.Cuts.{lexed_cut, lexed_slices, run_cut}
-pub use Rattle.kahn_syntax.proofs.Keywords.{keyword_short, not_comment, same_keyword}
-pub use Rattle.kahn_syntax.proofs.Meaning.{terminals_append, terminals_length}
-pub use Rattle.kahn_syntax.proofs.NoList.{fault_inside, long_comment, no_list}
-pub use Rattle.kahn_syntax.proofs.Runs.{length_slice, run_large, run_value}
-pub use Rattle.kahn_syntax.proofs.Signs.{digit_blank, letter_blank, letter_digit, same_sign, sign_begins, sign_blank, sign_by_bytes, sign_digit, sign_letter}
-pub use Rattle.kahn_syntax.proofs.Steps.{IsChain, go, skip_level, skip_tail, take_token}
-pub use Rattle.kahn_syntax.proofs.Unique.{IsNoneOrOne, le_or, rank_within, tail_is}
-pub use Rattle.kahn_syntax.proofs.Viable.{Fits, fits_nothing, fits_some, further}
-pub use Rattle.kahn_syntax.proofs.WholePrograms.{skip_variables, take_kind, whole_program}
 
 -- the node of a level, or the first operand alone where there is no other
 abbrev pub level_or_first : ExpressionTree → OperandTrees → ExpressionTree

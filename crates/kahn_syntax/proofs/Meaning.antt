@@ -1,5 +1,6 @@
 -- What the fate of a list says of trees.
-use Rattle.kahn_syntax.proofs.Common.{◌≡◌, ℕ, ◌+◌, ◌≤◌, ◌<◌, List, [], ◌∷◌, ◌++◌, length, Bool, true, false, refl, sym, ap, ◌∙◌, subst, arith, ⊎_elim, append_assoc, Lexeme, Span, Stop, Refused, TooDeep, NoMemory, Semicolon, Terminal, sign, terminal, terminals, ProgramTree, program, Spells, May, StandsFirst, nesting, IsSentence, Begins, BeginsWithin, IsNothing, IsOther, IsTooDeep, StandsAt, Placed, ProgramPart, Fate, Refuses, TooFar, fate, Halts, whole_program, le_or, Fits}
+use Rattle.kahn_syntax.proofs.Common.{◌≡◌, ℕ, ◌+◌, ◌≤◌, ◌<◌, List, [], ◌∷◌, ◌++◌, length, Bool, true, false, refl, sym, ap, ◌∙◌, subst, arith, ⊎_elim, append_assoc, Lexeme, Span, Stop, Refused, TooDeep, NoMemory, Semicolon, Terminal, sign, terminal, terminals, ProgramTree, program, Spells, May, StandsFirst, nesting, IsSentence, Begins, BeginsWithin, IsNothing, IsOther, IsTooDeep, StandsAt, Placed, ProgramPart, Fate, Refuses, TooFar, fate, Halts}
+use Rattle.kahn_syntax.proofs.{WholePrograms.whole_program, Unique.le_or, Viable.Fits}
 use Rattle.kahn_syntax.proofs.Reached.{Stuck, stuck_at, short_at, Deep, deep_at, refuses_left, far_left, whole_refuses, whole_far}
 
 pub terminals_append : (text : List ℕ) (xs ys : List Lexeme) → terminals text (xs ++ ys) ≡ terminals text xs ++ terminals text ys

@@ -1,6 +1,7 @@
 -- A text with a fault has no list of lexemes.
-use Rattle.kahn_syntax.proofs.Common.{◌≡◌, ℕ, ◌+◌, ◌-◌, ◌≤◌, ◌<◌, List, length, get_or, sym, ap, subst, ◌∙◌, arith, length-map, codes, slice_range, to_ascii_lowercase, digits_value, SyntaxFault, TooLong, BadCharacter, NumberTooLarge, CommentOpen, NameTooLong, Expected, Lexeme, Class, Word, Number, IsBlank, IsWord, IsRun, HasForm, IsLongest, IsSpelled, IsCommentWord, IsOfClass, IsLexemeAt, Closes, IsComment, Lexed, largest_number, letters_of, IsFaultAt, keyword_short, length_slice, sign_begins, sign_letter, sign_digit, letter_digit}
+use Rattle.kahn_syntax.proofs.Common.{◌≡◌, ℕ, ◌+◌, ◌-◌, ◌≤◌, ◌<◌, List, length, get_or, sym, ap, subst, ◌∙◌, arith, length-map, codes, slice_range, to_ascii_lowercase, digits_value, SyntaxFault, TooLong, BadCharacter, NumberTooLarge, CommentOpen, NameTooLong, Expected, Lexeme, Class, Word, Number, IsBlank, IsWord, IsRun, HasForm, IsLongest, IsSpelled, IsCommentWord, IsOfClass, IsLexemeAt, Closes, IsComment, Lexed, largest_number, letters_of, IsFaultAt}
 use Rattle.kahn_syntax.specs.{declared.fault.SyntaxFault.TheVariants.TooDeep, declared.fault.SyntaxFault.TheVariants.NoMemory, declared.lexeme.Class.TheVariants.Name, declared.lexeme.Class.TheVariants.Sign}
+use Rattle.kahn_syntax.proofs.{Keywords.keyword_short, Runs.length_slice, Signs.sign_begins, Signs.sign_letter, Signs.sign_digit, Signs.letter_digit}
 use Rattle.kahn_syntax.proofs.OneList.{Walk, ends, then, blank, comment, lexeme, walk, walk_end, run_first, form_grows, form_dark, same_end, no_comment, same_item}
 
 abbrev Rest : List ℕ → ℕ → ℕ → Type 0

@@ -1,7 +1,7 @@
 -- A text has one fault, want of memory aside.
-use Rattle.kahn_syntax.proofs.Common.{IsCharacter, slice_index, ◌+◌, ◌≤◌, IsBlank, IsRun, IsWord, IsCommentWord, HasForm, largest_number, digits_value, slice_range, ◌≡◌, ℕ, ◌<◌, ◌⊎◌, List, [], ◌∷◌, ◌++◌, length, inl, inr, refl, sym, ap, subst, ◌∙◌, arith, append_assoc, append-nil, Span, Lexeme, SyntaxFault, TooLong, BadCharacter, NumberTooLarge, CommentOpen, NameTooLong, Expected, More, Nothing, Other, IsLongest, IsReached, IsLexFault, most_bytes, IsFaultAt, Terminal, terminal, terminals, Spells, Begins, BeginsWithin, IsNothing, IsOther, IsTooDeep, IsFault, AreLexemes, IsTextFault, terminals_append, no_list, fault_inside, long_comment, letter_digit}
+use Rattle.kahn_syntax.proofs.Common.{IsCharacter, slice_index, ◌+◌, ◌≤◌, IsBlank, IsRun, IsWord, IsCommentWord, HasForm, largest_number, digits_value, slice_range, ◌≡◌, ℕ, ◌<◌, ◌⊎◌, List, [], ◌∷◌, ◌++◌, length, inl, inr, refl, sym, ap, subst, ◌∙◌, arith, append_assoc, append-nil, Span, Lexeme, SyntaxFault, TooLong, BadCharacter, NumberTooLarge, CommentOpen, NameTooLong, Expected, More, Nothing, Other, IsLongest, IsReached, IsLexFault, most_bytes, IsFaultAt, Terminal, terminal, terminals, Spells, Begins, BeginsWithin, IsNothing, IsOther, IsTooDeep, IsFault, AreLexemes, IsTextFault}
 use Rattle.kahn_syntax.specs.declared.fault.SyntaxFault.TheVariants.{TooDeep, NoMemory}
-use Rattle.kahn_syntax.proofs.{OneList.order, OneList.run_first, OneList.same_end, OneList.same_lexemes}
+use Rattle.kahn_syntax.proofs.{Meaning.terminals_append, NoList.no_list, NoList.fault_inside, NoList.long_comment, OneList.order, OneList.run_first, OneList.same_end, OneList.same_lexemes, Signs.letter_digit}
 
 abbrev Agree : SyntaxFault → SyntaxFault → Type 0
 Agree e f = (e ≡ NoMemory) ⊎ (f ≡ NoMemory) ⊎ (e ≡ f)

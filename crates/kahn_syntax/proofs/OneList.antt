@@ -1,6 +1,7 @@
 -- A text has one list of lexemes.
-use Rattle.kahn_syntax.proofs.Common.{◌≡◌, ℕ, ◌+◌, ◌≤◌, ◌<◌, ◌⊎◌, ◌++◌, List, [], ◌∷◌, get_or, refl, sym, ap, subst, ◌∙◌, arith, inl, inr, nat_tests, Lexeme, Class, Word, Number, IsBlank, IsRun, HasForm, IsLongest, IsCommentWord, IsOfClass, IsLexemeAt, Closes, IsComment, Gap, no_gap, then_blank, then_comment, Lexed, same_keyword, not_comment, sign_begins, same_sign, sign_letter, sign_digit, sign_blank, letter_digit, letter_blank, digit_blank}
+use Rattle.kahn_syntax.proofs.Common.{◌≡◌, ℕ, ◌+◌, ◌≤◌, ◌<◌, ◌⊎◌, ◌++◌, List, [], ◌∷◌, get_or, refl, sym, ap, subst, ◌∙◌, arith, inl, inr, nat_tests, Lexeme, Class, Word, Number, IsBlank, IsRun, HasForm, IsLongest, IsCommentWord, IsOfClass, IsLexemeAt, Closes, IsComment, Gap, no_gap, then_blank, then_comment, Lexed}
 use Rattle.kahn_syntax.specs.declared.lexeme.Class.TheVariants.{Name, Sign}
+use Rattle.kahn_syntax.proofs.{Keywords.same_keyword, Keywords.not_comment, Signs.sign_begins, Signs.same_sign, Signs.sign_letter, Signs.sign_digit, Signs.sign_blank, Signs.letter_digit, Signs.letter_blank, Signs.digit_blank}
 
 -- forms
 

@@ -1,10 +1,10 @@
 -- No two trees spell one list: declarations, instances and programs.
-use Rattle.kahn_syntax.proofs.Common.{FormedStatements, Input, Output, Between, SomeBetween, Ended, SomeNames, ParameterGroup, VariableGroup, TakesAll, spelling, In, Out, ◌≡◌, ℕ, List, [], ◌∷◌, true, false, ⊎_elim, refl, sym, ap, ◌∙◌, subst, true≢false, RuleToken, a_kind, accepts, leads, Further, Grouped, group, all_members, Kind, Role, Taking, Terminal, word, sign, name, empty, StatementTrees, no_statement, statement, statements_words, AreSome, DeclarationTree, channels, process, ArgumentTree, channel, InstanceTree, instance, ProgramTree, program, kind_terminal, role_words, taking_words, Parameters, Variables, SpellsDeclaration, Argues, Instantiates, May, Spells, StandsFirst, a_sign, a_word, Begin, Channel, Close, Comma, End, Integer, Logical, Open, Par, Process, Semicolon, number_argument, truth_argument, tail_is}
+use Rattle.kahn_syntax.proofs.Common.{FormedStatements, Input, Output, Between, SomeBetween, Ended, SomeNames, ParameterGroup, VariableGroup, TakesAll, spelling, In, Out, ◌≡◌, ℕ, List, [], ◌∷◌, true, false, ⊎_elim, refl, sym, ap, ◌∙◌, subst, true≢false, RuleToken, a_kind, accepts, leads, Further, Grouped, group, all_members, Kind, Role, Taking, Terminal, word, sign, name, empty, StatementTrees, no_statement, statement, statements_words, AreSome, DeclarationTree, channels, process, ArgumentTree, channel, InstanceTree, instance, ProgramTree, program, kind_terminal, role_words, taking_words, Parameters, Variables, SpellsDeclaration, Argues, Instantiates, May, Spells, StandsFirst, a_sign, a_word, Begin, Channel, Close, Comma, End, Integer, Logical, Open, Par, Process, Semicolon, number_argument, truth_argument}
 use Rattle.kahn_streams.specs.declared.tree.Kind.TheVariants as kind
 use Rattle.kahn_streams.specs.declared.tree.Role.TheVariants as role
 use Rattle.kahn_streams.specs.declared.tree.Direction.TheVariants as direction
 use Rattle.kahn_streams.specs.declared.tree.Taking.TheVariants as taking
-use Rattle.kahn_syntax.proofs.{Blocks.same_statements}
+use Rattle.kahn_syntax.proofs.{Unique.tail_is, Blocks.same_statements}
 
 -- what leads on stands there
 no_lead : (t : RuleToken) (k : Terminal) (r x : List Terminal) → accepts t k ≡ true → leads t r ≡ false → r ≡ k ∷ x → ⊥

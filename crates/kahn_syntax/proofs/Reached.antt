@@ -1,5 +1,6 @@
 -- How far a list is read.
-use Rattle.kahn_syntax.proofs.Common.{◌≡◌, ℕ, ◌+◌, ◌≤◌, ◌<◌, List, [], ◌∷◌, ◌++◌, length, Bool, true, false, cond, Option, Some, None, refl, sym, ap, ◌∙◌, arith, ⊎_elim, ◌⊎◌, length-append, nat_le, nat_tests, Terminal, Part, levels, may_end, step, Whole, Refuses, TooFar, onward, fate, le_or, go, Fits, fits_some, fits_nothing, further}
+use Rattle.kahn_syntax.proofs.Common.{◌≡◌, ℕ, ◌+◌, ◌≤◌, ◌<◌, List, [], ◌∷◌, ◌++◌, length, Bool, true, false, cond, Option, Some, None, refl, sym, ap, ◌∙◌, arith, ⊎_elim, ◌⊎◌, length-append, nat_le, nat_tests, Terminal, Part, levels, may_end, step, Whole, Refuses, TooFar, onward, fate}
+use Rattle.kahn_syntax.proofs.{Unique.le_or, Steps.go, Viable.Fits, Viable.fits_some, Viable.fits_nothing, Viable.further}
 
 le_test_false : (a b : ℕ) → b < a → nat_le a b ≡ false
 le_test_false a b h = grind (arith, nat_tests)

@@ -1,12 +1,12 @@
 -- A list that a tree spells is read whole: declarations, instances and programs.
-use Rattle.kahn_syntax.proofs.Common.{RuleToken, rules_of, TakesAll, subst, SomeBetween, Between, Ended, SomeNames, ParameterGroup, VariableGroup, spelling, a_kind, ◌≡◌, ℕ, ◌+◌, ◌≤◌, List, [], ◌∷◌, true, false, Some, ⊎_elim, refl, ap, ◌∙◌, arith, Further, Grouped, group, Kind, Role, Taking, Terminal, word, sign, name, statements_words, DeclarationTree, channels, process, ArgumentTree, channel, InstanceTree, instance, ProgramTree, program, kind_terminal, role_words, taking_words, Parameters, Variables, SpellsDeclaration, Argues, Instantiates, May, Spells, declaration_nesting, declarations_nesting, nesting, StandsFirst, leads, NamesTail, StatementsTail, GroupsTail, ArgumentsTail, InstancesTail, LastTail, Part, ProgramPart, DeclarationsPart, DeclarationPart, RolePart, GroupsPart, GroupPart, TakingPart, VariablesPart, StatementPart, InstancePart, ArgumentsPart, ArgumentPart, TokenPart, levels, step, Whole, fate, a_word, a_sign, a_name, a_number, Begin, Channel, Close, Comma, End, False, In, Input, Integer, Logical, Minus, Open, Out, Output, Par, Process, Semicolon, True, number_argument, truth_argument, go, take_token, skip_tail}
+use Rattle.kahn_syntax.proofs.Common.{RuleToken, rules_of, TakesAll, subst, SomeBetween, Between, Ended, SomeNames, ParameterGroup, VariableGroup, spelling, a_kind, ◌≡◌, ℕ, ◌+◌, ◌≤◌, List, [], ◌∷◌, true, false, Some, ⊎_elim, refl, ap, ◌∙◌, arith, Further, Grouped, group, Kind, Role, Taking, Terminal, word, sign, name, statements_words, DeclarationTree, channels, process, ArgumentTree, channel, InstanceTree, instance, ProgramTree, program, kind_terminal, role_words, taking_words, Parameters, Variables, SpellsDeclaration, Argues, Instantiates, May, Spells, declaration_nesting, declarations_nesting, nesting, StandsFirst, leads, NamesTail, StatementsTail, GroupsTail, ArgumentsTail, InstancesTail, LastTail, Part, ProgramPart, DeclarationsPart, DeclarationPart, RolePart, GroupsPart, GroupPart, TakingPart, VariablesPart, StatementPart, InstancePart, ArgumentsPart, ArgumentPart, TokenPart, levels, step, Whole, fate, a_word, a_sign, a_name, a_number, Begin, Channel, Close, Comma, End, False, In, Input, Integer, Logical, Minus, Open, Out, Output, Par, Process, Semicolon, True, number_argument, truth_argument}
 use Rattle.kahn_streams.specs.declared.tree.Kind.TheVariants as kind
 use Rattle.kahn_streams.specs.declared.tree.Role.TheVariants as role
 use Rattle.kahn_streams.specs.declared.tree.Direction.TheVariants as direction
 use Rattle.kahn_streams.specs.declared.tree.Taking.TheVariants as taking
 use Rattle.kahn_syntax.specs.Grammar as terminal
 use Rattle.kahn_syntax.proofs.OneTree.{statements_start, Named, named_instances, no_par_end, no_comma, took, further_first, in_pair, process_words}
-use Rattle.kahn_syntax.proofs.{WholeStatements.whole_statements}
+use Rattle.kahn_syntax.proofs.{Steps.go, Steps.take_token, Steps.skip_tail, WholeStatements.whole_statements}
 
 -- none or more parts p, each behind k, which T tells
 whole_further : {X : Type 0} (T p : Part) (t : RuleToken) (k : Terminal) (P : X → List Terminal → List Terminal → Type 0) (C : List Terminal → Type 0) (m : ℕ) (s : List Part) →

@@ -1,7 +1,7 @@
 -- A list that a tree spells is read whole: statements.
-use Rattle.kahn_syntax.proofs.Common.{◌≡◌, ℕ, ◌+◌, ◌≤◌, List, [], ◌∷◌, false, refl, ◌∙◌, arith, Terminal, word, sign, name, ExpressionTree, Formed, expression_nesting, StatementTree, empty, assign, send, print, block, if_then, if_else, while_do, repeat, StatementTrees, no_statement, statement, expression_words, statement_words, statements_words, further_words, statement_nesting, statements_nesting, FormedStatement, FormedStatements, IsSimple, AreSome, whole, leads, StatementsTail, ElseTail, Part, StatementPart, SimplePart, ExpressionPart, TokenPart, LevelPart, levels, fate, a_sign, a_word, a_name, Becomes, Begin, Do, Else, End, If, On, Print, Repeat, Semicolon, Send, Then, While, go, skip_level, take_token, skip_tail}
+use Rattle.kahn_syntax.proofs.Common.{◌≡◌, ℕ, ◌+◌, ◌≤◌, List, [], ◌∷◌, false, refl, ◌∙◌, arith, Terminal, word, sign, name, ExpressionTree, Formed, expression_nesting, StatementTree, empty, assign, send, print, block, if_then, if_else, while_do, repeat, StatementTrees, no_statement, statement, expression_words, statement_words, statements_words, further_words, statement_nesting, statements_nesting, FormedStatement, FormedStatements, IsSimple, AreSome, whole, leads, StatementsTail, ElseTail, Part, StatementPart, SimplePart, ExpressionPart, TokenPart, LevelPart, levels, fate, a_sign, a_word, a_name, Becomes, Begin, Do, Else, End, If, On, Print, Repeat, Semicolon, Send, Then, While}
 use Rattle.kahn_syntax.proofs.Blocks.{EndsSimple, EndsStatement, EndsAfter, EndsBlock, simple_expression, statement_simple, statement_after, no_more, block_statement}
-use Rattle.kahn_syntax.proofs.{WholeExpressions.whole_expression}
+use Rattle.kahn_syntax.proofs.{Steps.go, Steps.skip_level, Steps.take_token, Steps.skip_tail, WholeExpressions.whole_expression}
 
 skip_simple : (m : ℕ) (s : List Part) (r : List Terminal) → EndsSimple r → fate m (SimplePart ∷ s) r ≡ fate m s r
 skip_simple m s [] h = absurd h

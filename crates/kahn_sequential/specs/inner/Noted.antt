@@ -1,7 +1,9 @@
 -- Inner. Ends that were noted, and the instances that were woken since.
 use Rattle.std.specs.Prelude.{◌≡◌, ◌⊎◌, ℕ, ◌<◌, false, true, List, length, Option, Some, None, slice_get}
 use Rattle.kahn_sequential.specs.inner.Below.{End, More, Network, Reads, Tapped, Writes, actual_at, instance_at, waiting_of}
-use Rattle.kahn_sequential.specs.{inner.Bench.HasEndIn, inner.Bench.RunState, inner.Workbench.IsSpent, inner.Workbench.IsSpentTap, inner.Workbench.Table, inner.Workbench.sight_of, declared.rounds.Round.Round, declared.woken.Woken.Woken}
+use Rattle.kahn_sequential.specs.inner.Bench.{HasEndIn, RunState}
+use Rattle.kahn_sequential.specs.inner.Workbench.{IsSpent, IsSpentTap, Table, sight_of}
+use Rattle.kahn_sequential.specs.declared.{rounds.Round.Round, woken.Woken.Woken}
 
 abbrev pub IsWoken : Woken → ℕ → Type 0
 IsWoken w p = (k : ℕ) × (slice_get w.instances.items k ≡ Some p)

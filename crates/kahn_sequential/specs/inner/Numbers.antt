@@ -1,6 +1,7 @@
 -- Inner. The numbers of the streams that each instance writes.
 use Rattle.std.specs.Prelude.{◌≡◌, ℕ, ◌<◌, ◌≤◌, List, [], length, map, Option, None, Some, slice_get, slice_index_or}
-use Rattle.std.specs.{declared.alloc.Global.Global, declared.vec.Vec.Vec}
+use Rattle.std.specs.declared.alloc.Global.{Global}
+use Rattle.std.specs.declared.vec.Vec.{Vec}
 use Rattle.kahn_sequential.specs.inner.Below.{Line, Network, Written, source}
 
 abbrev pub is_in : List ℕ → ℕ → Type 0

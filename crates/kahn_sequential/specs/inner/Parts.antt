@@ -1,6 +1,8 @@
 -- Inner. What is so between two parts of a run.
 use Rattle.std.specs.Prelude.{◌≡◌, ℕ, ◌≤◌, Bool, List, map, Option, None, Some, slice_get}
-use Rattle.kahn_sequential.specs.{inner.Below.AreInputsExtended, inner.Below.End, inner.Below.Lists, inner.Below.Plan, inner.Below.Program, inner.Below.CellView, inner.Below.Verdict, inner.Below.inputs_of, HeldRuns.HeldRun, HeldRuns.seen_of, inner.Bench.IsConcluded, inner.Bench.RunState}
+use Rattle.kahn_sequential.specs.inner.Below.{AreInputsExtended, End, Lists, Plan, Program, CellView, Verdict, inputs_of}
+use Rattle.kahn_sequential.specs.HeldRuns.{HeldRun, seen_of}
+use Rattle.kahn_sequential.specs.inner.Bench.{IsConcluded, RunState}
 
 -- where there is a verdict, it and the ends are those of the last part
 abbrev pub AreEnded : RunState → ℕ → ℕ → List End → Option Verdict → Type 0

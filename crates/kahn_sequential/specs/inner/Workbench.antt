@@ -1,8 +1,9 @@
 -- Inner. The cells of a network over its plain queues, as a run on one thread has them.
 use Rattle.std.specs.Prelude.{◌≡◌, ◌⊎◌, ℕ, ◌+◌, ◌<◌, ◌≤◌, ◌^◌, ◌==◌, true, cond, min, vec_capacity, List, [], ◌++◌, length, map, replicate, Option, Some, slice_get, slice_index_or, if◌then◌else◌}
 use Rattle.kahn_sequential.specs.inner.Below.{Answer, End, Gone, IsAt, IsCutShort, IsOpening, IsRight, IsWellWired, Kept, Lists, More, Pause, Program, Queues, StoodBy, Stream, Tapped, Token, CellView, inputs_of, instance_at, kept_behind, most_values, network_of, nothing_gone, place_at, stream_line, stream_lines, tokens, told_view, waiting_of}
-use Rattle.kahn_sequential.specs.{inner.Bench.AreEnds, inner.Bench.HasEndIn, inner.Bench.HasRunCell, inner.Bench.IsLast, inner.Bench.LacksMemory, inner.Bench.RunState, inner.Bench.all_events, inner.Bench.events_at, HeldRuns.seen_at, HeldRuns.seen_of, declared.rounds.Round.Round, inner.Streams.IsOpenStream, inner.Streams.kept_lists, inner.Streams.printed_list}
+use Rattle.kahn_sequential.specs.inner.Bench.{AreEnds, HasEndIn, HasRunCell, IsLast, LacksMemory, RunState, all_events, events_at}
 use Rattle.kahn_code.specs.declared.progress.Pause.TheVariants as pause
+use Rattle.kahn_sequential.specs.{HeldRuns.seen_at, HeldRuns.seen_of, declared.rounds.Round.Round, inner.Streams.IsOpenStream, inner.Streams.kept_lists, inner.Streams.printed_list}
 
 -- the program and the input, the watched channel, the program of the code, the cells, what they let go of, and the queues
 pub record Table : Type 0 where

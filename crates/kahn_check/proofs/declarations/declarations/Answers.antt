@@ -1,6 +1,6 @@
-use Rattle.kahn_check.proofs.Common.{rules, arith, ◌≡◌, ◌≤◌, ◌+◌, ◌++◌, ◌∷◌, [], drop, length, None, ap, sym, ◌∙◌, bytes_eq, common_steps, lookup, bytes_of, known, ArePlaced, most_channels, channel_faults, process_faults, declaration_faults, entries, declared_of, IsProcess, as_channels, channels_done, more_declared, process_done, more_process}
+use Rattle.kahn_check.proofs.Common.{rules, arith, ◌≡◌, ◌≤◌, ◌+◌, ◌++◌, ◌∷◌, [], drop, length, None, ap, sym, ◌∙◌, bytes_eq, common_steps, lookup, bytes_of, known, ArePlaced, most_channels, channel_faults, process_faults, declaration_faults, entries, declared_of, IsProcess, as_channels}
 use Rattle.kahn_streams.specs.declared.tree.Declaration.TheVariants as D
-use Rattle.kahn_check.proofs.{Global_names.placed_here}
+use Rattle.kahn_check.proofs.{Declared.channels_done, Declared.more_declared, Declared.process_done, Declared.more_process, Global_names.placed_here}
 use Rattle.kahn_check.proofs.declarations.declarations.Goals as goal
 use Rattle.kahn_check.proofs.declarations.declarations.Goals.{in-Channels+in_ok-count-in-Channels, in-Process+in_ok-declare-in-Process+in_ok-check_process-in-Process}
 

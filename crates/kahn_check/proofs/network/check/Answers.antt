@@ -1,5 +1,5 @@
-use Rattle.kahn_check.proofs.Common.{rules, ◌≡◌, ◌∙◌, subst, [], map, IsMet, declaration_faults, known, seats_faults, sides_in, declared_channels, lines_in, shown, whole, met_instances, met_sides}
-use Rattle.kahn_check.proofs.{Lines.lines_by}
+use Rattle.kahn_check.proofs.Common.{rules, ◌≡◌, ◌∙◌, subst, [], map, IsMet, declaration_faults, known, seats_faults, sides_in, declared_channels, lines_in, shown}
+use Rattle.kahn_check.proofs.{Linked.whole, Linked.met_instances, Linked.met_sides, Lines.lines_by}
 use Rattle.kahn_check.proofs.network.check.Goals as goal
 
 pub returns-in_err-seats : goal.returns-in_err-seats

@@ -1,4 +1,6 @@
-use Rattle.kahn_sequential.proofs.Common.{◌∙◌, ap, arith, length, map, sym, take, ◌++◌, length-append, length-map, length-take-le, token_value}
+use Rattle.std.proofs.Common.{◌∙◌, ap, arith, length, map, sym, take, ◌++◌}
+use Rattle.std.proofs.lemmas.List.{length-append, length-map, length-take-le}
+use Rattle.kahn_sequential.proofs.Common.{token_value}
 use Rattle.kahn_sequential.proofs.flow.lend.Goals as goal
 
 pub push_reserved-requires : goal.push_reserved-requires

@@ -1,5 +1,7 @@
-use Rattle.kahn_sequential.proofs.Common.{arith, ◌-◌, refl, Answer}
-use Rattle.kahn_sequential.proofs.{Lacking.cut_short, Righted.answer_right}
+use Rattle.std.proofs.Common.{arith, ◌-◌, refl}
+use Rattle.kahn_sequential.proofs.Common.{Answer}
+use Rattle.kahn_sequential.proofs.Lacking.{cut_short}
+use Rattle.kahn_sequential.proofs.Righted.{answer_right}
 use Rattle.kahn_sequential.proofs.one.answered.Goals as goal
 
 pub returns : goal.returns

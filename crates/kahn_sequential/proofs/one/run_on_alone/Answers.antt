@@ -1,4 +1,6 @@
-use Rattle.kahn_sequential.proofs.Common.{ℕ, arith, length, replicate, sym, ap, ◌∙◌, subst, Option, vec_capacity, Program, Lists, network_of, nothing_gone, AreStreamsReady, IsRightAlone, IsPartEnd}
+use Rattle.std.proofs.Common.{ℕ, arith, length, replicate, sym, ap, ◌∙◌, subst, Option, vec_capacity}
+use Rattle.kahn_sequential.proofs.Common.{Program, Lists, network_of, nothing_gone, AreStreamsReady, IsRightAlone}
+use Rattle.kahn_sequential.specs.inner.FlowBench.{IsPartEnd}
 use Rattle.kahn_sequential.proofs.one.run_on_alone.Goals as goal
 
 pub run_part_alone-part-requires-clause-bound : goal.run_part_alone-part-requires-clause-bound

@@ -1,4 +1,6 @@
-use Rattle.kahn_sequential.proofs.Common.{ℕ, arith, ◌≡◌, ◌+◌, length, replicate, sym, ap, ◌∙◌, subst, Option, vec_capacity, Program, Lists, network_of, nothing_gone, AreStreamsReady, IsRightAlone, all_events, sight_of, IsPartEnd}
+use Rattle.std.proofs.Common.{ℕ, arith, ◌≡◌, ◌+◌, length, replicate, sym, ap, ◌∙◌, subst, Option, vec_capacity}
+use Rattle.kahn_sequential.proofs.Common.{Program, Lists, network_of, nothing_gone, AreStreamsReady, IsRightAlone, all_events, sight_of}
+use Rattle.kahn_sequential.specs.inner.FlowBench.{IsPartEnd}
 use Rattle.kahn_sequential.proofs.one.run_watched.Goals as goal
 
 pub answered-requires-clause-ended : goal.answered-requires-clause-ended

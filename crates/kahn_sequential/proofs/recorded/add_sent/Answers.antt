@@ -1,4 +1,5 @@
-use Rattle.kahn_sequential.proofs.Common.{rules, ◌∙◌, length-set, all_changed, next_old, one_changed, adds_one, all_added}
+use Rattle.kahn_sequential.proofs.Common.{rules, ◌∙◌, length-set}
+use Rattle.kahn_sequential.proofs.{Lists.all_changed, Lists.next_old, Lists.one_changed, Recording.adds_one, Recording.all_added}
 use Rattle.kahn_sequential.proofs.recorded.add_sent.Goals as goal
 
 pub add_sent_on-requires-clause-short : goal.add_sent_on-requires-clause-short

@@ -1,5 +1,6 @@
 -- The channels so far.
-use Rattle.kahn_sequential.proofs.Common.{◌≡◌, length, network_of, ChangedTo, Adds}
+use Rattle.kahn_sequential.proofs.Common.{◌≡◌, length, network_of}
+use Rattle.kahn_sequential.proofs.{Lists.ChangedTo, Recording.Adds}
 use Rattle.kahn_sequential.proofs.recorded.add_sent.Given as goal
 
 abbrev pub invariant-loop-channel : goal.invariant-loop-channel

@@ -1,4 +1,5 @@
-use Rattle.kahn_sequential.proofs.Common.{◌≡◌, ◌+◌, ◌∙◌, ap, false, refl, true, all_events, sight_of}
+use Rattle.std.proofs.Common.{◌≡◌, ◌+◌, ◌∙◌, ap, false, refl, true}
+use Rattle.kahn_sequential.proofs.Common.{all_events, sight_of}
 use Rattle.kahn_sequential.proofs.Benched.{within}
 use Rattle.kahn_sequential.proofs.settling.part_of.Goals as goal
 

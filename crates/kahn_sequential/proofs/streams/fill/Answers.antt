@@ -1,4 +1,5 @@
-use Rattle.kahn_sequential.proofs.Common.{rules, ◌∙◌, length-set, next_declared, filling_goes, all_changed}
+use Rattle.kahn_sequential.proofs.Common.{rules, ◌∙◌, length-set}
+use Rattle.kahn_sequential.proofs.{Filled.next_declared, Filled.filling_goes, Lists.all_changed}
 use Rattle.kahn_sequential.proofs.streams.fill.Goals as goal
 
 pub fill_one-requires-clause-declared : goal.fill_one-requires-clause-declared

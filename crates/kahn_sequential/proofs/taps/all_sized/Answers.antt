@@ -1,4 +1,5 @@
-use Rattle.kahn_sequential.proofs.Common.{arith, AreCounts, Tapped, slice_get_within}
+use Rattle.std.proofs.Common.{arith}
+use Rattle.kahn_sequential.proofs.Common.{AreCounts, Tapped, slice_get_within}
 use Rattle.kahn_sequential.proofs.Lists.{each_more}
 use Rattle.kahn_sequential.proofs.taps.all_sized.Goals as goal
 

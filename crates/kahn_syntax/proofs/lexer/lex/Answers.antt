@@ -1,5 +1,5 @@
-use Rattle.kahn_syntax.proofs.Common.{List, arith, length, refl, sym, subst, Lexeme, Lexed, no_gap, IsCharBoundary-start, err_from_is_err_and, lexed_cut, lexed_slices, no_list, fault_inside}
-use Rattle.kahn_syntax.proofs.{Lexing.blank_next, Lexing.comment_next, Lexing.lexeme_next}
+use Rattle.kahn_syntax.proofs.Common.{List, arith, length, refl, sym, subst, Lexeme, Lexed, no_gap, IsCharBoundary-start, err_from_is_err_and}
+use Rattle.kahn_syntax.proofs.{Cuts.lexed_cut, Cuts.lexed_slices, Lexing.blank_next, Lexing.comment_next, Lexing.lexeme_next, NoList.no_list, NoList.fault_inside}
 use Rattle.kahn_syntax.proofs.lexer.lex.Goals as goal
 
 pub text-init : goal.text-init

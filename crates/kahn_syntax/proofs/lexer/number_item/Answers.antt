@@ -1,4 +1,5 @@
-use Rattle.kahn_syntax.proofs.Common.{ℕ, refl, rules, run_cut, run_large, run_value}
+use Rattle.std.proofs.Common.{ℕ, refl, rules}
+use Rattle.kahn_syntax.proofs.{Cuts.run_cut, Runs.run_large, Runs.run_value}
 use Rattle.kahn_syntax.proofs.lexer.number_item.Goals as goal
 
 pub range-requires-clause-end_boundary : goal.range-requires-clause-end_boundary

@@ -1,5 +1,5 @@
-use Rattle.kahn_sequential.proofs.Common.{arith, ap, sym, subst, length, map, vec_capacity, length-map, network_of, AreStreams, AreStreamsReady, AreWhole, stream_lines, Table, sight_of, told_in, are_streams, left_whole}
-use Rattle.kahn_sequential.proofs.{Kept.lists_of_cells}
+use Rattle.kahn_sequential.proofs.Common.{arith, ap, sym, subst, length, map, vec_capacity, length-map, network_of, AreStreams, AreStreamsReady, AreWhole, stream_lines, Table, sight_of, told_in}
+use Rattle.kahn_sequential.proofs.{Filled.are_streams, Kept.lists_of_cells, Tapping.left_whole}
 use Rattle.kahn_sequential.proofs.bench.Sequential.into_streams.Goals as goal
 
 pub all_kept-kept-requires-clause-room : goal.all_kept-kept-requires-clause-room

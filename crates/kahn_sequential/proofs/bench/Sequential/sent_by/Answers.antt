@@ -1,4 +1,5 @@
-use Rattle.kahn_sequential.proofs.Common.{sym, ◌∙◌, fresh_within, sent_here}
+use Rattle.std.proofs.Common.{sym, ◌∙◌}
+use Rattle.kahn_sequential.proofs.{Emptied.fresh_within, Tapping.sent_here}
 use Rattle.kahn_sequential.proofs.bench.Sequential.sent_by.Goals as goal
 
 pub sent-requires : goal.sent-requires

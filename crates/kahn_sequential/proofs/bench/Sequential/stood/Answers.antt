@@ -1,4 +1,5 @@
-use Rattle.kahn_sequential.proofs.Common.{◌≡◌, Some, sym, subst, slice_get, AllStandBy, Table, told_in, all_stand_by, get_map}
+use Rattle.kahn_sequential.proofs.Common.{◌≡◌, Some, sym, subst, slice_get, AllStandBy, Table, told_in}
+use Rattle.kahn_sequential.proofs.{Emptied.all_stand_by, Benched.get_map}
 use Rattle.kahn_sequential.proofs.bench.Sequential.stood.Goals as goal
 
 pub all_stood-requires : goal.all_stood-requires

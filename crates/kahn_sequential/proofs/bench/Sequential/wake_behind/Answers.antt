@@ -1,4 +1,5 @@
-use Rattle.kahn_sequential.proofs.Common.{◌≡◌, ◌∙◌, ap, sym, route_of, IsReadyBy, same_actual, nobody_reads, nobody_woken, own_reader, reader_is, woken_as}
+use Rattle.kahn_sequential.proofs.Common.{◌≡◌, ◌∙◌, ap, sym, route_of, IsReadyBy}
+use Rattle.kahn_sequential.proofs.{Benched.same_actual, Noted.nobody_reads, Noted.nobody_woken, Noted.own_reader, Noted.reader_is, Noted.woken_as}
 use Rattle.kahn_sequential.proofs.bench.Sequential.wake_behind.Goals as goal
 
 pub returns-in_default-reader_of : goal.returns-in_default-reader_of

@@ -1,4 +1,5 @@
-use Rattle.kahn_sequential.proofs.Common.{◌<◌, refl, subst, sym, handed_within, sight_of, IsReadyBehind, IsReadyByFirst, fresh_within, woken_as}
+use Rattle.kahn_sequential.proofs.Common.{◌<◌, refl, subst, sym, handed_within, sight_of, IsReadyBehind, IsReadyByFirst}
+use Rattle.kahn_sequential.proofs.{Emptied.fresh_within, Noted.woken_as}
 use Rattle.kahn_sequential.proofs.bench.Sequential.wake_readers.Goals as goal
 
 pub returns : goal.returns

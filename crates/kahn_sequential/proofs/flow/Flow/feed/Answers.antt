@@ -1,5 +1,8 @@
-use Rattle.kahn_sequential.proofs.Common.{arith, ◌≡◌, ◌+◌, ◌++◌, Bool, true, false, List, [], drop, length, map, slice_get, None, Some, refl, sym, ap, ◌∙◌, subst, err_from_is_err_and, Input, network_of, role_at, Entry, Token, token_value, channel_of, Table, inputs_of, IsMeant, is_watched, meant_input, poured_length, poured_rest, Flowing, HasPouredIn, flow_of}
-use Rattle.kahn_sequential.proofs.{Flowed.flow_stays, Noted.noted_poured, Noted.spent_poured, Poured_in.from_there, Poured_in.is_poured, Poured_in.poured_flow, Poured_in.poured_lent, Poured_in.poured_lists, Poured_in.refused_same}
+use Rattle.std.proofs.Common.{arith, ◌≡◌, ◌+◌, ◌++◌, Bool, true, false, List, [], drop, length, map, slice_get, None, Some, refl, sym, ap, ◌∙◌, subst}
+use Rattle.kahn_sequential.proofs.Common.{err_from_is_err_and, Input, network_of, role_at, Entry, Token, token_value, channel_of, Table, inputs_of, IsMeant, is_watched, meant_input, poured_length, poured_rest, Flowing, HasPouredIn, flow_of}
+use Rattle.kahn_sequential.proofs.Flowed.{flow_stays}
+use Rattle.kahn_sequential.proofs.Noted.{noted_poured, spent_poured}
+use Rattle.kahn_sequential.proofs.Poured_in.{from_there, is_poured, poured_flow, poured_lent, poured_lists, refused_same}
 use Rattle.kahn_sequential.proofs.flow.Flow.feed.Goals as goal
 
 pub pour-poured-requires : goal.pour-poured-requires

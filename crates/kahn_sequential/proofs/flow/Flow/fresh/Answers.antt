@@ -1,5 +1,7 @@
-use Rattle.kahn_sequential.proofs.Common.{◌≡◌, ◌<◌, length, sym, subst, Given, Written, Writes, channel_source, network_of, instance_at, actual_at, IsLineOf, AreNew, Flowing}
-use Rattle.kahn_sequential.proofs.{Flowed.line_here, Flowed.new_given, Flowed.new_kept, Flowed.new_printed, Named.HasLine}
+use Rattle.std.proofs.Common.{◌≡◌, ◌<◌, length, sym, subst}
+use Rattle.kahn_sequential.proofs.Common.{Given, Written, Writes, channel_source, network_of, instance_at, actual_at, IsLineOf, AreNew, Flowing}
+use Rattle.kahn_sequential.proofs.Flowed.{line_here, new_given, new_kept, new_printed}
+use Rattle.kahn_sequential.proofs.Named.{HasLine}
 use Rattle.kahn_sequential.proofs.flow.Flow.fresh.Goals as goal
 
 pub writer-requires : goal.writer-requires

@@ -1,5 +1,7 @@
-use Rattle.kahn_sequential.proofs.Common.{arith, ◌+◌, Some, length, subst, Flowing, IsRunOn, flow_of}
-use Rattle.kahn_sequential.proofs.{Flowed.flow_after, Flowed.flowed_on, Righted.events_seen}
+use Rattle.std.proofs.Common.{arith, ◌+◌, Some, length, subst}
+use Rattle.kahn_sequential.proofs.Common.{Flowing, IsRunOn, flow_of}
+use Rattle.kahn_sequential.proofs.Flowed.{flow_after, flowed_on}
+use Rattle.kahn_sequential.proofs.Righted.{events_seen}
 use Rattle.kahn_sequential.proofs.flow.Flow.resume.Goals as goal
 
 pub run_on-part-requires-clause-bound : goal.run_on-part-requires-clause-bound

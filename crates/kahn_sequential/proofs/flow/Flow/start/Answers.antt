@@ -1,5 +1,10 @@
-use Rattle.kahn_sequential.proofs.Common.{ℕ, Option, Some, arith, rules, ◌≡◌, ◌≤◌, slice_get, length, vec_capacity, refl, sym, ◌∙◌, subst, Program, Lists, IsInRange, IsWatched, network_of, inputs_of, AreAllGiven, stream_lines, HoldNumbers}
-use Rattle.kahn_sequential.proofs.{Flowed.all_lent, Flowed.none_let_go, Righted.events_seen, Righted.none_done, Giving.begun_none, Named.line_declared}
+use Rattle.std.proofs.Common.{ℕ, Option, Some, arith, rules, ◌≡◌, ◌≤◌, slice_get, length, vec_capacity, refl, sym, ◌∙◌, subst}
+use Rattle.kahn_sequential.proofs.Common.{Program, Lists, IsInRange, IsWatched, network_of, inputs_of, AreAllGiven, stream_lines}
+use Rattle.kahn_sequential.proofs.Flowed.{all_lent, none_let_go}
+use Rattle.kahn_sequential.proofs.Righted.{events_seen, none_done}
+use Rattle.kahn_sequential.proofs.Giving.{begun_none}
+use Rattle.kahn_sequential.proofs.Named.{line_declared}
+use Rattle.kahn_sequential.specs.inner.Numbers.{HoldNumbers}
 use Rattle.kahn_sequential.proofs.flow.Flow.start.Goals as goal
 
 pub give_watched-requires : goal.give_watched-requires

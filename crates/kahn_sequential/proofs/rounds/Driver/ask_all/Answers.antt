@@ -1,5 +1,8 @@
-use Rattle.kahn_sequential.proofs.Common.{◌<◌, ◌^◌, ◌∙◌, arith, ap, sym, subst, length, refl, RunState, all_events, HasWorked, sight_of, view_events, no_view}
-use Rattle.kahn_sequential.proofs.{Turns.asked, Lists.one_of_sum, Tapping.worked_on}
+use Rattle.std.proofs.Common.{◌<◌, ◌^◌, ◌∙◌, arith, ap, sym, subst, length, refl}
+use Rattle.kahn_sequential.proofs.Common.{RunState, all_events, HasWorked, sight_of, view_events, no_view}
+use Rattle.kahn_sequential.proofs.Turns.{asked}
+use Rattle.kahn_sequential.proofs.Lists.{one_of_sum}
+use Rattle.kahn_sequential.proofs.Tapping.{worked_on}
 use Rattle.kahn_sequential.proofs.rounds.Driver.ask_all.Goals as goal
 
 pub run-stopped-requires-clause-bound : goal.run-stopped-requires-clause-bound

@@ -1,4 +1,5 @@
-use Rattle.kahn_sequential.proofs.Common.{◌≡◌, length, HasWorked, sight_of}
+use Rattle.std.proofs.Common.{◌≡◌, length}
+use Rattle.kahn_sequential.proofs.Common.{HasWorked, sight_of}
 use Rattle.kahn_sequential.proofs.rounds.Driver.ask_all.Given as goal
 
 abbrev pub invariant-loop-instance : goal.invariant-loop-instance

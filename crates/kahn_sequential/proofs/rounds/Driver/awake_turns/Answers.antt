@@ -1,4 +1,5 @@
-use Rattle.kahn_sequential.proofs.Common.{sym, subst, HasAdvanced, Table}
+use Rattle.std.proofs.Common.{sym, subst}
+use Rattle.kahn_sequential.proofs.Common.{HasAdvanced, Table}
 use Rattle.kahn_sequential.proofs.Turns.{advanced_none, moved_on, turned}
 use Rattle.kahn_sequential.proofs.rounds.Driver.awake_turns.Goals as goal
 

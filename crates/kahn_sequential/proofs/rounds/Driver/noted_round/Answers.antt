@@ -1,4 +1,5 @@
-use Rattle.kahn_sequential.proofs.Common.{◌≡◌, ◌<◌, [], add-one, ap, arith, length, refl, rules, slice_get, Some, vec_capacity, sight_of}
+use Rattle.std.proofs.Common.{◌≡◌, ◌<◌, [], add-one, ap, arith, length, refl, rules, slice_get, Some, vec_capacity}
+use Rattle.kahn_sequential.proofs.Common.{sight_of}
 use Rattle.kahn_sequential.proofs.Turns.{begun, noted}
 use Rattle.kahn_sequential.proofs.rounds.Driver.noted_round.Goals as goal
 

@@ -1,5 +1,9 @@
-use Rattle.kahn_sequential.proofs.Common.{◌≡◌, ◌<◌, ◌∙◌, [], add-one, ap, arith, length, refl, rules, slice_get, Some, subst, sym, vec_capacity, Lines as Queues, Program, network_of, sight_of, AreRecordedOf, AreTurnShortOf, TakesTurns}
-use Rattle.kahn_sequential.proofs.{Recording.turn_short, Recording.turns_of, Turns.begun, Turns.noted}
+use Rattle.std.proofs.Common.{◌≡◌, ◌<◌, ◌∙◌, [], add-one, ap, arith, length, refl, rules, slice_get, Some, subst, sym, vec_capacity}
+use Rattle.kahn_code.specs.Lines.{Lines as Queues}
+use Rattle.kahn_sequential.proofs.Common.{Program, network_of, sight_of}
+use Rattle.kahn_sequential.proofs.Recording.{turn_short, turns_of}
+use Rattle.kahn_sequential.proofs.Turns.{begun, noted}
+use Rattle.kahn_sequential.specs.inner.Recording.{AreRecordedOf, AreTurnShortOf, TakesTurns}
 use Rattle.kahn_sequential.proofs.rounds.Driver.recorded_round.Goals as goal
 
 pub loop-instance-init : goal.loop-instance-init

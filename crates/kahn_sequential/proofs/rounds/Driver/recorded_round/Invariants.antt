@@ -1,4 +1,5 @@
-use Rattle.kahn_sequential.proofs.Common.{IsInRound, AreRecorded}
+use Rattle.kahn_sequential.proofs.Common.{IsInRound}
+use Rattle.kahn_sequential.specs.inner.Recording.{AreRecorded}
 use Rattle.kahn_sequential.proofs.rounds.Driver.recorded_round.Given as goal
 
 abbrev pub invariant-loop-instance : goal.invariant-loop-instance

@@ -1,5 +1,7 @@
-use Rattle.kahn_sequential.proofs.Common.{arith, ◌∙◌, refl, rules, subst, sym, Program, network_of, TakesTurns}
+use Rattle.std.proofs.Common.{arith, ◌∙◌, refl, rules, subst, sym}
+use Rattle.kahn_sequential.proofs.Common.{Program, network_of}
 use Rattle.kahn_sequential.proofs.Turns.{advanced_none, moved_on}
+use Rattle.kahn_sequential.specs.inner.Recording.{TakesTurns}
 use Rattle.kahn_sequential.proofs.rounds.Driver.recorded_rounds.Goals as goal
 
 pub rounds-init : goal.rounds-init

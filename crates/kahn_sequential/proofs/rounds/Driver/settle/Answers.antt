@@ -1,5 +1,7 @@
-use Rattle.kahn_sequential.proofs.Common.{refl, rules, sym, ◌∙◌, sight_of}
-use Rattle.kahn_sequential.proofs.{Noted.all_rest, Noted.noted_but, Turns.advanced_none, Turns.moved_on}
+use Rattle.std.proofs.Common.{refl, rules, sym, ◌∙◌}
+use Rattle.kahn_sequential.proofs.Common.{sight_of}
+use Rattle.kahn_sequential.proofs.Noted.{all_rest, noted_but}
+use Rattle.kahn_sequential.proofs.Turns.{advanced_none, moved_on}
 use Rattle.kahn_sequential.proofs.rounds.Driver.settle.Goals as goal
 
 pub loop-init : goal.loop-init

@@ -1,5 +1,8 @@
-use Rattle.kahn_sequential.proofs.Common.{◌<◌, ◌≡◌, length, rules, subst, sym, Network, sight_of, AreNoted, AreNotedBut}
-use Rattle.kahn_sequential.proofs.{Noted.noted_one, Noted.spent_one, Turns.as_well, Turns.turned}
+use Rattle.std.proofs.Common.{◌<◌, ◌≡◌, length, rules, subst, sym}
+use Rattle.kahn_sequential.proofs.Common.{Network, sight_of}
+use Rattle.kahn_sequential.specs.inner.Noted.{AreNoted, AreNotedBut}
+use Rattle.kahn_sequential.proofs.Noted.{noted_one, spent_one}
+use Rattle.kahn_sequential.proofs.Turns.{as_well, turned}
 use Rattle.kahn_sequential.proofs.rounds.Driver.settle_one.Goals as goal
 
 pub wake_readers-requires : goal.wake_readers-requires

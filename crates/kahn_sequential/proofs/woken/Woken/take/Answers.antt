@@ -1,5 +1,6 @@
 use Rattle.std.proofs.Common.{arith, refl}
-use Rattle.kahn_sequential.proofs.{Benched.within_get, Noted.popped}
+use Rattle.kahn_sequential.proofs.Benched.{within_get}
+use Rattle.kahn_sequential.proofs.Noted.{popped}
 use Rattle.kahn_sequential.proofs.woken.Woken.take.Goals as goal
 
 pub returns-in-Some-clause-taken : goal.returns-in-Some-clause-taken
