@@ -1,5 +1,5 @@
 -- The words that most proofs cite, passed on from one place.
-pub use Rattle.kahn_check.proofs.Alike.{alike_kept, lookup_append}
+pub use Rattle.kahn_check.proofs.{Alike.alike_kept, Wired.lookup_append}
 pub use Rattle.kahn_check.specs.inner.Firsts.{kept_first}
 pub use Rattle.kahn_streams.specs.Arithmetic.{apply, arithmetic, fits_64, is_zero, number, ranged, truth}
 pub use Rattle.kahn_streams.specs.Meaning.{Store, constant, eval, exec, read, script_of, settle, turns_of, value_of}
