@@ -109,21 +109,13 @@ more_words count = if count == 1 then codes " line more like it\n" else codes " 
 abbrev pub alike_text : List ℕ → ℕ → List ℕ
 alike_text path count = if count == 0 then [] else concat (path ∷ codes ": and " ∷ decimal count ∷ more_words count ∷ [])
 
--- values are left without the others of their row
-abbrev pub left_text : List ℕ → List ℕ
-left_text path = concat (path ∷ codes ": " ∷ codes "values are left without the others of their row" ∷ codes "\n" ∷ [])
+-- words behind the program's file
+abbrev pub path_line : List ℕ → List ℕ → List ℕ
+path_line path words = concat (path ∷ codes ": " ∷ words ∷ codes "\n" ∷ [])
 
 -- words about a line that was taken
 abbrev pub line_note : List ℕ → ℕ → List ℕ → List ℕ
 line_note path number words = said_text path (origin false number) (digits false number) words [] []
-
--- for what a part waits
-abbrev pub waiting_text : List ℕ → ℕ → List ℕ
-waiting_text path number = line_note path number (codes "waits for memory")
-
--- a part did all the events that it may, and could do more
-abbrev pub stepped_text : List ℕ → ℕ → List ℕ
-stepped_text path number = line_note path number (codes "wants more events than --step allows, and goes on with the next line")
 
 -- which fault a process has
 abbrev pub failure_words : Failure → List ℕ

@@ -178,7 +178,7 @@ pub(crate) fn row_count(run: &Paced<'_>, columns: &[usize]) -> usize
 }
 
 /// Writes what is new in the form of these columns, of which so many rows went out, and so many are there.
-fn put_form<W: Write>(
+pub(crate) fn show<W: Write>(
     writer: &mut W,
     network: &Network,
     run: &Paced<'_>,
@@ -197,23 +197,6 @@ fn put_form<W: Write>(
         return put_plain(writer, run, *number);
     }
     put_rows(writer, run, columns, from, to)
-}
-
-/// Writes it, and flushes.
-pub(crate) fn show<W: Write>(
-    writer: &mut W,
-    network: &Network,
-    run: &Paced<'_>,
-    columns: &[usize],
-    from: usize,
-    to: usize,
-) -> Result<(), WriteFault>
-    requires network { run.now.flow.run.network ≡ network.now }
-    requires count { to ≡ row_count (next_of run.now) columns.now }
-    ensures { Writes (W.contents writer.old) (W.contents writer.new) result (form_text columns.now from network.now run.now) }
-{
-    put_form(writer, network, run, columns, from, to)?;
-    writer.flush().map_err(|_| WriteFault::Failed)
 }
 
 /// Whether the values of streams stand in rows.

@@ -6,11 +6,12 @@ mod feeding;
 mod forms;
 mod pace;
 mod refusal;
+mod ringing;
 mod session;
 
 pub use fault::TakeFault;
 pub use refusal::{
-    AT_END, is_want, take_words, write_alone, write_fault, write_left, write_more, write_refusal,
-    write_stopped, write_unknown, write_waiting,
+    AT_END, is_want, take_words, write_alone, write_fault, write_more, write_note, write_refusal,
+    write_unknown, write_words,
 };
 pub use session::Session;

@@ -3,7 +3,7 @@
 ghost use Rattle.std.specs.Prelude.{◌≡◌, [], ◌∷◌, option_copied};
 ghost use Rattle.std.specs.List.{concat};
 ghost use Rattle.kahn_streams.specs.Written.{Writes};
-ghost use Rattle.kahn_session.specs.Refusals.{alike_text, alone_line, alone_text, behind_part, digits, failure_words, failed_text, feed_words, hint_text, is_of_plain, is_want, left_text, more_words, before_part, line_note, origin, pieces, refusal_line, refusal_text, said_text, showing_option, stepped_text, take_words, unknown_text, waiting_text};
+ghost use Rattle.kahn_session.specs.Refusals.{alike_text, alone_line, alone_text, behind_part, digits, failure_words, failed_text, feed_words, hint_text, is_of_plain, is_want, more_words, before_part, line_note, origin, pieces, refusal_line, refusal_text, said_text, showing_option, take_words, path_line, unknown_text};
 
 use crate::fault::TakeFault;
 use itoa::Buffer;
@@ -316,16 +316,15 @@ pub fn write_more<W: Write>(writer: &mut W, path: &str, count: u64) -> Result<()
     )
 }
 
-/// Writes that values are left without the others of their row, and flushes; as `write_refusal` does.
-pub fn write_left<W: Write>(writer: &mut W, path: &str) -> Result<(), WriteFault>
-    ensures { Writes (W.contents writer.old) (W.contents writer.new) result (left_text path.now) }
+/// Writes words behind the program's file, and flushes; as `write_refusal` does.
+pub fn write_words<W: Write>(writer: &mut W, path: &str, words: &str) -> Result<(), WriteFault>
+    ensures { Writes (W.contents writer.old) (W.contents writer.new) result (path_line path.now words.now) }
 {
-    let words = "values are left without the others of their row";
     put_words(writer, path, ": ", words, "\n")
 }
 
-/// Writes words about the line of that number, which was taken.
-fn put_note<W: Write>(
+/// Writes words about the line of that number, which was taken, and flushes; as `write_refusal` does.
+pub fn write_note<W: Write>(
     writer: &mut W,
     path: &str,
     number: u64,
@@ -337,22 +336,6 @@ fn put_note<W: Write>(
     let digits = digits(&mut buffer, false, number);
     let origin = origin(false, number);
     put_said(writer, path, origin, digits, words, b"", "")
-}
-
-/// Writes that the part of the line of input of that number wants memory, and flushes; as `write_refusal` does.
-pub fn write_waiting<W: Write>(writer: &mut W, path: &str, number: u64) -> Result<(), WriteFault>
-    ensures { Writes (W.contents writer.old) (W.contents writer.new) result (waiting_text path.now number) }
-{
-    put_note(writer, path, number, "waits for memory")
-}
-
-/// Writes that the part of the line of input of that number did all the events that it may, and could do more, and flushes; as
-/// `write_refusal` does.
-pub fn write_stopped<W: Write>(writer: &mut W, path: &str, number: u64) -> Result<(), WriteFault>
-    ensures { Writes (W.contents writer.old) (W.contents writer.new) result (stepped_text path.now number) }
-{
-    let words = "wants more events than --step allows, and goes on with the next line";
-    put_note(writer, path, number, words)
 }
 
 /// Which fault a process has.

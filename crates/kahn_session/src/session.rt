@@ -14,6 +14,7 @@ use crate::fault::TakeFault;
 use crate::feeding::{feed_line, line_meant};
 use crate::forms::{begun, is_uneven, let_go, row_count, show};
 use crate::pace::Paced;
+use crate::ringing::RingHint;
 use kahn_chain::has_ring;
 use kahn_streams::{
     Config, End, Failure, Gate, Input, Line, Network, Outcome, Role, RunFault, Verdict,
@@ -37,6 +38,7 @@ pub struct Session<'n> {
     columns: Vec<usize>,
     // How many rows went out of what waits and of what wasn't let go of.
     shown: usize,
+    ring: RingHint,
 }
 
 impl<'n> Model for Session<'n> {
@@ -191,6 +193,7 @@ impl<'n> Session<'n> {
             broken: false,
             columns: Vec::new(alloc),
             shown: 0,
+            ring: RingHint::new(alloc),
         })
     }
 
@@ -220,8 +223,8 @@ impl<'n> Session<'n> {
 
     /// Feeds the values of a line of input, which stands without its line feed, runs a part, and writes what is new: a line
     /// for each stream that has grown, its heading as in a report and then the values behind those that went out, or after
-    /// `show_columns` the values alone of its streams; and flushes. A blank line feeds nothing. The part goes on until nothing
-    /// can, or until it took as many events as each part may, or memory was refused.
+    /// `show_columns` the values alone of its streams. The caller flushes. A blank line feeds nothing. The part goes on until
+    /// nothing can, or until it took as many events as each part may, or memory was refused.
     ///
     /// The line is refused with `TooLong`, `NotUtf8`, `BadLine`, `BadValue`, `Feed` and `NoMemory`, in this order: then
     /// nothing changed and nothing was written. With `Write` the part was run, and a prefix of what is new was written: the
@@ -241,7 +244,9 @@ impl<'n> Session<'n> {
             return Err(fault);
         }
         let verdict = self.paced.part(gate);
-        let _ends = self.paced.ends();
+        let ends = self.paced.ends();
+        self.ring
+            .ask(self.alloc, self.network, self.paced.events(), ends);
         begun(&self.paced, self.paced.lines());
         let count = row_count(&self.paced, &self.columns);
         if let Err(fault) = show(
@@ -320,6 +325,11 @@ impl<'n> Session<'n> {
         ensures { IsRinged self.now.flow.run result }
     {
         has_ring(self.network, self.ends())
+    }
+
+    /// Whether it seems that processes wait on one another in a ring since a part. It is a hint, and costs nothing.
+    pub fn may_have_ring(&self) -> bool {
+        self.ring.seen
     }
 
     /// Whether the next part may take long: each may be of more than a million events, or the last one was of more than ten thousand.
