@@ -24,10 +24,11 @@ The same of lines with names, and strictly: the status alone differs.
   +status 7
   -status 0
   +status 7
-A ring beside what waits on an input.
+A ring beside what waits on an input is told when it comes up.
   $ printf '1\n2\n' | kahn_live beside.kahn --plain A
   1
   3
+  ! beside.kahn: input line 0: deadlock: 1 copy and 2 copy wait on one another
   ! deadlock: 1 copy and 2 copy wait on one another
   ! beside.kahn:2:64: error: 1 copy waits on X from 2 copy, in a deadlock: for ever
   !  2 |   process copy(integer in U; integer out W); begin repeat send wait(U) on W end;
@@ -43,6 +44,13 @@ A ring beside what waits on an input.
   ! end 3 sum: waits on A after 7
   ! end 4 copy: waits on Z after 7
   ! finished 16
+A ring that comes up later is told behind what was new, once.
+  $ printf 'C: 5\nA: 1 2\nC: 6\nA: 3\nC: 7\n' | kahn_live later.kahn 2>&1 | head -n 5
+  B: 5
+  later.kahn: input line 2: deadlock: 1 join and 2 copy wait on one another
+  B: 6
+  B: 7
+  deadlock: 1 join and 2 copy wait on one another
 The same, strictly.
   $ said() { printf '1\n2\n' | kahn_live beside.kahn --plain A "$@" 2>&1; echo status $?; }; diff -U0 <(said) <(said --strict) | grep '^[-+][^-+]'
   -status 0
@@ -50,6 +58,7 @@ The same, strictly.
 A fault before a ring, strictly.
   $ printf '9223372036854775807\n1\n' | kahn_live beside.kahn --plain A --strict
   9223372036854775807
+  ! beside.kahn: input line 0: deadlock: 1 copy and 2 copy wait on one another
   ! beside.kahn: input line 2: 3 sum has a fault: overflow
   ! 1 process has a fault; deadlock: 1 copy and 2 copy wait on one another
   ! beside.kahn:2:64: error: 1 copy waits on X from 2 copy, in a deadlock: for ever

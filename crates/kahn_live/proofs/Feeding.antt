@@ -11,7 +11,7 @@ use Rattle.kahn_session.specs.declared.fault.TakeFault.{TakeFault}
 use Rattle.kahn_session.specs.declared.fault.TakeFault.TheVariants.{TooLong, NotUtf8, BadLine, BadValue, BadRow, Feed, NoMemory, Write}
 use Rattle.kahn_session.specs.Refusals.{at_end_number}
 use Rattle.kahn_live.specs.Course.{HasMissed, IsBrokenOff, IsToldBy, LiveTelling, Point, WasAnswered, WasMet}
-use Rattle.kahn_live.specs.InputMet.{AreFed, AreRead, AreTaken, IsAnyMet, IsCutOff, IsFirstPart, IsFirstUnmeant, IsReadIn}
+use Rattle.kahn_live.specs.InputMet.{AreFed, AreRead, AreTaken, IsAnyMet, IsCutOff, IsFirstPart, IsFirstUnmeant, IsReadBy, IsReadIn, is_idle}
 use Rattle.kahn_live.specs.Lines.{fed_text, most_kept, unmarked}
 use Rattle.kahn_live.specs.Rows.{AreMeant, row_names}
 use Rattle.kahn_live.specs.LinesMet.{AreEachMet, LinesGiven}
@@ -99,8 +99,21 @@ first_in None input line old new (inl (v, met)) = shown 0 (fed_text input line) 
 first_in None input line old new (inr (is, none)) = absurd cc
 first_in (Some names) input line old new (cells, (rest, left, front, no_name, no_word, some), taken) = some_shown 0 cells old new some taken
 
+-- a line that may change something, as it is met
+pub not_idle : (idle : Bool) (input : Option (List ℕ)) (number : ℕ) (line kept : List ℕ) (old new : Point) (r : Result (Option TakeFault) Fault) → idle ≡ false
+    → idle ≡ is_idle number line old.session.flow.run.verdict → line ≡ kept → IsReadIn (row_names input) input number line old new r
+    → IsReadBy (is_idle number kept old.session.flow.run.verdict) input number kept old new r
+not_idle idle input number line kept old new r not is same met =
+    subst (λ (l : List ℕ). IsReadBy (is_idle number l old.session.flow.run.verdict) input number l old new r) same
+    (subst (λ (b : Bool). IsReadBy b input number line old new r) (sym not ∙ is) met)
+
+read_by : (idle : Bool) (input : Option (List ℕ)) (number : ℕ) (line : List ℕ) (old new : Point) (r : Option TakeFault) → IsReadBy idle input number line old new (Ok r) → IsShown old.session
+    → IsShown new.session
+read_by true input number line old new r (none, same) was = stays old.session new.session (ap (λ (p : Point). p.session) same) was
+read_by false input number line old new r is was = read_in (row_names input) input number line old new r is was
+
 met : (input : Option (List ℕ)) (number : ℕ) (line : List ℕ) (old new : Point) → IsAnyMet input number line old new → IsShown old.session → IsShown new.session
-met input number line old new (inl (r, is)) was = read_in (row_names input) input number (unmarked number (take most_kept line)) old new r is was
+met input number line old new (inl (r, is)) was = read_by (is_idle number (unmarked number (take most_kept line)) old.session.flow.run.verdict) input number (unmarked number (take most_kept line)) old new r is was
 met input number line old new (inr none) was = missed number old new none was
 
 read : (input : Option (List ℕ)) (n : ℕ) (text rest : Option (List ℕ)) (old new : Point) → AreRead input n text rest old new → IsShown old.session → IsShown new.session

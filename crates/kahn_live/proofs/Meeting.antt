@@ -4,11 +4,12 @@ use Rattle.std.proofs.KnownBytes.{Keeps-refl}
 use Rattle.std.specs.Prelude.{◌||◌}
 use Rattle.std.specs.Io.KnownBytes.{Appends}
 use Rattle.kahn_streams.specs.declared.answer.Verdict.{Verdict}
+use Rattle.kahn_streams.specs.declared.value.Failure.{Failure}
 use Rattle.kahn_streams.specs.Written.{AppendsFront, Writes}
 use Rattle.kahn_fault.specs.declared.fault.Fault.{Fault}
 use Rattle.kahn_session.specs.Live.{HasVerdict, IsTakenLine, Live, breaks}
 use Rattle.kahn_session.specs.declared.fault.TakeFault.{TakeFault}
-use Rattle.kahn_live.specs.Course.{WasAnswered, WasFed, HasSent, HasWaited, IsAnswerTold, IsLineMet, IsToldBy, Point, LiveTelling}
+use Rattle.kahn_live.specs.Course.{WasAnswered, WasFed, HasSent, HasWaited, IsAnswerTold, IsFaultPut, IsLineMet, IsNewFault, IsPartTold, IsToldBy, IsVerdictTold, Point, LiveTelling, is_verdict_new}
 use Rattle.kahn_live.specs.InputMet.{AreRead, IsCome, IsHearing, IsNextMet, IsNoneCome, IsSource, IsStep}
 use Rattle.kahn_live.specs.Lines.{IsNextLine}
 use Rattle.kahn_live.specs.declared.lines.Next.{Next}
@@ -84,6 +85,19 @@ none_kept (suc n) = refl
 -- nothing changed
 pub unmoved : (p : Point) → HasSent p p
 unmoved p = (refl, (refl, Keeps-refl p.out))
+
+-- a part of which there is nothing to tell
+pub none_told : (s : Live) (number : ℕ) (line : List ℕ) (v : Verdict) (told : LiveTelling) (first : Option (ℕ × Failure)) (wanted : Bool)
+    → IsNewFault told.complaints.faulted s.flow.run first → wanted ≡ is_verdict_new told.complaints line v → wanted ≡ false → first ≡ None → IsPartTold s number line v told told
+none_told s number line v told first wanted new is not none = (
+  first,
+  told,
+  told,
+  new,
+  subst (λ (b : Bool). IsVerdictTold number b v told told) (sym not ∙ is) refl,
+  subst (λ (f : Option (ℕ × Failure)). IsFaultPut number s.flow.run.network f told told) (sym none) refl,
+  inl refl,
+)
 
 -- ---- what was written is told
 

@@ -1,6 +1,7 @@
 -- Believed. What lines make, one after the other, of a session, of what goes out and of what is told (this project's profile).
-use Rattle.std.specs.Prelude.{◌≡◌, ◌⊎◌, ℕ, ◌-◌, Bool, true, false, not, ◌||◌, ◌&&◌, ◌==◌, List, [], ◌∷◌, Option, None, Some, if◌then◌else◌, string_bytes, Result, Ok, Err}
+use Rattle.std.specs.Prelude.{◌≡◌, ◌⊎◌, ℕ, ◌-◌, Bool, true, false, not, ◌||◌, ◌&&◌, ◌==◌, List, [], ◌∷◌, Option, None, Some, codes, if◌then◌else◌, string_bytes, Result, Ok, Err}
 use Rattle.std.specs.Io.KnownBytes.{Appends, Keeps}
+use Rattle.kahn_streams.specs.declared.answer.End.{End}
 use Rattle.kahn_streams.specs.declared.answer.Verdict.{Verdict}
 use Rattle.kahn_streams.specs.declared.answer.Verdict.TheVariants.{Finished, Bound, Memory}
 use Rattle.kahn_streams.specs.declared.fault.RunFault.TheVariants.{NoMemory as NoMemoryRun}
@@ -9,7 +10,7 @@ use Rattle.kahn_texts.specs.declared.bytes.WriteFault.{WriteFault}
 use Rattle.kahn_streams.specs.declared.feeds.FeedFault.{FeedFault}
 use Rattle.kahn_streams.specs.declared.tree.Program.{Program as Tree}
 use Rattle.kahn_streams.specs.declared.value.Failure.{Failure}
-use Rattle.kahn_sequential.specs.HeldRuns.{HeldRun}
+use Rattle.kahn_sequential.specs.HeldRuns.{HeldRun, IsRightSoFar}
 use Rattle.kahn_texts.specs.Formats.{content}
 use Rattle.kahn_inputs.specs.declared.refused.RefusedPart.{RefusedPart}
 use Rattle.kahn_hints.specs.Inputs.{input_names, inputs_words, unknown_input}
@@ -21,10 +22,12 @@ use Rattle.kahn_fault.specs.declared.fault.Fault.{Fault}
 use Rattle.kahn_fault.specs.declared.fault.Fault.TheVariants.{Program, Work}
 use Rattle.std.specs.Option.{is_none}
 use Rattle.std.specs.Str.{bytes_eq}
-use Rattle.kahn_session.specs.Live.{IsFirstFault, IsFirstInput, IsTakenLine, Live, breaks}
-use Rattle.kahn_session.specs.Refusals.{alike_text, failed_text, is_want, refusal_text, stepped_text, take_words, waiting_text}
+use Rattle.kahn_session.specs.Live.{IsFirstFault, IsFirstInput, IsRinged, IsTakenLine, Live, breaks}
+use Rattle.kahn_session.specs.Refusals.{alike_text, failed_text, is_want, line_note, refusal_text, take_words}
 use Rattle.kahn_session.specs.declared.fault.TakeFault.{TakeFault}
 use Rattle.kahn_session.specs.declared.fault.TakeFault.TheVariants.{BadLine, BadValue, Feed, NoMemory}
+use Rattle.kahn_why.specs.Why.{AreCauses}
+use Rattle.std.specs.List.{before_first}
 use Rattle.kahn_live.specs.Lines.{is_bare_line}
 use Rattle.kahn_live.specs.declared.stage.LiveStage.{LiveStage}
 use Rattle.kahn_live.specs.declared.telling.Teller.{Teller}
@@ -50,6 +53,8 @@ pub record Complaints : Type 0 where
   pub waited : Bool
   -- whether it was told that a process has a fault
   pub faulted : Bool
+  -- whether it was told that processes wait on one another in a ring
+  pub ringed : Bool
 
 -- what is told on standard error
 pub record LiveTelling : Type 0 where
@@ -64,7 +69,7 @@ pub record LiveTelling : Type 0 where
   pub complaints : Complaints
 
 abbrev pub complaints_of : {E : Type 0} → Teller E → Complaints
-complaints_of t = record { last = t.last; first = t.first; number = t.number; hinted = t.hinted; stepped = t.stepped; waited = t.waited; faulted = t.faulted }
+complaints_of t = record { last = t.last; first = t.first; number = t.number; hinted = t.hinted; stepped = t.stepped; waited = t.waited; faulted = t.faulted; ringed = t.ringed }
 
 abbrev pub telling_of : {E : Type 0} → (E → Option (List ℕ)) → Teller E → LiveTelling
 telling_of contents t = record {
@@ -227,11 +232,12 @@ is_step_new k (b ∷ bs) = not k.stepped
 
 -- that the line wants more events than a part may do was told
 abbrev pub IsStepPut : ℕ → LiveTelling → LiveTelling → Type 0
-IsStepPut number old new = WasToldOf (stepped_text old.path number) false (record old.complaints { stepped = true }) old new
+IsStepPut number old new =
+    WasToldOf (line_note old.path number (codes "wants more events than --step allows, and goes on with the next line")) false (record old.complaints { stepped = true }) old new
 
 -- that the part of the line waits for memory was told
 abbrev pub IsWaitPut : ℕ → LiveTelling → LiveTelling → Type 0
-IsWaitPut number old new = WasToldOf (waiting_text old.path number) false (record old.complaints { waited = true }) old new
+IsWaitPut number old new = WasToldOf (line_note old.path number (codes "waits for memory")) false (record old.complaints { waited = true }) old new
 
 -- this was told where it is new
 abbrev pub IsPutWhere : Bool → (LiveTelling → LiveTelling → Type 0) → LiveTelling → LiveTelling → Type 0
@@ -263,10 +269,28 @@ IsFaultPut number t None old new = new ≡ old
 IsFaultPut number t (Some (instance, kind)) old new =
     WasToldOf (failed_text old.path number t instance kind) false (record old.complaints { faulted = true }) old new
 
--- what is told of the part of a line: its verdict, and then a fault
+-- these words tell what came of the run and its causes; none do where it finished without a fault and a ring
+abbrev pub AreCausesOf : HeldRun → List ℕ → Type 0
+AreCausesOf h words = (v : Verdict) × (ends : List End) × (h.verdict ≡ Some v) × IsRightSoFar h v ends × AreCauses h.network v ends words
+
+-- the first of several lines
+abbrev pub first_line : List ℕ → List ℕ
+first_line lines = before_first (λ b. b == 10) lines
+
+-- that processes wait on one another in a ring was told in these words
+abbrev pub IsRingPut : ℕ → List ℕ → LiveTelling → LiveTelling → Type 0
+IsRingPut number words old new = WasToldOf (line_note old.path number words) false (record old.complaints { ringed = true }) old new
+
+-- that some do was told, where they do and it wasn't told before; or nothing was
+abbrev pub IsRingTold : ℕ → HeldRun → LiveTelling → LiveTelling → Type 0
+IsRingTold number h old new = (new ≡ old)
+    ⊎ ((old.complaints.ringed ≡ false) × IsRinged h true × ((words : List ℕ) × AreCausesOf h words × IsRingPut number (first_line words) old new))
+
+-- what is told of the part of a line: its verdict, then a fault, and then a ring
 abbrev pub IsPartTold : Live → ℕ → List ℕ → Verdict → LiveTelling → LiveTelling → Type 0
-IsPartTold s number line v old new = (first : Option (ℕ × Failure)) × (mid : LiveTelling) × IsNewFault old.complaints.faulted s.flow.run first
-    × IsVerdictTold number (is_verdict_new old.complaints line v) v old mid × IsFaultPut number s.flow.run.network first mid new
+IsPartTold s number line v old new = (first : Option (ℕ × Failure)) × (mid : LiveTelling) × (late : LiveTelling) × IsNewFault old.complaints.faulted s.flow.run first
+    × IsVerdictTold number (is_verdict_new old.complaints line v) v old mid × IsFaultPut number s.flow.run.network first mid late
+    × IsRingTold number s.flow.run late new
 
 -- what is told of a line with this answer
 abbrev pub IsToldBy : Live → ℕ → List ℕ → Result Verdict TakeFault → LiveTelling → LiveTelling → Type 0

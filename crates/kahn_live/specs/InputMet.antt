@@ -1,8 +1,8 @@
 -- Believed. The lines of the input, the part before them and the lines behind them, of a run on lines (this project's profile).
-use Rattle.std.specs.Prelude.{◌≡◌, ◌⊎◌, ⊤, ℕ, zero, suc, ◌-◌, ◌^◌, Bool, true, false, List, [], ◌∷◌, take, Option, None, Some, Result, Ok, Err}
+use Rattle.std.specs.Prelude.{◌≡◌, ◌⊎◌, ⊤, ℕ, zero, suc, ◌-◌, ◌^◌, ◌==◌, ◌&&◌, not, length, Bool, true, false, List, [], ◌∷◌, take, Option, None, Some, Result, Ok, Err}
 use Rattle.std.specs.Io.KnownBytes.{IsAtEnd}
 use Rattle.kahn_streams.specs.declared.answer.Verdict.{Verdict}
-use Rattle.kahn_streams.specs.declared.answer.Verdict.TheVariants.{Memory}
+use Rattle.kahn_streams.specs.declared.answer.Verdict.TheVariants.{Finished, Memory}
 use Rattle.kahn_fault.specs.declared.fault.Fault.{Fault}
 use Rattle.kahn_session.specs.Live.{HasVerdict, IsDeaf, IsFirstInput, IsMeantLine, IsOtherInput, IsUnfedBy, Live}
 use Rattle.kahn_session.specs.Refusals.{alone_text, at_end_number, is_want}
@@ -45,9 +45,22 @@ abbrev pub IsReadIn : Option (List ℕ) → Option (List ℕ) → ℕ → List �
 IsReadIn (Some names) input number line old new r = IsRowMet names number line old new r
 IsReadIn None input number line old new r = IsAloneMet number (fed_text input line) old new r
 
+-- whether the last part has finished
+abbrev pub has_finished : Option Verdict → Bool
+has_finished (Some Finished) = true
+has_finished v = false
+
+-- whether a line of the input changes nothing: an empty one, where the run has finished
+abbrev pub is_idle : ℕ → List ℕ → Option Verdict → Bool
+is_idle number line v = (not (number == 0) && length line == 0) && has_finished v
+
+abbrev pub IsReadBy : Bool → Option (List ℕ) → ℕ → List ℕ → Point → Point → Result (Option TakeFault) Fault → Type 0
+IsReadBy true input number line old new r = (r ≡ Ok None) × (new ≡ old)
+IsReadBy false input number line old new r = IsReadIn (row_names input) input number line old new r
+
 -- a line of which this was kept: a row, where several channels are named
 abbrev pub IsReadMet : Option (List ℕ) → ℕ → List ℕ → Point → Point → Result (Option TakeFault) Fault → Type 0
-IsReadMet input number kept old new r = IsReadIn (row_names input) input number (unmarked number kept) old new r
+IsReadMet input number kept old new r = IsReadBy (is_idle number (unmarked number kept) old.session.flow.run.verdict) input number (unmarked number kept) old new r
 
 -- a line of the input, of which no more is kept than decides that it is too long: it was taken or refused, for want of memory too
 abbrev pub IsAnyMet : Option (List ℕ) → ℕ → List ℕ → Point → Point → Type 0

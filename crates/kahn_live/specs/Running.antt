@@ -23,9 +23,9 @@ use Rattle.kahn_fault.specs.declared.fault.Fault.TheVariants.{Work}
 use Rattle.kahn_line.specs.declared.live.LiveOptions.{LiveOptions}
 use Rattle.kahn_line.specs.declared.parts.PlainNames.{PlainNames}
 use Rattle.kahn_hints.specs.Inputs.{names_of_channels, unknown_channel}
-use Rattle.kahn_session.specs.Refusals.{left_text, unknown_text}
+use Rattle.kahn_session.specs.Refusals.{unknown_text, path_line}
 use Rattle.kahn_session.specs.Live.{HasOpened, IsFaulty, IsLastText, IsRinged, IsUnopened, Live, has_left}
-use Rattle.kahn_live.specs.Course.{HasSent, HasWaited, IsMoreTold, IsWriteFault, Point, LiveTelling, WasTold, no_memory, telling_of}
+use Rattle.kahn_live.specs.Course.{AreCausesOf, HasSent, HasWaited, IsMoreTold, IsWriteFault, Point, LiveTelling, WasTold, no_memory, telling_of}
 use Rattle.kahn_live.specs.LinesMet.{AreAllMet, LinesGiven}
 use Rattle.kahn_live.specs.Rows.{AreNumbered}
 use Rattle.kahn_live.specs.declared.running.Requested.{Requested}
@@ -103,12 +103,13 @@ IsEndWanted h amiss refused v false = (reached_status amiss refused v ≡ 0) × 
 abbrev pub IsEndPut : HeldRun → LiveTelling → LiveTelling → Type 0
 IsEndPut h old new = (v : Verdict) × (text : List ℕ) × IsLastText h v text × WasTold text old new
 
--- what came of the run and its causes was told in some words, or nothing
-abbrev pub IsWhyTold : LiveTelling → LiveTelling → Type 0
-IsWhyTold old new = (words : List ℕ) × WasTold words old new
+-- what came of the run and its causes was told; or that memory was refused for it
+abbrev pub IsWhyTold : HeldRun → LiveTelling → LiveTelling → Type 0
+IsWhyTold h old new = ((words : List ℕ) × AreCausesOf h words × WasTold words old new)
+    ⊎ WasTold (path_line old.path (codes "no memory to say why it ended so")) old new
 
 abbrev pub IsEndTold : HeldRun → LiveTelling → LiveTelling → Bool → Type 0
-IsEndTold h old new true = (mid : LiveTelling) × (last : LiveTelling) × IsMoreTold old mid × IsWhyTold mid last × IsEndPut h last new
+IsEndTold h old new true = (mid : LiveTelling) × (last : LiveTelling) × IsMoreTold old mid × IsWhyTold h mid last × IsEndPut h last new
 IsEndTold h old new false = new ≡ old
 
 abbrev pub IsVerdictMet : HeldRun → Option Amiss → LiveTelling → LiveTelling → Verdict → Type 0
@@ -116,7 +117,7 @@ IsVerdictMet h amiss old new v = (h.verdict ≡ Some v) × ((told : Bool) × IsE
 
 -- that values are left without the others of their row was told, behind how many lines more were refused
 abbrev pub IsLeftTold : Bool → LiveTelling → LiveTelling → Type 0
-IsLeftTold true old new = (mid : LiveTelling) × IsMoreTold old mid × WasTold (left_text mid.path) mid new
+IsLeftTold true old new = (mid : LiveTelling) × IsMoreTold old mid × WasTold (path_line mid.path (codes "values are left without the others of their row")) mid new
 IsLeftTold false old new = new ≡ old
 
 -- what is new went out; what is left, and how the run ended, is told
@@ -261,7 +262,7 @@ untold bytes keep_going path = record {
   keep_going = keep_going;
   refused = false;
   path = path;
-  complaints = record { last = None; first = 0; number = 0; hinted = false; stepped = false; waited = false; faulted = false };
+  complaints = record { last = None; first = 0; number = 0; hinted = false; stepped = false; waited = false; faulted = false; ringed = false };
 }
 
 -- that `--watch` does nothing was told, where values stand alone

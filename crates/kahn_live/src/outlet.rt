@@ -1,4 +1,4 @@
-//! The writer of what is new: what is flushed goes out before the next wait, and not line by line.
+//! The writer of what is new: it goes out before the next wait, and not line by line.
 
 ghost use Rattle.std.specs.Prelude.{◌≡◌, ◌⊎◌, ◌↔◌, false, true, IfErr, IsErr, IsTrue};
 ghost use Rattle.std.specs.Io.{WritesAtMost};
@@ -10,11 +10,11 @@ use kahn_texts::WriteFault;
 use std::io;
 use std::io::{ErrorKind, Write};
 
-/// A writer that puts flushes off until `send`, and remembers whether its reader is gone.
+/// A writer that flushes at `send` alone, and remembers whether its reader is gone.
 #[derive(Drop)]
 pub(crate) struct DeferredWriter<W: Write> {
     pub(crate) writer: W,
-    // Whether a flush was put off.
+    // Whether something was written since it was flushed.
     pub(crate) due: bool,
     pub(crate) gone: bool,
 }
@@ -38,7 +38,7 @@ impl<W: Write> DeferredWriter<W> {
         self.gone
     }
 
-    /// Sends what was flushed, where that was put off.
+    /// Sends what was written.
     pub(crate) fn send(&mut self) -> Result<(), Fault>
         ensures kept { Keeps (W.contents self.old.writer) (W.contents self.new.writer) }
         ensures sent { self.new.due ≡ false }
@@ -73,7 +73,9 @@ impl<W: Write> Write for DeferredWriter<W> {
         ensures bound { WritesAtMost result buf.now }
         ensures bytes { WriteAppends (W.contents self.old.writer) (W.contents self.new.writer) result buf.now }
         ensures gone { IsTrue self.new.gone ↔ IsTrue self.old.gone ⊎ IsGone result }
+        ensures due { self.new.due ≡ true }
     {
+        self.due = true;
         let done = self.writer.write(buf);
         self.gone |= is_gone(&done);
         done
@@ -81,9 +83,7 @@ impl<W: Write> Write for DeferredWriter<W> {
 
     fn flush(&mut self) -> io::Result<()>
         ensures bytes { Keeps (W.contents self.old.writer) (W.contents self.new.writer) }
-        ensures due { self.new.due ≡ true }
     {
-        self.due = true;
         Ok(())
     }
 }

@@ -5,7 +5,7 @@ ghost use Rattle.std.specs.Io.Buffered.{reader_buffer};
 ghost use Rattle.kahn_session.specs.Live.{HasVerdict, breaks};
 ghost use Rattle.kahn_session.specs.Pace.{MayBeSlow};
 ghost use Rattle.kahn_live.specs.Course.{Across, AcrossStage, HasSent, IsAloneMet, IsAnswerTold, IsLineMet, IsRefusalTold, IsPartMet, IsWriteFault, no_memory, point_of, telling_of};
-ghost use Rattle.kahn_live.specs.InputMet.{AreCellsMet, AreLastMet, AreLastTried, IsFirstPart, IsInputMet, IsLastRefused, IsAloneTold, IsNextMet, IsReadMet, IsRowMet};
+ghost use Rattle.kahn_live.specs.InputMet.{AreCellsMet, AreLastMet, AreLastTried, IsFirstPart, IsInputMet, IsLastRefused, IsAloneTold, IsNextMet, IsReadMet, IsRowMet, has_finished, is_idle};
 ghost use Rattle.kahn_live.specs.LinesMet.{AreAllMet, AreEachMet, lines_given};
 ghost use Rattle.kahn_live.specs.Histories.{HasHistories};
 ghost use Rattle.kahn_live.specs.Lines.{IsReadyToRead, fed_text};
@@ -81,11 +81,11 @@ fn tell_behind<W: Write, E: Write>(
     Ok(())
 }
 
-/// Whether nothing is told of a part: neither of its verdict nor of a fault.
-fn is_quiet(wanted: bool, first: Option<(usize, Failure)>) -> bool
+/// Whether nothing is told of a part: neither of its verdict nor of a fault or a ring.
+fn is_quiet(wanted: bool, first: Option<(usize, Failure)>, ringed: bool) -> bool
     ensures { IsTrue result → (wanted ≡ false) × (first ≡ None) }
 {
-    if wanted {
+    if wanted || ringed {
         return false;
     }
     match first {
@@ -108,13 +108,15 @@ fn tell_part<W: Write, E: Write>(
 {
     let wanted = stage.teller.is_verdict_new(verdict, line);
     let first = stage.teller.new_fault(&stage.session);
-    if is_quiet(wanted, first) {
+    let ringed = stage.teller.is_ring_new(&stage.session);
+    if is_quiet(wanted, first, ringed) {
         return Ok(());
     }
     stage.outlet.send()?;
     stage.teller.tell_verdict(number, wanted, verdict);
     let network = stage.session.network();
     stage.teller.tell_faulty(number, network, first);
+    stage.teller.tell_ring(number, &stage.session);
     Ok(())
 }
 
@@ -222,6 +224,23 @@ fn take_row<W: Write, E: Write>(
     }
 }
 
+/// Whether the last part has finished.
+fn has_finished(session: &Session<'_>) -> bool
+    ensures { result ≡ has_finished session.now.flow.run.verdict }
+{
+    match session.verdict() {
+        Some(Verdict::Finished) => true,
+        _ => false,
+    }
+}
+
+/// Whether a line of that number changes nothing: an empty one, where the run has finished.
+fn is_idle(session: &Session<'_>, number: u64, line: &[u8]) -> bool
+    ensures { result ≡ is_idle number line.now session.now.flow.run.verdict }
+{
+    number != 0 && line.is_empty() && has_finished(session)
+}
+
 /// Takes a line of the input, and gives why it was refused.
 fn take_read<W: Write, E: Write>(
     stage: &mut LiveStage<'_, W, E>,
@@ -235,6 +254,9 @@ fn take_read<W: Write, E: Write>(
     ensures met { AcrossStage W.contents E.contents stage.old stage.new (λ p q. IsReadMet (option_copied input.entry) number line.now p q result) }
 {
     let line = without_mark(line, number);
+    if is_idle(&stage.session, number, line) {
+        return Ok(None);
+    }
     match row_names(input) {
         Some(names) => take_row(stage, names, line, number),
         None => take_alone(stage, input, line, number, room),

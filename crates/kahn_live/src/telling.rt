@@ -1,25 +1,25 @@
 //! What is told of lines that aren't taken, and of the end.
 
-ghost use Rattle.std.specs.Prelude.{◌≡◌, false, option_copied, string_bytes, true};
+ghost use Rattle.std.specs.Prelude.{◌≡◌, IfOk, IsTrue, false, option_copied, string_bytes, true};
 ghost use Rattle.std.specs.Option.{is_none};
-ghost use Rattle.kahn_session.specs.Refusals.{left_text, unknown_text};
-ghost use Rattle.kahn_session.specs.Live.{HasVerdict};
+ghost use Rattle.kahn_session.specs.Refusals.{unknown_text, path_line};
+ghost use Rattle.kahn_session.specs.Live.{HasVerdict, IsRinged};
 ghost use Rattle.kahn_fault.specs.Status.{live_status_of};
 ghost use Rattle.kahn_fault.specs.Telling.{pointer_text, told_text};
-ghost use Rattle.kahn_live.specs.Course.{IsTallied, IsMoreTold, IsNewPut, IsNewTold, IsNextTold, IsFaultPut, IsNewFault, IsStepPut, IsVerdictPut, IsVerdictTold, IsWaitPut, WasTold, complaints_of, does_count, is_again, is_alike, is_hinted, is_next, is_step_new, is_verdict_new, telling_of};
+ghost use Rattle.kahn_live.specs.Course.{AreCausesOf, IsTallied, IsMoreTold, IsNewPut, IsNewTold, IsNextTold, IsFaultPut, IsNewFault, IsStepPut, IsRingPut, IsRingTold, IsVerdictPut, IsVerdictTold, IsWaitPut, WasTold, complaints_of, does_count, first_line, is_again, is_alike, is_hinted, is_next, is_step_new, is_verdict_new, telling_of};
 ghost use Rattle.kahn_live.specs.InputMet.{IsAlonePut};
 ghost use Rattle.kahn_live.specs.Running.{IsEndPut, IsEndTold, IsLastTold, IsLeftTold, IsWhyTold, untold};
 
 use kahn_fault::{Fault, live_status, tell, tell_explain};
 use kahn_inputs::RefusedPart;
 use kahn_session::{
-    Session, TakeFault, is_want, take_words, write_alone, write_fault, write_left, write_more,
-    write_refusal, write_stopped, write_unknown, write_waiting,
+    Session, TakeFault, is_want, take_words, write_alone, write_fault, write_more, write_note,
+    write_refusal, write_unknown, write_words,
 };
 use kahn_streams::{Failure, Network, Verdict};
 use kahn_texts::write_line;
 use kahn_why::causes;
-use std::alloc::Global;
+use std::alloc::{AllocError, Global};
 use std::io::Write;
 
 /// Whether a number is the next one.
@@ -66,17 +66,30 @@ fn does_count(keep_going: bool, fault: TakeFault) -> bool
     !keep_going || is_want(fault)
 }
 
-/// What came of the run of a session and its causes, in words; none where memory was refused for them.
-fn cause_words(alloc: Global, path: &str, program: &str, session: &Session<'_>) -> String
+/// What came of the run of a session and its causes, in words.
+fn cause_words(
+    alloc: Global,
+    path: &str,
+    program: &str,
+    session: &Session<'_>,
+) -> Result<String, AllocError>
     requires { HasVerdict session.now }
+    ensures { IfOk result (λ words. AreCausesOf session.now.flow.run (string_bytes words)) }
 {
     let Some(verdict) = session.verdict() else {
         unreachable!()
     };
     let network = session.network();
-    match causes(alloc, path, program, network, verdict, session.ends()) {
-        Ok(words) => words,
-        Err(_) => String::new(alloc),
+    causes(alloc, path, program, network, verdict, session.ends())
+}
+
+/// The first of several lines.
+fn first_line(lines: &str) -> &str
+    ensures { result.now ≡ first_line lines.now }
+{
+    match lines.split_once('\n') {
+        Some((first, _)) => first,
+        None => lines,
     }
 }
 
@@ -106,6 +119,8 @@ pub(crate) struct Teller<E: Write> {
     pub(crate) waited: bool,
     // Whether it was told that a process has a fault.
     pub(crate) faulted: bool,
+    // Whether it was told that processes wait on one another in a ring.
+    pub(crate) ringed: bool,
 }
 
 impl<E: Write> Teller<E> {
@@ -127,6 +142,7 @@ impl<E: Write> Teller<E> {
             stepped: false,
             waited: false,
             faulted: false,
+            ringed: false,
         }
     }
 
@@ -227,7 +243,8 @@ impl<E: Write> Teller<E> {
     fn tell_waiting(&mut self, number: u64)
         ensures { IsWaitPut number (telling_of E.contents self.old) (telling_of E.contents self.new) }
     {
-        let told = write_waiting(&mut self.errors, self.path.as_str(), number);
+        let words = "waits for memory";
+        let told = write_note(&mut self.errors, self.path.as_str(), number, words);
         self.failed |= told.is_err();
         self.waited = true;
     }
@@ -243,7 +260,8 @@ impl<E: Write> Teller<E> {
     fn tell_step(&mut self, number: u64)
         ensures { IsStepPut number (telling_of E.contents self.old) (telling_of E.contents self.new) }
     {
-        let told = write_stopped(&mut self.errors, self.path.as_str(), number);
+        let words = "wants more events than --step allows, and goes on with the next line";
+        let told = write_note(&mut self.errors, self.path.as_str(), number, words);
         self.failed |= told.is_err();
         self.stepped = true;
     }
@@ -308,30 +326,77 @@ impl<E: Write> Teller<E> {
         self.faulted = true;
     }
 
-    /// Tells that values are left without the others of their row.
-    fn put_left(&mut self)
-        ensures { WasTold (left_text (string_bytes self.old.path)) (telling_of E.contents self.old) (telling_of E.contents self.new) }
+    /// Whether processes wait on one another in a ring after a part, and it wasn't told before that some do. Behind the last part that isn't
+    /// asked: the end tells it.
+    pub(crate) fn is_ring_new(&self, session: &Session<'_>) -> bool
+        requires { HasVerdict session.now }
+        ensures { IsTrue result → (self.now.ringed ≡ false) × IsRinged session.now.flow.run true }
     {
-        let told = write_left(&mut self.errors, self.path.as_str());
+        if self.ringed || !session.may_have_ring() {
+            return false;
+        }
+        match session.verdict() {
+            Some(Verdict::Finished) => !session.is_deaf() && session.has_ring(),
+            _ => false,
+        }
+    }
+
+    /// Tells it of the line of that number, unless memory is refused for it.
+    pub(crate) fn tell_ring(&mut self, number: u64, session: &Session<'_>)
+        requires { HasVerdict session.now }
+        ensures { IsRingTold number session.now.flow.run (telling_of E.contents self.old) (telling_of E.contents self.new) }
+    {
+        if !self.is_ring_new(session) {
+            return;
+        }
+        match cause_words(self.alloc, "", "", session) {
+            Ok(words) => self.put_ring(number, first_line(words.as_str())),
+            Err(_) => {}
+        }
+    }
+
+    /// Tells it in these words.
+    fn put_ring(&mut self, number: u64, words: &str)
+        ensures { IsRingPut number words.now (telling_of E.contents self.old) (telling_of E.contents self.new) }
+    {
+        let told = write_note(&mut self.errors, self.path.as_str(), number, words);
+        self.failed |= told.is_err();
+        self.ringed = true;
+    }
+
+    /// Tells words behind the program's file.
+    fn put_words(&mut self, words: &str)
+        ensures { WasTold (path_line (string_bytes self.old.path) words.now) (telling_of E.contents self.old) (telling_of E.contents self.new) }
+    {
+        let told = write_words(&mut self.errors, self.path.as_str(), words);
         self.failed |= told.is_err();
     }
 
-    /// Tells it, behind how many lines more were refused.
+    /// Tells that values are left without the others of their row, behind how many lines more were refused.
     pub(crate) fn tell_left(&mut self)
         ensures { IsLeftTold true (telling_of E.contents self.old) (telling_of E.contents self.new) }
     {
         self.tell_more();
-        self.put_left();
+        self.put_words("values are left without the others of their row");
     }
 
-    /// Tells what came of the run of a session and its causes, unless memory is refused for it.
+    /// Tells lines that are made.
+    fn put_lines(&mut self, lines: &str)
+        ensures { WasTold lines.now (telling_of E.contents self.old) (telling_of E.contents self.new) }
+    {
+        let told = write_line(&mut self.errors, &[lines.as_bytes()]);
+        self.failed |= told.is_err();
+    }
+
+    /// Tells what came of the run of a session and its causes, or that memory was refused for it.
     fn put_causes(&mut self, session: &Session<'_>, program: &str)
         requires { HasVerdict session.now }
-        ensures { IsWhyTold (telling_of E.contents self.old) (telling_of E.contents self.new) }
+        ensures { IsWhyTold session.now.flow.run (telling_of E.contents self.old) (telling_of E.contents self.new) }
     {
-        let words = cause_words(self.alloc, self.path.as_str(), program, session);
-        let told = write_line(&mut self.errors, &[words.as_bytes()]);
-        self.failed |= told.is_err();
+        match cause_words(self.alloc, self.path.as_str(), program, session) {
+            Ok(words) => self.put_lines(words.as_str()),
+            Err(_) => self.put_words("no memory to say why it ended so"),
+        }
     }
 
     /// Tells how the run of a session ended, in the last lines of a report.

@@ -1,4 +1,4 @@
-use Rattle.std.proofs.Common.{arith, ◌≡◌, ◌+◌, ◌∷◌, List, ℕ, Err, None, Ok, Option, Some, drop, map, ap, subst}
+use Rattle.std.proofs.Common.{arith, ◌≡◌, ◌+◌, ◌∷◌, List, ℕ, Err, None, Ok, Option, drop, map, ap, subst}
 use Rattle.std.proofs.lemmas.Grind.{common_steps}
 use Rattle.kahn_session.specs.declared.fault.TakeFault.{TakeFault}
 use Rattle.kahn_live.specs.Course.{IsLineMet, point_of}
