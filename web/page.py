@@ -12,6 +12,8 @@ import json
 import os
 import pathlib
 import re
+import shutil
+import subprocess
 import sys
 import zlib
 
@@ -26,9 +28,11 @@ def text_of(path):
 
 
 def packed(path):
-    """The bytes of the module, deflated, in base64."""
+    """The bytes of the module, deflated (by zopfli, if it is there, into five per cent less), in base64."""
     if path.endswith(".html"):
         return re.search(r'const MODULE = "([^"]*)"', text_of(path))[1]
+    if shutil.which("zopfli"):
+        return base64.b64encode(subprocess.run(["zopfli", "--deflate", "-c", path], stdout=subprocess.PIPE, check=True).stdout).decode()
     pack = zlib.compressobj(9, wbits=-15)
     return base64.b64encode(pack.compress(pathlib.Path(path).read_bytes()) + pack.flush()).decode()
 
