@@ -35,11 +35,6 @@ def instructions(words, room):
     return int(re.search(r"refs:\s+([\d,]+)", ran.stderr)[1].replace(",", ""))
 
 
-def runs_of(words):
-    """The number of runs that the words of a command line begin with, as `--runs N`, or nine; and the other words."""
-    return (int(words[1]), words[2:]) if words[:1] == ("--runs",) else (9, words)
-
-
 def put(room, name, text):
     """A file for a program."""
     with open(f"{room}/{name}.kahn", "w", encoding="utf-8") as it:

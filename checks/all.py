@@ -116,7 +116,7 @@ def mine():
                  "the library of the page": f"cd crates/kahn_web && rt check {WELL}",
                  "the program whose workers begin at once": f"cd crates/kahn_crowd && rt run -- --help {WELL}",
                  **{f"must-fail edits of {it}": f"rt must-fail {it}" for it in names if os.path.isdir(f"crates/{it}/must-fail")},
-                 **{it: f"cd crates/{it} && rt test {WELL}" for it in ("kahn_units", "kahn_rows")}})
+                 "kahn_rows": f"cd crates/kahn_rows && rt test {WELL}"})
         programs()
 
 

@@ -27,7 +27,7 @@ SECONDS_TO_OPEN = 60
 MOST_LETTERS_KEPT = 200000
 STATES = {"ended": "ended", "wants": "ready", "waits": "waits", "fault": "fault"}
 # The line that the page leaves out: it shows which values wait on each arrow.
-UNTAKEN = re.compile(rb"^\d+ of the \d+ values of .* never taken\n|^\S+ holds \d+ values that .* taken\n", re.MULTILINE)
+UNTAKEN = re.compile(rb"^(?:\d+|none) of the \d+ values of .* taken\n|^\S+ holds \d+ values that .* taken\n", re.MULTILINE)
 STEPPED = ["count", "squares", "filter", "double", "pipeline", "rates"]
 
 

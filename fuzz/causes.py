@@ -96,9 +96,10 @@ def cause(checked, ends, p):
     return "ring", min(ring), first in ring
 
 
-def taken(count):
+def taken(count, fed):
     """How many values there were on an input, all of which are taken."""
-    return [", to which nothing came: --input FILE brings values", ", of which the one value is taken"][count] if count < 2 else f", of which all {count} values are taken"
+    nothing = f", to which nothing came: {'the input text has no values for it' if fed else '--input FILE brings values'}"
+    return [nothing, ", of which the one value is taken"][count] if count < 2 else f", of which all {count} values are taken"
 
 
 def waits_in(part, name):
@@ -140,7 +141,7 @@ def line_of(checked, text, inputs, ends, p):
     at = spots(checked, text, channel)
     told = at[:1] + (at[1:] if len(at) < 4 else [f"{len(at) - 1} places more"])
     out = f"{who(p)} waits on {name}" + ("" if is_round else f" at {' or '.join(told)}")
-    out += ", an input" + taken(len(inputs.get(channel, []))) if writer is None else f" from {who(writer)}"
+    out += ", an input" + taken(len(inputs.get(channel, [])), any(inputs.values())) if writer is None else f" from {who(writer)}"
     if is_round:
         return f"{out}, in a deadlock: for ever"
     if why == "an input":
@@ -199,8 +200,11 @@ def untaken(checked, counts):
     if most == 0:
         return []
     c = left.index(most)
-    some = f"{most} of the {counts[c][0]} values" if counts[c][0] > 1 else "the value"
-    return [f"{some} of {checked.channels[c][0]} {'was' if most == 1 else 'were'} never taken"]
+    sent, name = counts[c][0], checked.channels[c][0]
+    if most == sent > 1:
+        return [f"none of the {sent} values of {name} was taken"]
+    some = f"{most} of the {sent} values" if sent > 1 else "the value"
+    return [f"{some} of {name} {'was' if most == 1 else 'were'} never taken"]
 
 
 def wanted_of(checked, text, inputs, ends, last):

@@ -138,7 +138,7 @@ def is_true(text, lexemes, at, place, line):
     if told := FIX.fullmatch(line):
         return mended(text, told, place)
     if told := re.fullmatch(r"`(\w+)` is no keyword; did you mean `(\w+)`\?", line):
-        return text[ref.byte_of(text, *place):].startswith(told[1].encode()) and told[2] in {"comment", *ref.KEYWORDS} and told[1].lower() not in ref.KEYWORDS
+        return text[ref.byte_of(text, *place):].startswith(told[1].encode()) and told[2].lower() in {"comment", *ref.KEYWORDS} and told[1].lower() not in ref.KEYWORDS
     if line == "the second `begin` has no `end`":
         return ends < begins
     if told := re.fullmatch(r"`begin` has no `end`: (?:it ends before \d+:\d+|by its indentation it ends (?:before line (\d+)|at the end of the text))", line):

@@ -3,6 +3,7 @@
 A mistake is refused with its note, and nothing else is said; so is an input of checks/mistakes/inputs, for the program there. A warning comes
 before the explanation of the run, and alone with --strict, which refuses the program; a program without a note has no warning."""
 import glob
+import json
 import os
 import re
 import subprocess
@@ -11,6 +12,9 @@ from common import TOP, read, text_of, write
 
 TABLE = re.compile(r'PATTERNS: &str = "\\\n(.*?)";', re.S)
 FIX = re.compile(r"fix: (?:replace|remove) `(.*?)`(?: with `(.*)`)?(?: at \d+:\d+)?$", re.M)
+HEAD = re.compile(r"^[\w.-]+:(\d+:\d+: (?:error|warning|note): .*)$", re.M)
+PUT = re.compile(r"= fix: (?:remove `.*`|(?:insert|replace `.*?` with) `(.*?)`(?= at | after | before |$))", re.M)
+UNSHOWN = re.compile("[\x00-\x1f\x7f-\x9f\u061c\u200b-\u200f\u2028-\u202e\u2060-\u206f\ufeff]")
 KINDS = {"int": "integer", "bool": "logical", "boolean": "logical"}
 MISTAKES, WARNINGS, ROWS = (f"{TOP}/checks/{name}" for name in ("mistakes", "warnings", "rows"))
 
@@ -35,6 +39,15 @@ def note_of(path, given, words):
     return read(path) if os.path.exists(path) else b""
 
 
+def data_of(data, shown):
+    """The status, the headings and the changes of notes as data, and of the same notes as they are shown."""
+    notes = [json.loads(line) for line in data[1].splitlines()]
+    heads = [f"{it['line']}:{it['column']}: {it.get('sort', 'note')}: {it['words']}" for note in notes for it in (note, *note["others"])]
+    put = [it["fix"]["put"].strip() for it in notes if it["fix"]]
+    told = shown[1].decode()
+    return (data[0], [UNSHOWN.sub("\ufffd", it) for it in heads], put), (shown[0], HEAD.findall(told), PUT.findall(told))
+
+
 def try_mistakes(program, words, tried):
     cases = [(MISTAKES, name, (f"{name}.kahn",)) for name in names_in(MISTAKES, ".kahn", words.only)]
     inputs = f"{MISTAKES}/inputs"
@@ -42,6 +55,7 @@ def try_mistakes(program, words, tried):
     for folder, name, line in cases:
         given = explain(program, folder, *line)
         tried.same(f"mistakes: {name}", given, (1, note_of(f"{folder}/{name}.note", given[1], words), b""))
+        tried.same(f"data: {name}", *data_of(explain(program, folder, *line, "--json"), given))
 
 
 def try_warnings(program, words, tried):

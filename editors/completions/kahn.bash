@@ -8,7 +8,7 @@ _kahn() {
     kahn) options="--input --workers --quantum --bound --watch --help --version" ;;
     kahn_live) options="--quantum --step --watch --keep-going --strict --at-end --in --out --plain --help --version" ;;
     kahn_draw) options="--input --bound --help --version" ;;
-    kahn_explain) options="--input --workers --quantum --bound --all --strict --trace --channels --check --needs --wakes --help --version" ;;
+    kahn_explain) options="--input --workers --quantum --bound --all --strict --trace --channels --check --needs --wakes --json --help --version" ;;
   esac
   mapfile -t COMPREPLY < <(compgen -W "$options" -- "$word")
 }

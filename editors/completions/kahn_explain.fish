@@ -11,5 +11,6 @@ complete -c kahn_explain -l channels -d 'write how many values each channel carr
 complete -c kahn_explain -l check -d 'look at the texts alone, and run nothing'
 complete -c kahn_explain -l needs -x -d 'write what values need'
 complete -c kahn_explain -l wakes -x -d 'write which values first need one of an input'
+complete -c kahn_explain -l json -d 'look at the texts alone, and write notes as data'
 complete -c kahn_explain -s h -l help -d 'print help'
 complete -c kahn_explain -s V -l version -d 'print version'

@@ -93,9 +93,9 @@ An empty input.
 Waits at several places.
   $ kahn_explain places.kahn --input <(echo 'D: true')
   no deadlock and no fault
-  1 two waits on A at 3:63 or 3:84, an input, to which nothing came: --input FILE brings values
-  2 three waits on C at 5:26 or 5:53 or 5:72, an input, to which nothing came: --input FILE brings values
-  3 four waits on E at 9:40 or 3 places more, an input, to which nothing came: --input FILE brings values
+  1 two waits on A at 3:63 or 3:84, an input, to which nothing came: the input text has no values for it
+  2 three waits on C at 5:26 or 5:53 or 5:72, an input, to which nothing came: the input text has no values for it
+  3 four waits on E at 9:40 or 3 places more, an input, to which nothing came: the input text has no values for it
   finished 4
 A fault.
   $ kahn_explain fault.kahn

@@ -38,8 +38,8 @@ One value, and the first of two channels.
   the value of B was never taken
   $ kahn_explain two --input <(printf 'A: 1\nB: 7\n') | grep 'never taken'
   the value of A was never taken
-  $ kahn_explain two --input <(printf 'A: 1\nB: 7 8\n') | grep 'never taken'
-  2 of the 2 values of B were never taken
+  $ kahn_explain two --input <(printf 'A: 1\nB: 7 8\n') | grep 'B was taken'
+  none of the 2 values of B was taken
 After want of memory, who lets values lie.
   $ {
   >   echo 'begin integer input channel A; integer channel C; integer output channel B; process fast(integer out W);'

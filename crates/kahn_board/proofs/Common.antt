@@ -14,7 +14,7 @@ pub use prog.Atomic.{either}
 pub use Rattle.atomic_table.proofs.Lists.{at_longer, at_map, at_set, exchanged, set_else, set_here}
 pub use Rattle.atomic_table.specs.Seated.{TableId}
 pub use Rattle.atomic_table.specs.Table.{Act, Allows, Joins, Splits, Valid, carried_after, gives, keeps, opening, rest, step, stepped, takes, turned}
-pub use Rattle.kahn_streams.specs.Network.{Actual, Hands, Instance, Network, Reads, Writes, channels_of, idle, is_written, network_of}
+pub use Rattle.kahn_streams.specs.Network.{Actual, Hands, Node, Schema, Reads, Writes, channels_of, idle, is_written, network_of}
 pub use Rattle.kahn_streams.specs.declared.sides.Side.{Side}
 pub use Rattle.kahn_streams.specs.declared.tree.Program.{Program}
 pub use Rattle.kahn_board.specs.Calls.{Claims, IsFirstSlot, IsSameSeat, KeepsAll, Leaves, Looks, MayLeave, OwesFew, Unowed, Was, downs_of, AreCut, HoldsNothing, IsFree, split_off, after_joining, after_splitting}

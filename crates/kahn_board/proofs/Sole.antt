@@ -1,5 +1,5 @@
 -- The one instance to which a channel is handed to be read, or to be written, is the first one.
-use Rattle.kahn_board.proofs.Common.{◌≡◌, ℕ, ◌<◌, List, cond, length, get_or, position, list_any, ap, sym, refl, ◌∙◌, arith, eq-eqb, Bool, true, false, true≢false, Some, None, Program, Network, Instance, Actual, Reads, Writes, Hands, idle, is_written, network_of, wires, is_read, position_or_len, pos, nat_lt, get_or_default, position_or_len_is}
+use Rattle.kahn_board.proofs.Common.{◌≡◌, ℕ, ◌<◌, List, cond, length, get_or, position, list_any, ap, sym, refl, ◌∙◌, arith, eq-eqb, Bool, true, false, true≢false, Some, None, Program, Schema, Node, Actual, Reads, Writes, Hands, idle, is_written, network_of, wires, is_read, position_or_len, pos, nat_lt, get_or_default, position_or_len_is}
 use Rattle.std.specs.Prelude.{slice_index_or}
 use Rattle.std.proofs.{lemmas.Bool.eqb-true, lemmas.Bool.lt-ltb, lemmas.Bool.le-ltb, lemmas.List.Folds.Any-from_list_any, lemmas.List.Folds.list_any_at, lemmas.List.Quantifiers.position-Some}
 use Rattle.kahn_streams.specs.Syntax as S
@@ -42,12 +42,12 @@ written_is (Writes d) c e = ap Writes (eqb-true d c e)
 written_is (Hands v) c e = absurd (true≢false (sym e))
 
 -- the actual q of the instance p is a
-abbrev pub Is : Network → Actual → ℕ → ℕ → Type 0
+abbrev pub Is : Schema → Actual → ℕ → ℕ → Type 0
 Is n a p q = (p < length n.instances) × (q < length (slice_index_or n.instances p idle).actuals) × (slice_index_or (slice_index_or n.instances p idle).actuals q nothing ≡ a)
 
 -- an instance has an actual that passes just where it is there
-module _ (N : Network) (is : Actual → Bool) (a : Actual) (so : (b : Actual) → is b ≡ true → b ≡ a) where
-  abbrev has : Instance → Bool
+module _ (N : Schema) (is : Actual → Bool) (a : Actual) (so : (b : Actual) → is b ≡ true → b ≡ a) where
+  abbrev has : Node → Bool
   has i = list_any is i.actuals
 
   found : (p : ℕ) → p < length N.instances → has (slice_index_or N.instances p idle) ≡ true → (q : ℕ) × Is N a p q

@@ -1,5 +1,5 @@
 -- Chains of waits: each has one end.
-use Rattle.kahn_chain.proofs.Common.{◌≡◌, ℕ, ◌⊎◌, inl, inr, ⊎_elim, List, Some, refl, sym, subst, ◌∙◌, ap, ap₂, arith, slice_get, Network, Given, Written, channel_source, Awaits, Leads, stays, onward, LeadsOn, IsLeastOfRing, IsNoWait, IsCause, Standing, Cause, Input, Stopped, Ring}
+use Rattle.kahn_chain.proofs.Common.{◌≡◌, ℕ, ◌⊎◌, inl, inr, ⊎_elim, List, Some, refl, sym, subst, ◌∙◌, ap, ap₂, arith, slice_get, Schema, Given, Written, channel_source, Awaits, Leads, stays, onward, LeadsOn, IsLeastOfRing, IsNoWait, IsCause, Standing, Cause, Input, Stopped, Ring}
 use Rattle.kahn_chain.specs.declared.standing.Standing.TheVariants.{Ended, Waits, Faulted, More}
 
 same_wait : (c d : ℕ) → Some (Waits c) ≡ Some (Waits d) → c ≡ d
@@ -18,10 +18,10 @@ no_wait Faulted h = tt
 no_wait More h = tt
 
 -- nothing is behind z
-abbrev pub Halts : Network → List Standing → ℕ → Type 0
+abbrev pub Halts : Schema → List Standing → ℕ → Type 0
 Halts N ss z = (c w : ℕ) → Awaits N ss z c w → ⊥
 
-module _ (N : Network) (ss : List Standing) where
+module _ (N : Schema) (ss : List Standing) where
   pub then : (p z y : ℕ) → Leads N ss p z → Leads N ss z y → Leads N ss p y
   then p z y stays h = h
   then p z y (onward {w = w} a k) h = onward a (then w z y k h)
@@ -80,7 +80,7 @@ module _ (N : Network) (ss : List Standing) where
   no_ring : (z : ℕ) → Halts N ss z → LeadsOn N ss z z → ⊥
   no_ring z h r = h r.0 r.1 r.2
 
-  end_or_ring : (p z y : ℕ) → Leads N ss p z → Halts N ss z → Leads N ss p y → LeadsOn N ss y y → ⊥
+  pub end_or_ring : (p z y : ℕ) → Leads N ss p z → Halts N ss z → Leads N ss p y → LeadsOn N ss y y → ⊥
   end_or_ring p z y h hz k r =
       ⊎_elim (λ l. no_ring z hz (subst (λ x. LeadsOn N ss x x) (sym (stays_there z y hz l)) r))
       (λ l. no_ring z hz (on_ring y z r l)) (meet p z y h k)

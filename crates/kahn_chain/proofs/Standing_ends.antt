@@ -1,5 +1,5 @@
 -- The ends of a right answer wait on channels of the network.
-use Rattle.kahn_chain.proofs.Common.{◌≡◌, ℕ, ◌<◌, List, length, map, Option, None, Some, refl, sym, ap, subst, ◌∙◌, option_map, length-map, slice_get, slice_get-map, Network, network_of, Reads, instance_at, actual_at, AreStandings, standing_of, stands, Standing, End, Outcome, Ended, Waits, Faulted, More, Verdict}
+use Rattle.kahn_chain.proofs.Common.{◌≡◌, ℕ, ◌<◌, List, length, map, Option, None, Some, refl, sym, ap, subst, ◌∙◌, option_map, length-map, slice_get, slice_get-map, Schema, network_of, Reads, instance_at, actual_at, AreStandings, standing_of, stands, Standing, End, Outcome, Ended, Waits, Faulted, More, Verdict}
 use Rattle.kahn_streams.specs.{declared.tree.Program.Program, Wiring.IsWellWired, Solution.Histories, Solution.Inputs, Answers.AreRight, Answers.IsOutcome, Answers.IsWaiting, declared.answer.Verdict.TheVariants.Finished, declared.answer.Verdict.TheVariants.Bound, declared.answer.Verdict.TheVariants.Memory}
 use Rattle.kahn_streams.proofs.Sourced.{reads_listed}
 use Rattle.kahn_chain.specs.declared.standing.Standing.TheVariants as S
@@ -21,7 +21,7 @@ waiting (Waits d) c e = ap Waits same
 waiting (Faulted k) c e = absurd cc
 waiting More c e = absurd cc
 
-read_of : (v : Verdict) (N : Network) (A : Histories) (p e c : ℕ) → IsWaiting v N A p e c → (q : ℕ) × (actual_at (instance_at N p) q ≡ Reads c)
+read_of : (v : Verdict) (N : Schema) (A : Histories) (p e c : ℕ) → IsWaiting v N A p e c → (q : ℕ) × (actual_at (instance_at N p) q ≡ Reads c)
 read_of Finished N A p e c h = (h.0, h.1)
 read_of Bound N A p e c h = (h.0, h.1)
 read_of Memory N A p e c h = (h.2.0, h.2.1)

@@ -1,7 +1,7 @@
 -- Believed. Why an instance of a network goes no further. Each instance waits on at most one channel, which has at most one writer, so
 -- its waits are one chain.
 use Rattle.std.specs.Prelude.{◌≡◌, ℕ, ◌<◌, ◌≤◌, List, Bool, true, false, length, Some, slice_get}
-use Rattle.kahn_streams.specs.{Network.Network, Network.Given, Network.Written, Network.channel_source, declared.answer.End.End, declared.answer.Outcome.Outcome}
+use Rattle.kahn_streams.specs.{Network.Schema, Network.Given, Network.Written, Network.channel_source, declared.answer.End.End, declared.answer.Outcome.Outcome}
 use Rattle.kahn_streams.specs.declared.answer.Outcome.TheVariants as outcome
 use Rattle.kahn_chain.specs.{declared.standing.Standing.Standing, declared.standing.Standing.TheVariants.Ended, declared.standing.Standing.TheVariants.Waits, declared.standing.Standing.TheVariants.Faulted, declared.standing.Standing.TheVariants.More, declared.standing.Cause.Cause, declared.standing.Cause.TheVariants.Input, declared.standing.Cause.TheVariants.Stopped, declared.standing.Cause.TheVariants.Ring}
 
@@ -16,25 +16,25 @@ abbrev pub stands : End → Standing
 stands x = standing_of x.outcome
 
 -- the list has each instance's standing, and each waits on a channel of the network
-pub record AreStandings (N : Network) (ss : List Standing) : Type 0 where
+pub record AreStandings (N : Schema) (ss : List Standing) : Type 0 where
   pub each : length ss ≡ length N.instances
   pub channels : (p c : ℕ) → slice_get ss p ≡ Some (Waits c) → c < length N.channels
 
 -- instance p waits on channel c, which instance w writes
-abbrev pub Awaits : Network → List Standing → ℕ → ℕ → ℕ → Type 0
+abbrev pub Awaits : Schema → List Standing → ℕ → ℕ → ℕ → Type 0
 Awaits N ss p c w = (slice_get ss p ≡ Some (Waits c)) × (channel_source N c ≡ Written w)
 
 -- from one instance to another by such waits
-pub data Leads (N : Network) (ss : List Standing) : ℕ → ℕ → Type 0 where
+pub data Leads (N : Schema) (ss : List Standing) : ℕ → ℕ → Type 0 where
   stays : {p : ℕ} → Leads N ss p p
   onward : {p c w z : ℕ} → Awaits N ss p c w → Leads N ss w z → Leads N ss p z
 
 -- from one instance to another by at least one
-abbrev pub LeadsOn : Network → List Standing → ℕ → ℕ → Type 0
+abbrev pub LeadsOn : Schema → List Standing → ℕ → ℕ → Type 0
 LeadsOn N ss p z = (c w : ℕ) × Awaits N ss p c w × Leads N ss w z
 
 -- these instances wait on one another in a ring, and z has the least number of them
-pub record IsLeastOfRing (N : Network) (ss : List Standing) (z : ℕ) : Type 0 where
+pub record IsLeastOfRing (N : Schema) (ss : List Standing) (z : ℕ) : Type 0 where
   pub ring : LeadsOn N ss z z
   pub least : (w : ℕ) → Leads N ss z w → z ≤ w
 
@@ -45,22 +45,22 @@ IsNoWait Faulted = Unit {0}
 IsNoWait More = Unit {0}
 
 -- why p goes no further: the one that waits on an input, or that doesn't wait, or the first of a ring, by number
-abbrev pub IsCause : Network → List Standing → ℕ → Cause → Type 0
+abbrev pub IsCause : Schema → List Standing → ℕ → Cause → Type 0
 IsCause N ss p (Input z c) = Leads N ss p z × (slice_get ss z ≡ Some (Waits c)) × (channel_source N c ≡ Given)
 IsCause N ss p (Stopped z s) = Leads N ss p z × (slice_get ss z ≡ Some s) × IsNoWait s
 IsCause N ss p (Ring z) = Leads N ss p z × IsLeastOfRing N ss z
 
 -- the mark says whether the waits of p lead back to it
-abbrev pub IsRingMark : Network → List Standing → ℕ → Bool → Type 0
+abbrev pub IsRingMark : Schema → List Standing → ℕ → Bool → Type 0
 IsRingMark N ss p true = LeadsOn N ss p p
 IsRingMark N ss p false = LeadsOn N ss p p → ⊥
 
 -- one mark for each instance
-pub record AreRings (N : Network) (ss : List Standing) (marks : List Bool) : Type 0 where
+pub record AreRings (N : Schema) (ss : List Standing) (marks : List Bool) : Type 0 where
   pub each : length marks ≡ length ss
   pub rings : (p : ℕ) (mark : Bool) → slice_get marks p ≡ Some mark → IsRingMark N ss p mark
 
 -- whether instances wait on one another in a ring
-abbrev pub HasRing : Network → List Standing → Bool → Type 0
+abbrev pub HasRing : Schema → List Standing → Bool → Type 0
 HasRing N ss true = (p : ℕ) × LeadsOn N ss p p
 HasRing N ss false = (p : ℕ) → LeadsOn N ss p p → ⊥

@@ -1,6 +1,6 @@
 -- Believed. Why each instance that hasn't ended goes no further.
 use Rattle.std.specs.Prelude.{◌≡◌, ℕ, ◌+◌, List, [], ◌∷◌, ◌++◌, All, Bool, true, false, Some, map, slice_get}
-use Rattle.kahn_streams.specs.{Network.Network, declared.answer.End.End, declared.answer.Outcome.Outcome, declared.answer.Verdict.Verdict, declared.answer.Verdict.TheVariants.Finished, declared.answer.Verdict.TheVariants.Bound, declared.answer.Verdict.TheVariants.Memory}
+use Rattle.kahn_streams.specs.{Network.Schema, declared.answer.End.End, declared.answer.Outcome.Outcome, declared.answer.Verdict.Verdict, declared.answer.Verdict.TheVariants.Finished, declared.answer.Verdict.TheVariants.Bound, declared.answer.Verdict.TheVariants.Memory}
 use Rattle.kahn_streams.specs.declared.answer.Outcome.TheVariants as outcome
 use Rattle.kahn_chain.specs.{Chain.IsCause, Chain.IsRingMark, Chain.stands, declared.standing.Standing.Standing, declared.standing.Standing.TheVariants.Ended, declared.standing.Standing.TheVariants.Waits, declared.standing.Standing.TheVariants.Faulted, declared.standing.Standing.TheVariants.More, declared.standing.Cause.Cause, declared.standing.Cause.TheVariants.Input, declared.standing.Cause.TheVariants.Stopped, declared.standing.Cause.TheVariants.Ring, declared.reason.Reason.Reason}
 
@@ -23,7 +23,7 @@ lasts Bound y = is_final y
 lasts Memory y = false
 
 -- what is told of instance p: its end, its cause, whether it is on a ring, and whether that is for ever
-pub record IsReasonFor (N : Network) (v : Verdict) (es : List End) (r : Reason) : Type 0 where
+pub record IsReasonFor (N : Schema) (v : Verdict) (es : List End) (r : Reason) : Type 0 where
   pub end : slice_get es r.instance ≡ Some r.end
   pub cause : IsCause N (map stands es) r.instance r.cause
   pub ring : IsRingMark N (map stands es) r.instance r.is_on_ring
@@ -44,6 +44,6 @@ abbrev pub told_instance : Reason → ℕ
 told_instance r = r.instance
 
 -- each instance that hasn't ended has one reason, in order, and nobody else has
-pub record AreReasons (N : Network) (v : Verdict) (es : List End) (rs : List Reason) : Type 0 where
+pub record AreReasons (N : Schema) (v : Verdict) (es : List End) (rs : List Reason) : Type 0 where
   pub once : map told_instance rs ≡ not_ended 0 es
   pub each : All (IsReasonFor N v es) rs

@@ -1,10 +1,10 @@
 //! The law of causes. The function does nothing: its contract is the law.
 
 ghost use Rattle.std.specs.Prelude.{◌≡◌, ℕ, List};
-ghost use Rattle.kahn_streams.specs.Network.{Network};
+ghost use Rattle.kahn_streams.specs.Network.{Schema};
 ghost use Rattle.kahn_chain.specs.{Chain.IsCause, declared.standing.Cause.Cause, declared.standing.Standing.Standing};
 
 /// An instance has one cause; so a ring is reported exactly if there is one.
 pub fn one_cause()
-    ensures { (N : Network) (ss : List Standing) (p : ℕ) (a b : Cause) → IsCause N ss p a → IsCause N ss p b → a ≡ b }
+    ensures { (N : Schema) (ss : List Standing) (p : ℕ) (a b : Cause) → IsCause N ss p a → IsCause N ss p b → a ≡ b }
 {}

@@ -4,9 +4,8 @@ ghost use Rattle.std.specs.Prelude.{◌≡◌, ◌<◌, ◌++◌, IfOk, length, 
 ghost use Rattle.kahn_streams.specs.Network.{network_of};
 ghost use Rattle.kahn_chain.specs.{Chain.AreStandings, Chain.IsCause, Chain.IsRingMark, Chain.stands, Reasons.AreReasons, Reasons.lasts, inner.Reasoned.reasons_at};
 
-use crate::cause::cause;
-use crate::ring::is_on_ring;
-use crate::standing::{Cause, Standing, standings};
+use crate::cause::{Caused, cause_of};
+use crate::standing::{Cause, Standing};
 use kahn_streams::{End, Network, Outcome, Verdict};
 use std::alloc::{AllocError, Global};
 
@@ -43,21 +42,19 @@ fn add_reason(
     verdict: Verdict,
     instance: usize,
     end: End,
-    cause: Cause,
-    is_on_ring: bool,
+    found: Caused,
 ) -> Result<(), AllocError>
-    ensures { IfOk result (λ _. reasons.new.items ≡ reasons.old.items ++ reasons_at verdict instance end cause is_on_ring) }
+    ensures { IfOk result (λ _. reasons.new.items ≡ reasons.old.items ++ reasons_at verdict instance end found.cause found.is_on_ring) }
 {
     if let Outcome::Ended = end.outcome {
         return Ok(());
     }
-    let lasts = lasts(verdict, cause);
     reasons.push(Reason {
         instance,
         end,
-        cause,
-        is_on_ring,
-        lasts,
+        cause: found.cause,
+        is_on_ring: found.is_on_ring,
+        lasts: lasts(verdict, found.cause),
     })?;
     Ok(())
 }
@@ -72,12 +69,10 @@ pub fn reasons(
     requires { AreStandings (network_of network.now) (map stands ends.now) }
     ensures { IfOk result (λ list. AreReasons (network_of network.now) verdict ends.now list.items) }
 {
-    let standings = standings(alloc, ends)?;
     let mut reasons = Vec::new(alloc);
     for instance in 0..ends.len() {
-        let cause = cause(alloc, network, &standings, instance)?;
-        let mark = is_on_ring(alloc, network, &standings, instance)?;
-        add_reason(&mut reasons, verdict, instance, ends[instance], cause, mark)?;
+        let found = cause_of(network, ends, instance);
+        add_reason(&mut reasons, verdict, instance, ends[instance], found)?;
     }
     Ok(reasons)
 }

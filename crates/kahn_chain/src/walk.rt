@@ -1,12 +1,11 @@
 //! A walk along the waits of an instance.
 
-ghost use Rattle.std.specs.Prelude.{◌≡◌, ◌<◌, IfOk, length};
+ghost use Rattle.std.specs.Prelude.{◌≡◌, ◌==◌, ◌||◌, ◌<◌, length, map};
 ghost use Rattle.kahn_streams.specs.Network.{network_of};
-ghost use Rattle.kahn_chain.specs.{Chain.AreStandings, inner.Walk.IsStepFrom, inner.Walk.IsWalked};
+ghost use Rattle.kahn_chain.specs.{Chain.AreStandings, Chain.stands, inner.Walk.IsStepFrom, inner.Walk.IsWalked};
 
-use crate::standing::{Cause, Standing};
-use kahn_streams::Network;
-use std::alloc::{AllocError, Global};
+use crate::standing::{Cause, Standing, standing_of};
+use kahn_streams::{End, Network};
 
 /// What comes after an instance on its chain of waits.
 #[derive(Clone, Copy)]
@@ -17,22 +16,24 @@ pub(crate) enum WalkStep {
     Stop(Cause),
 }
 
-/// Where a walk stopped.
+/// What a walk found.
 #[derive(Clone, Copy)]
 pub(crate) struct Walked {
-    /// Why; in a ring, any of its instances.
+    /// Why it stopped; in a ring, any of its instances.
     pub stop: Cause,
     /// The least instance on it.
     pub least: usize,
+    /// Whether it came to the instance that was sought.
+    pub found: bool,
 }
 
 /// Returns what comes after an instance.
-pub(crate) fn next(network: &Network, standings: &[Standing], instance: usize) -> WalkStep
-    requires known { AreStandings (network_of network.now) standings.now }
-    requires here { instance < length standings.now }
-    ensures { IsStepFrom (network_of network.now) standings.now instance result }
+fn next(network: &Network, ends: &[End], instance: usize) -> WalkStep
+    requires known { AreStandings (network_of network.now) (map stands ends.now) }
+    requires here { instance < length ends.now }
+    ensures { IsStepFrom (network_of network.now) (map stands ends.now) instance result }
 {
-    match standings[instance] {
+    match standing_of(ends[instance].outcome) {
         Standing::Waits(channel) => match network.writer(channel) {
             Some(side) => WalkStep::On(side.instance),
             None => WalkStep::Stop(Cause::Input(instance, channel)),
@@ -41,32 +42,35 @@ pub(crate) fn next(network: &Network, standings: &[Standing], instance: usize) -
     }
 }
 
-/// Walks from an instance to the end of its chain, or until it comes to one a second time.
-pub(crate) fn walk(
-    alloc: Global,
-    network: &Network,
-    standings: &[Standing],
-    first: usize,
-) -> Result<Walked, AllocError>
-    requires known { AreStandings (network_of network.now) standings.now }
-    requires here { first < length standings.now }
-    ensures { IfOk result (IsWalked (network_of network.now) standings.now first) }
+/// Whether it was found before, or is here.
+fn is_found(found: bool, at: usize, sought: usize) -> bool
+    ensures { result ≡ found || (at == sought) }
 {
-    let mut marks = vec![in alloc; false; standings.len()]?;
+    found || at == sought
+}
+
+/// Walks from an instance to the end of its chain, or as many steps as there are instances. Then it is in a ring, and was at all on its way.
+pub(crate) fn walk(network: &Network, ends: &[End], first: usize, sought: usize) -> Walked
+    requires known { AreStandings (network_of network.now) (map stands ends.now) }
+    requires here { first < length ends.now }
+    ensures { IsWalked (network_of network.now) (map stands ends.now) first sought result }
+{
     let mut at = first;
     let mut least = first;
-    loop {
-        if marks[at] {
-            return Ok(Walked {
-                stop: Cause::Ring(at),
-                least,
-            });
+    let mut found = first == sought;
+    for _ in 0..ends.len() {
+        match next(network, ends, at) {
+            WalkStep::On(instance) => {
+                at = instance;
+                least = least.min(at);
+                found = is_found(found, at, sought);
+            }
+            WalkStep::Stop(stop) => return Walked { stop, least, found },
         }
-        marks[at] = true;
-        least = least.min(at);
-        match next(network, standings, at) {
-            WalkStep::On(instance) => at = instance,
-            WalkStep::Stop(stop) => return Ok(Walked { stop, least }),
-        }
+    }
+    Walked {
+        stop: Cause::Ring(at),
+        least,
+        found,
     }
 }

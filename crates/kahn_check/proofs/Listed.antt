@@ -1,7 +1,11 @@
 -- A name that is added to those that are found by their hash, or by their text.
 use Rattle.kahn_check.proofs.Common.{◌≡◌, ℕ, Bool, true, false, cond, List, [], ◌∷◌, ◌++◌, Option, None, Some, String, string_bytes, is_some, refl, ap, sym, ◌∙◌, bytes_eq, arith, nat_cmp, subst, option_or, is_eq, lookup, update, bytes_true, AreFound, found, hashed}
 use Rattle.std.proofs.lemmas.Slice.Eq.{bytes_eq-Decides}
-use Rattle.kahn_check.proofs.{Alike.or_none, Wired.lookup_append}
+use Rattle.kahn_check.proofs.Wired.{lookup_append}
+
+or_none : {X : Type 0} (o : Option X) → option_or o None ≡ o
+or_none None = refl
+or_none (Some x) = refl
 
 nat_same : (a b : ℕ) → is_eq (nat_cmp a b) ≡ true → a ≡ b
 nat_same a b h = grind (arith, h)
@@ -15,6 +19,19 @@ bytes_self x = (bytes_eq-Decides x x).1 refl
 -- what x stands for once y stands for w
 with_name : {V : Type 0} (listed : List (List ℕ × V)) (x y : List ℕ) (w : V) → lookup (bytes_eq x) (listed ++ (y, w) ∷ []) ≡ option_or (lookup (bytes_eq x) listed) (cond (bytes_eq x y) (Some w) None)
 with_name listed x y w = lookup_append (bytes_eq x) listed ((y, w) ∷ [])
+
+-- a name that stands for something already
+pub still_found : {V Y : Type 0} (listed : List (List ℕ × V)) (firsts : ℕ → Option (String Y × V)) (others : List ℕ → Option V) (y : List ℕ) (w : V) →
+    is_some (lookup (bytes_eq y) listed) ≡ true → AreFound listed firsts others → AreFound (listed ++ (y, w) ∷ []) firsts others
+still_found {V} listed firsts others y w there known x = known x ∙ by (bytes_eq x y) refl ∙ sym (with_name listed x y w)
+  where
+    some : (o : Option V) → is_some o ≡ true → o ≡ option_or o (Some w)
+    some None h = cc
+    some (Some v) h = refl
+
+    by : (c : Bool) → bytes_eq x y ≡ c → lookup (bytes_eq x) listed ≡ option_or (lookup (bytes_eq x) listed) (cond c (Some w) None)
+    by true i = some (lookup (bytes_eq x) listed) (ap (λ z. is_some (lookup (bytes_eq z) listed)) (bytes_true x y i) ∙ there)
+    by false i = sym (or_none (lookup (bytes_eq x) listed))
 
 module _ {V Y : Type 0} (listed : List (List ℕ × V)) (firsts : ℕ → Option (String Y × V)) (others : List ℕ → Option V) (y : List ℕ) (w : V)
     (free : lookup (bytes_eq y) listed ≡ None) (known : AreFound listed firsts others) where

@@ -1,5 +1,6 @@
 -- The parts of a program, put together, and the first fault of each.
-use Rattle.kahn_check.proofs.Common.{◌≡◌, ℕ, suc, ◌+◌, List, [], ◌∷◌, ◌++◌, map, refl, ap, sym, ◌∙◌, append_assoc, bytes_eq, length, lookup, Name, Kind, Role, Declaration, Instance, Program, bytes_of, entries, IsChannel, IsProcess, declared_channels, global, Handover, handed_by, CheckFault, verdict, most_channels, most_instances, too_many, repeated, process_faults, made_faults, channel_faults, declaration_faults, instance_faults, side_faults, sides_faults, faults, channel_parts, declaration_parts, instance_parts, parts, side_parts, together, firsts, unless_empty, faults_by_part, first_alone, Table, as_channels}
+use Rattle.kahn_check.proofs.Common.{arith, nat_tests, nat_lt, cond, true, false, ◌≡◌, ℕ, zero, suc, ◌+◌, ◌-◌, add-zero, List, [], ◌∷◌, ◌++◌, map, refl, ap, sym, ◌∙◌, append_assoc, append-nil, bytes_eq, length, lookup, Span, Name, Kind, Role, Declaration, Instance, Program, bytes_of, entries, IsChannel, IsProcess, declared_of, declared_channels, global, Handover, handed_by, CheckFault, TooMany, verdict, most_channels, most_instances, too_many, repeated, process_faults, made_faults, channel_faults, declaration_faults, instance_faults, side_faults, sides_faults, faults, name_parts, no_room, instance_parts, parts, side_parts, together, firsts, unless_empty, faults_by_part, first_alone, Table, as_channels}
+use Rattle.kahn_streams.specs.Wiring
 use Rattle.kahn_streams.specs.declared.tree.Declaration.TheVariants as D
 
 -- ---- put together they are the faults
@@ -8,19 +9,45 @@ together_append : (ps qs : List (List CheckFault)) → together (ps ++ qs) ≡ t
 together_append [] qs = refl
 together_append (p ∷ ps) qs = ap (λ z. p ++ z) (together_append ps qs) ∙ sym (append_assoc p (together ps) (together qs))
 
-channel_whole : (g : Table) (n : ℕ) (kind : Kind) (role : Role) (xs : List Name) → together (channel_parts g n kind role xs) ≡ channel_faults g n kind role xs
-channel_whole g n kind role [] = refl
-channel_whole g n kind role (x ∷ xs) =
+-- the room of so many channels that were declared
+room_left : (n : ℕ) (at : Span) → no_room (most_channels - n) at ≡ too_many most_channels n at
+room_left n at = by (most_channels - n) refl
+  where
+    by : (room : ℕ) → most_channels - n ≡ room → no_room room at ≡ too_many most_channels n at
+    by zero h = ap (λ b. cond b [] (TooMany at ∷ [])) (sym (beyond h))
+      where
+        beyond : most_channels - n ≡ 0 → nat_lt n most_channels ≡ false
+        beyond e = grind (arith, nat_tests)
+    by (suc room) h = ap (λ b. cond b [] (TooMany at ∷ [])) (sym (within h))
+      where
+        within : most_channels - n ≡ suc room → nat_lt n most_channels ≡ true
+        within e = grind (arith, nat_tests)
+
+channel_whole : (g : Table) (n room : ℕ) (kind : Kind) (role : Role) (xs : List Name) (es : List (Name × Wiring.Global)) → room ≡ most_channels - n →
+    together (name_parts g room (as_channels kind role xs ++ es)) ≡ channel_faults g n kind role xs ++ together (name_parts (g ++ entries (as_channels kind role xs)) (most_channels - (n + length xs)) es)
+channel_whole g n room kind role [] es h =
+    (λ j. together (name_parts (sym (append-nil g) j) (h j) es)) ∙ ap (λ m. together (name_parts (g ++ []) (most_channels - m) es)) (sym (add-zero n))
+channel_whole g n room kind role (x ∷ xs) es h =
     let limit = too_many most_channels n x.span in
     let name = repeated (lookup (bytes_eq (bytes_of x)) g) x.span in
-    let more = g ++ (bytes_of x, IsChannel kind role) ∷ [] in
-    append_assoc limit name (together (channel_parts more (suc n) kind role xs)) ∙ ap (λ z. limit ++ (name ++ z)) (channel_whole more (suc n) kind role xs)
+    let one : Table = (bytes_of x, IsChannel kind role) ∷ [] in
+    let less : room - 1 ≡ most_channels - suc n = omega (arith, h) in
+    let go = channel_whole (g ++ one) (suc n) (room - 1) kind role xs es less in
+    let faults = channel_faults (g ++ one) (suc n) kind role xs in
+    let after = together (name_parts (g ++ entries (as_channels kind role (x ∷ xs))) (most_channels - (n + length (x ∷ xs))) es) in
+    let sum : suc n + length xs ≡ n + length (x ∷ xs) = omega arith in
+    let same : together (name_parts ((g ++ one) ++ entries (as_channels kind role xs)) (most_channels - (suc n + length xs)) es) ≡ after =
+    λ j. together (name_parts (append_assoc g one (entries (as_channels kind role xs)) j) (most_channels - sum j) es) in
+    (λ j. ((ap (λ m. no_room m x.span) h ∙ room_left n x.span) j ++ name) ++ (go ∙ ap (λ z. faults ++ z) same) j)
+    ∙ append_assoc limit name (faults ++ after)
+    ∙ ap (λ z. limit ++ z) (sym (append_assoc name faults after))
+    ∙ sym (append_assoc limit (name ++ faults) after)
 
-declaration_whole : (g : Table) (n : ℕ) (ds : List Declaration) → together (declaration_parts g n ds) ≡ declaration_faults g n ds
+declaration_whole : (g : Table) (n : ℕ) (ds : List Declaration) → together (name_parts g (most_channels - n) (declared_of ds)) ≡ declaration_faults g n ds
 declaration_whole g n [] = refl
 declaration_whole g n (D.Channels kind role names ∷ rest) =
-    together_append (channel_parts g n kind role names.items) (declaration_parts (g ++ entries (as_channels kind role names.items)) (n + length names.items) rest)
-    ∙ (λ i. channel_whole g n kind role names.items i ++ declaration_whole (g ++ entries (as_channels kind role names.items)) (n + length names.items) rest i)
+    channel_whole g n (most_channels - n) kind role names.items (declared_of rest) refl
+    ∙ ap (λ z. channel_faults g n kind role names.items ++ z) (declaration_whole (g ++ entries (as_channels kind role names.items)) (n + length names.items) rest)
 declaration_whole g n (D.Process p ∷ rest) =
     ap (λ z. repeated (lookup (bytes_eq (bytes_of p.name)) g) p.name.span ++ (process_faults p ++ z)) (declaration_whole (g ++ (bytes_of p.name, IsProcess p) ∷ []) n rest)
 
@@ -38,7 +65,7 @@ sides_whole t (c ∷ cs) = ap (λ z. side_faults t c.0 c.1.1 ++ z) (sides_whole 
 
 pub whole : (t : Program) → together (parts t ++ side_parts t) ≡ faults t
 whole t =
-    let ds = declaration_parts [] 0 t.declarations.items in
+    let ds = name_parts [] most_channels (declared_of t.declarations.items) in
     let is = instance_parts t [] 0 t.instances.items in
     together_append (parts t) (side_parts t)
     ∙ ap (λ z. z ++ together (side_parts t)) (together_append ds is)

@@ -1,8 +1,8 @@
 //! Whether an argument is what its parameter wants.
 
-ghost use Rattle.std.specs.Prelude.{◌≡◌, IfOk};
-ghost use Rattle.kahn_streams.specs.{declared.tree.Direction.TheVariants.In, declared.tree.Direction.TheVariants.Out, Faults.verdict, Faults.second as second_of, Wiring.handed, Wiring.is_closed};
-ghost use Rattle.kahn_check.specs.{inner.Firsts.got_first, inner.Globals.known, inner.Tables.misplaced_in, inner.Tables.place_faults, inner.Tables.HandsOver};
+ghost use Rattle.std.specs.Prelude.{◌≡◌, OnOk};
+ghost use Rattle.kahn_streams.specs.{Faults.verdict, Faults.second as second_of, Wiring.handed, Wiring.is_closed};
+ghost use Rattle.kahn_check.specs.{inner.Globals.known, inner.Tables.HaveGot, inner.Tables.misplaced_in, inner.Tables.place_faults};
 
 use crate::expression::agree;
 use crate::globals::{Entry, Globals};
@@ -90,7 +90,8 @@ pub fn fits(
     }
 }
 
-/// Hands a channel over, unless that side of it is handed over already.
+/// Hands a channel over. Of those at one side of a channel the first is found.
+#[tactic(auto, using(crate::proofs::Told::got_none))]
 pub fn keep(
     writers: &mut ChannelSides,
     readers: &mut ChannelSides,
@@ -98,31 +99,11 @@ pub fn keep(
     argument: &Argument,
     end: Side,
 ) -> Result<(), NoMemory>
-    ensures writers { IfOk result (λ u. writers.new ≡ got_first Out writers.old (handed end taking argument.now)) }
-    ensures readers { IfOk result (λ u. readers.new ≡ got_first In readers.old (handed end taking argument.now)) }
+    ensures { OnOk result (HaveGot (handed end taking argument.now) writers.old readers.old writers.new readers.new) }
 {
     match (taking, argument) {
         (Taking::Channel(Direction::Out, _), Argument::Channel(name)) => writers.keep(name, end),
         (Taking::Channel(Direction::In, _), Argument::Channel(name)) => readers.keep(name, end),
         (_, _) => Ok(()),
-    }
-}
-
-/// Checks that an argument is what its parameter wants, and hands its channel over.
-#[tactic(auto, using(crate::proofs::Alike::no_faults, crate::proofs::Alike::one_fault, crate::proofs::Alike::got_fresh))]
-pub fn place(
-    globals: &Globals,
-    writers: &mut ChannelSides,
-    readers: &mut ChannelSides,
-    taking: Taking,
-    argument: &Argument,
-    end: Side,
-) -> Result<(), CheckFault>
-    ensures { HandsOver (known globals.now) end taking argument.now writers.old readers.old writers.new readers.new result }
-{
-    fits(globals, writers, readers, taking, argument)?;
-    match keep(writers, readers, taking, argument, end) {
-        Ok(()) => Ok(()),
-        Err(NoMemory) => Err(CheckFault::NoMemory),
     }
 }

@@ -1,13 +1,13 @@
 //! The names that a program declares: its channels and its processes, in one name space.
 
-ghost use Rattle.std.specs.Prelude.{◌≡◌, [], IfOk, OnOk, IfSome, List};
+ghost use Rattle.std.specs.Prelude.{◌≡◌, ◌++◌, ◌∷◌, [], OnOk, IfSome, List};
 ghost use Rattle.std.specs.Map.{lookup};
 ghost use Rattle.std.proofs.Common.{bytes_eq};
-ghost use Rattle.kahn_streams.specs.{declared.tree.Declaration.Declaration, View.bytes_of, Faults.Declares};
-ghost use Rattle.kahn_check.specs.{inner.Firsts.kept_first, inner.Globals.known, inner.Globals.global_of, inner.Globals.option_global, inner.Globals.ArePlaced, inner.Globals.IsPlaced};
+ghost use Rattle.kahn_streams.specs.{declared.tree.Declaration.Declaration, View.bytes_of};
+ghost use Rattle.kahn_check.specs.{inner.Globals.known, inner.Globals.global_of, inner.Globals.option_global, inner.Globals.ArePlaced, inner.Globals.IsPlaced};
 
 use crate::names::NameTable;
-use kahn_streams::{CheckFault, Kind, Name, NoMemory, Process, Role};
+use kahn_streams::{Kind, Name, NoMemory, Process, Role};
 use std::alloc::Global;
 
 /// What a name stands for: a channel, or a process with the number of its declaration.
@@ -42,17 +42,11 @@ impl<'p> Globals<'p> {
         self.names.find(name)
     }
 
-    /// Declares a name that stands for nothing yet.
-    pub fn declare(&mut self, name: &Name, what: Entry<'p>) -> Result<(), CheckFault>
-        ensures known { Declares name.now (global_of what.entry) (known self.old) (known self.new) result }
-        ensures placed { OnOk result ((ds : List Declaration) → ArePlaced ds self.old → IsPlaced ds what.entry → ArePlaced ds self.new) }
-    {
-        self.names.declare(name, what)
-    }
-
-    /// Declares a name, unless it is declared already.
+    /// Declares a name. What it stands for already it goes on standing for.
+    #[tactic(auto, using(crate::proofs::Global_names::one_more_shown, crate::proofs::Global_names::placed_more))]
     pub fn keep(&mut self, name: &Name, what: Entry<'p>) -> Result<(), NoMemory>
-        ensures { IfOk result (λ u. known self.new ≡ kept_first (known self.old) (bytes_of name.now) (global_of what.entry)) }
+        ensures known { OnOk result (known self.new ≡ known self.old ++ (bytes_of name.now, global_of what.entry) ∷ []) }
+        ensures placed { OnOk result ((ds : List Declaration) → ArePlaced ds self.old → IsPlaced ds what.entry → ArePlaced ds self.new) }
     {
         self.names.keep(name, what)
     }

@@ -3,10 +3,8 @@
 #![tactic(auto)]
 
 mod argument;
-mod declarations;
 mod expression;
 mod globals;
-mod instance;
 mod laws;
 mod names;
 mod network;

@@ -1,10 +1,10 @@
 //! Names, and what each of them stands for.
 
-ghost use Rattle.std.specs.Prelude.{◌≡◌, ◌++◌, ◌∷◌, [], List, ℕ, IfOk, MatchResult, None};
+ghost use Rattle.std.specs.Prelude.{◌≡◌, ◌++◌, ◌∷◌, [], List, ℕ, OnOk, MatchResult, None};
 ghost use Rattle.std.specs.Map.{lookup};
 ghost use Rattle.std.proofs.Common.{bytes_eq};
 ghost use Rattle.kahn_streams.specs.{View.bytes_of, Faults.Declares};
-ghost use Rattle.kahn_check.specs.{inner.Firsts.kept_first, inner.Names.hashed};
+ghost use Rattle.kahn_check.specs.inner.Names.{hashed};
 
 use kahn_streams::{About, CheckFault, Name, NoMemory, Side, Taking};
 use std::alloc::Global;
@@ -111,11 +111,13 @@ impl<V: Copy> NameTable<V> {
         Ok(())
     }
 
-    /// Adds a name, unless it was added already.
+    /// Adds a name. What it stands for already it goes on standing for.
     pub fn keep(&mut self, name: &Name, what: V) -> Result<(), NoMemory>
-        ensures { IfOk result (λ u. self.new ≡ kept_first self.old (bytes_of name.now) what) }
+        ensures { OnOk result (self.new ≡ self.old ++ (bytes_of name.now, what) ∷ []) }
     {
         if self.find(name).is_some() {
+            let listed = in_order(self, name, &what);
+            self.listed = listed;
             return Ok(());
         }
         match self.add(name, what) {

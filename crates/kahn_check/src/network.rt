@@ -3,9 +3,7 @@
 ghost use Rattle.std.specs.Prelude.{◌≡◌, MatchResult};
 ghost use Rattle.kahn_streams.specs.{Faults.IsMet, Faults.faults, Wiring.IsWellWired};
 
-use crate::declarations::declarations;
-use crate::instance::instances;
-use crate::wires::all_wires;
+use crate::part::walk;
 use kahn_streams::{CheckFault, Network, Program, kept};
 use std::alloc::Global;
 
@@ -15,9 +13,11 @@ use std::alloc::Global;
 pub fn check(alloc: Global, program: Program) -> Result<Network, CheckFault>
     ensures { MatchResult result (λ n. (n ≡ program) × IsWellWired program) (λ f. IsMet (faults program) f) }
 {
-    let globals = declarations(alloc, &program)?;
-    let seats = instances(alloc, &globals, &program)?;
-    drop(globals);
-    let wires = all_wires(alloc, &seats.writers, &seats.readers, &program.declarations)?;
-    Ok(kept(program, wires, seats.processes))
+    let Ok(walked) = walk(alloc, &program) else {
+        return Err(CheckFault::NoMemory);
+    };
+    match walked.faults.first().copied() {
+        Some(fault) => Err(fault),
+        None => Ok(kept(program, walked.wires, walked.processes)),
+    }
 }

@@ -1,27 +1,31 @@
 //! The first fault of each part of a program: of each declared name, each body, each instance; and of each channel's sides.
 
-ghost use Rattle.std.specs.Prelude.{◌≡◌, ◌≤◌, ◌+◌, ◌++◌, ◌∷◌, [], IfOk, OnOk, length};
+ghost use Rattle.std.specs.Prelude.{◌≡◌, ◌++◌, ◌∷◌, [], IfOk, OnOk, List, Some, length, slice_get};
 ghost use Rattle.std.specs.Map.{lookup};
 ghost use Rattle.std.proofs.Common.{bytes_eq};
-ghost use Rattle.kahn_streams.specs.{View.bytes_of, Wiring.declared_channels, Wiring.declared_of, Wiring.entries, Wiring.handed, Wiring.handed_in, Faults.miscounted, Faults.most_channels, Faults.most_instances, Faults.process_faults, Faults.repeated, Faults.too_many};
-ghost use Rattle.kahn_check.specs.{Parts.declaration_parts, Parts.faults_by_part, inner.Globals.known, inner.Tables.handed_all, inner.Tables.handed_to, inner.Tables.place_faults, inner.Tables.places_faults, inner.Wires.as_lines};
-ghost use Rattle.kahn_check.specs.inner.Firsts.{AreAsMany, HasAdded, HasAddedFirst, HasTold, HaveKept, HaveToldNames, StandAlike, fault_alone, first_fault, first_then, name_faults, seat_faults, seats_parts, sides_parts};
+ghost use Rattle.kahn_streams.specs.{View.bytes_of, Wiring.declared_of, Wiring.entries, Wiring.handed, Wiring.handed_in, declared.tree.Declaration.Declaration, Faults.miscounted, Faults.most_channels, Faults.most_instances, Faults.process_faults, Faults.repeated, Faults.too_many};
+ghost use Rattle.kahn_check.specs.{Parts.faults_by_part, Parts.name_parts, Parts.unless_empty, inner.Globals.ArePlaced, inner.Globals.known, inner.Tables.HaveGot, inner.Tables.handed_all, inner.Tables.handed_to, inner.Tables.meant, inner.Tables.place_faults, inner.Tables.places_faults, inner.Tables.seat_faults, inner.Tables.seats_parts};
+ghost use Rattle.kahn_check.specs.inner.Firsts.{HasAdded, HasAddedFirst, HasTold, HaveNamesTold, HaveNumbers, IsWalkOf, fault_alone, first_fault, first_then, made_all, made_of, name_faults};
 
 use crate::argument::{fits, keep};
-use crate::declarations::MOST_CHANNELS;
 use crate::globals::{Entry, Globals};
-use crate::instance::MOST_INSTANCES;
 use crate::names::ChannelSides;
 use crate::process::check_process;
-use crate::wires::side;
+use crate::wires::all_wires;
 use kahn_streams::{
     Argument, CheckFault, Declaration, Instance, Kind, Name, NoMemory, Parameter, Process, Program,
-    Role, Side, Taking,
+    Role, Side, Taking, Wire,
 };
 use std::alloc::Global;
 
+/// The most channels of a program.
+pub const MOST_CHANNELS: usize = 1024;
+
+/// The most instances of a program.
+pub const MOST_INSTANCES: usize = 256;
+
 /// Adds a fault, if there is one.
-fn add(faults: &mut Vec<CheckFault>, found: Option<CheckFault>) -> Result<(), NoMemory>
+pub fn add(faults: &mut Vec<CheckFault>, found: Option<CheckFault>) -> Result<(), NoMemory>
     ensures { IfOk result (λ u. faults.new.items ≡ faults.old.items ++ fault_alone found) }
 {
     match found {
@@ -43,49 +47,36 @@ fn twice(globals: &Globals, name: &Name) -> Option<CheckFault>
     }
 }
 
-/// Returns the fault of a channel's name, after `count` channels.
-fn name_fault(globals: &Globals, count: usize, name: &Name) -> Option<CheckFault>
-    ensures { result ≡ first_fault (name_faults (known globals.now) count name.now) }
+/// Returns the fault of a channel's name, where `room` channels more may be declared.
+fn name_fault(globals: &Globals, room: usize, name: &Name) -> Option<CheckFault>
+    ensures { result ≡ first_fault (name_faults (known globals.now) room name.now) }
 {
-    if count >= MOST_CHANNELS {
+    if room == 0 {
         return Some(CheckFault::TooMany(name.span));
     }
     twice(globals, name)
 }
 
-/// Counts one channel more, up to the limit.
-fn one_more(count: usize) -> usize
-    requires { count ≤ most_channels }
-    ensures limit { result ≤ most_channels }
-    ensures number { AreAsMany result (count + 1) }
-{
-    if count < MOST_CHANNELS {
-        count + 1
-    } else {
-        count
-    }
-}
-
-/// Adds the faults of the names of a channel declaration, after `count` channels. Returns how many there are then.
-#[tactic(auto, using(crate::proofs::Told::names_begin, crate::proofs::Told::names_step, crate::proofs::Told::names_end))]
+/// Adds the faults of the names of a channel declaration, where `room` channels more may be declared. Returns how many may be then.
+#[tactic(auto, using(crate::proofs::Told::names_begin))]
 fn add_names<'p>(
     globals: &mut Globals<'p>,
     faults: &mut Vec<CheckFault>,
-    count: usize,
+    room: usize,
     kind: Kind,
     role: Role,
     names: &[Name],
 ) -> Result<usize, NoMemory>
-    requires { count ≤ most_channels }
-    ensures { IfOk result (λ n. HaveToldNames kind role names.now (known globals.old) count faults.old.items (known globals.new) n faults.new.items) }
+    ensures told { IfOk result (λ left. HaveNamesTold kind role names.now (known globals.old) room faults.old.items (known globals.new) left faults.new.items) }
+    ensures placed { OnOk result ((ds : List Declaration) → ArePlaced ds globals.old → ArePlaced ds globals.new) }
 {
-    let mut declared = count;
+    let mut left = room;
     for name in names {
-        add(faults, name_fault(globals, declared, name))?;
+        add(faults, name_fault(globals, left, name))?;
         globals.keep(name, Entry::Channel(kind, role))?;
-        declared = one_more(declared);
+        left = left.saturating_sub(1);
     }
-    Ok(declared)
+    Ok(left)
 }
 
 /// Adds the first fault of a body.
@@ -100,28 +91,28 @@ fn add_body(alloc: Global, faults: &mut Vec<CheckFault>, process: &Process) -> R
     }
 }
 
-/// Adds the faults of declaration `number`, after `count` channels. Returns how many there are then.
+/// Adds the faults of declaration `number`, where `room` channels more may be declared. Returns how many may be then.
 #[tactic(auto, using(crate::proofs::Told::channels_told, crate::proofs::Told::process_told))]
 fn add_declaration<'p>(
     alloc: Global,
     globals: &mut Globals<'p>,
     faults: &mut Vec<CheckFault>,
-    count: usize,
+    room: usize,
     number: usize,
     declaration: &'p Declaration,
 ) -> Result<usize, NoMemory>
-    requires { count ≤ most_channels }
-    ensures { IfOk result (λ n. HasTold declaration.now (known globals.old) count faults.old.items (known globals.new) n faults.new.items) }
+    ensures told { IfOk result (λ left. HasTold declaration.now (known globals.old) room faults.old.items (known globals.new) left faults.new.items) }
+    ensures placed { OnOk result ((ds : List Declaration) → ArePlaced ds globals.old → slice_get ds number ≡ Some declaration.now → ArePlaced ds globals.new) }
 {
     match declaration {
         Declaration::Channels(kind, role, names) => {
-            add_names(globals, faults, count, *kind, *role, names)
+            add_names(globals, faults, room, *kind, *role, names)
         }
         Declaration::Process(process) => {
             add(faults, twice(globals, &process.name))?;
             globals.keep(&process.name, Entry::Process(number, process))?;
             add_body(alloc, faults, process)?;
-            Ok(count)
+            Ok(room)
         }
     }
 }
@@ -132,19 +123,20 @@ fn add_declarations<'p>(
     program: &'p Program,
     faults: &mut Vec<CheckFault>,
 ) -> Result<Globals<'p>, NoMemory>
-    ensures told { IfOk result (λ g. HasAdded (declaration_parts [] 0 program.now.declarations.items) faults.old.items faults.new.items) }
-    ensures alike { IfOk result (λ g. StandAlike (known g) (entries (declared_of program.now.declarations.items))) }
+    ensures told { OnOk result (HasAdded (name_parts [] most_channels (declared_of program.now.declarations.items)) faults.old.items faults.new.items) }
+    ensures known { IfOk result (λ g. known g ≡ entries (declared_of program.now.declarations.items)) }
+    ensures placed { IfOk result (λ g. ArePlaced program.now.declarations.items g) }
 {
     let mut globals = Globals::new(alloc);
-    let mut count = 0;
+    let mut room = MOST_CHANNELS;
     for (number, declaration) in program.declarations.iter().enumerate() {
-        count = add_declaration(alloc, &mut globals, faults, count, number, declaration)?;
+        room = add_declaration(alloc, &mut globals, faults, room, number, declaration)?;
     }
     Ok(globals)
 }
 
 /// Returns the first fault so far, or else that of an argument. A channel that is handed over is kept, right or wrong.
-#[tactic(auto, using(crate::proofs::Told::err_first, crate::proofs::Alike::got_kept))]
+#[tactic(auto, using(crate::proofs::Told::err_first))]
 fn argument(
     globals: &Globals,
     writers: &mut ChannelSides,
@@ -155,7 +147,7 @@ fn argument(
     first: Option<CheckFault>,
 ) -> Result<Option<CheckFault>, NoMemory>
     ensures found { IfOk result (λ f. f ≡ first_then first (place_faults (known globals.now) writers.old readers.old taking argument.now)) }
-    ensures tables { IfOk result (λ u. HaveKept (handed end taking argument.now) writers.old readers.old writers.new readers.new) }
+    ensures tables { OnOk result (HaveGot (handed end taking argument.now) writers.old readers.old writers.new readers.new) }
 {
     let found = match first {
         None => fits(globals, writers, readers, taking, argument).err(),
@@ -166,7 +158,7 @@ fn argument(
 }
 
 /// Returns the first fault so far, or else that of the arguments.
-#[tactic(auto, using(crate::proofs::Told::arguments_begin, crate::proofs::Told::arguments_step, crate::proofs::Told::arguments_end, crate::proofs::Told::parameters_end))]
+#[tactic(auto, using(crate::proofs::Told::arguments_begin, crate::proofs::Told::parameters_end))]
 fn arguments(
     globals: &Globals,
     writers: &mut ChannelSides,
@@ -177,7 +169,7 @@ fn arguments(
     first: Option<CheckFault>,
 ) -> Result<Option<CheckFault>, NoMemory>
     ensures found { IfOk result (λ f. f ≡ first_then first (places_faults (known globals.now) writers.old readers.old instance 0 parameters.now arguments.now)) }
-    ensures tables { IfOk result (λ u. HaveKept (handed_in instance 0 parameters.now arguments.now) writers.old readers.old writers.new readers.new) }
+    ensures tables { OnOk result (HaveGot (handed_in instance 0 parameters.now arguments.now) writers.old readers.old writers.new readers.new) }
 {
     let mut found = first;
     for (number, it) in arguments.iter().enumerate() {
@@ -215,40 +207,30 @@ fn miscounted(process: &Process, instance: &Instance) -> Option<CheckFault>
     }
 }
 
-/// Adds the fault of an instance of something else than a process, unless there is a first one already.
-fn add_unknown(
-    faults: &mut Vec<CheckFault>,
-    first: Option<CheckFault>,
-    instance: &Instance,
-) -> Result<(), NoMemory>
-    ensures { OnOk result (faults.new.items ≡ faults.old.items ++ fault_alone (first_then first (CheckFault.Unknown instance.now.process.span ∷ []))) }
-{
-    match first {
-        None => add(faults, Some(CheckFault::Unknown(instance.process.span))),
-        Some(fault) => add(faults, Some(fault)),
-    }
-}
-
-/// Adds the first fault of instance `number`. What it hands over is kept, right or wrong.
-#[tactic(auto, using(crate::proofs::Told::seat_made, crate::proofs::Told::seat_kept, crate::proofs::Told::seat_none, crate::proofs::Told::seat_channel))]
+/// Adds the first fault of instance `number`, and where its process is declared. What it hands over is kept, right or wrong.
+#[tactic(auto, using(crate::proofs::Told::seat_made, crate::proofs::Told::seat_kept))]
 fn add_instance(
     globals: &Globals,
     writers: &mut ChannelSides,
     readers: &mut ChannelSides,
+    processes: &mut Vec<usize>,
     faults: &mut Vec<CheckFault>,
     number: usize,
     instance: &Instance,
 ) -> Result<(), NoMemory>
     ensures told { OnOk result (HasAddedFirst (seat_faults (known globals.now) writers.old readers.old number instance.now) faults.old.items faults.new.items) }
-    ensures tables { IfOk result (λ u. HaveKept (handed_to (known globals.now) number instance.now) writers.old readers.old writers.new readers.new) }
+    ensures tables { OnOk result (HaveGot (handed_to (known globals.now) number instance.now) writers.old readers.old writers.new readers.new) }
+    ensures numbers { OnOk result (HaveNumbers globals.now (made_of (meant (known globals.now) instance.now)) processes.old.items processes.new.items) }
 {
     let limit = limit(number, instance);
+    let unknown = limit.or(Some(CheckFault::Unknown(instance.process.span)));
     let Some(entry) = globals.find(&instance.process) else {
-        return add_unknown(faults, limit, instance);
+        return add(faults, unknown);
     };
-    let Entry::Process(_, process) = entry else {
-        return add_unknown(faults, limit, instance);
+    let Entry::Process(declared, process) = entry else {
+        return add(faults, unknown);
     };
+    processes.push(declared)?;
     let first = limit.or(miscounted(process, instance));
     let found = arguments(
         globals,
@@ -262,74 +244,76 @@ fn add_instance(
     add(faults, found)
 }
 
-/// Adds the first fault of each instance. What they hand over is kept.
-#[tactic(auto, using(crate::proofs::Told::seats_begin, crate::proofs::Told::seats_onward, crate::proofs::Told::seats_end))]
+/// Adds the first fault of each instance, and where their processes are declared. What they hand over is kept.
 fn add_instances(
     globals: &Globals,
     writers: &mut ChannelSides,
     readers: &mut ChannelSides,
+    processes: &mut Vec<usize>,
     faults: &mut Vec<CheckFault>,
     instances: &[Instance],
 ) -> Result<(), NoMemory>
-    ensures told { IfOk result (λ u. HasAdded (seats_parts (known globals.now) writers.old readers.old 0 instances.now) faults.old.items faults.new.items) }
-    ensures tables { IfOk result (λ u. HaveKept (handed_all (known globals.now) 0 instances.now) writers.old readers.old writers.new readers.new) }
+    ensures told { OnOk result (HasAdded (seats_parts (known globals.now) writers.old readers.old 0 instances.now) faults.old.items faults.new.items) }
+    ensures tables { OnOk result (HaveGot (handed_all (known globals.now) 0 instances.now) writers.old readers.old writers.new readers.new) }
+    ensures numbers { OnOk result (HaveNumbers globals.now (made_all (known globals.now) instances.now) processes.old.items processes.new.items) }
 {
     for (number, instance) in instances.iter().enumerate() {
-        add_instance(globals, writers, readers, faults, number, instance)?;
+        add_instance(
+            globals, writers, readers, processes, faults, number, instance,
+        )?;
     }
     Ok(())
 }
 
-/// Adds the first fault of the sides of each channel of one declaration.
-#[tactic(auto, using(crate::proofs::Told::err_first, crate::proofs::Told::side_told, crate::proofs::Told::sides_end))]
-fn add_sides(
-    writers: &ChannelSides,
-    readers: &ChannelSides,
-    faults: &mut Vec<CheckFault>,
-    kind: Kind,
-    role: Role,
-    names: &[Name],
-) -> Result<(), NoMemory>
-    ensures { IfOk result (λ u. HasAdded (sides_parts writers.now readers.now (as_lines kind role names.now)) faults.old.items faults.new.items) }
-{
-    for name in names {
-        add(faults, side(writers, readers, name, role).err())?;
-    }
-    Ok(())
+/// What is wrong with a program, and its tables.
+#[derive(Drop)]
+pub struct CheckWalk {
+    /// The first fault of each part.
+    pub faults: Vec<CheckFault>,
+    /// The declared channels, each with its first writer and its first reader.
+    pub wires: Vec<Wire>,
+    /// Where the processes of the instances are declared.
+    pub processes: Vec<usize>,
 }
 
-/// Adds the first fault of the sides of each channel of a declaration, of whatever kind.
-#[tactic(auto, using(crate::proofs::Told::channels_sides))]
-fn add_declared_sides(
-    writers: &ChannelSides,
-    readers: &ChannelSides,
-    faults: &mut Vec<CheckFault>,
-    declaration: &Declaration,
-) -> Result<(), NoMemory>
-    ensures { IfOk result (λ u. HasAdded (sides_parts writers.now readers.now (declared_channels (declaration.now ∷ []))) faults.old.items faults.new.items) }
+/// Returns the faults of the sides of channels, unless something else is wrong.
+fn unless_empty(faults: Vec<CheckFault>, sides: Vec<CheckFault>) -> Vec<CheckFault>
+    ensures { result.items ≡ unless_empty faults.items sides.items }
 {
-    match declaration {
-        Declaration::Channels(kind, role, names) => {
-            add_sides(writers, readers, faults, *kind, *role, names)
-        }
-        Declaration::Process(_) => Ok(()),
-    }
+    if faults.is_empty() { sides } else { faults }
 }
 
-/// Adds the first fault of the sides of each declared channel.
-#[tactic(auto, using(crate::proofs::Told::sides_onward, crate::proofs::Told::sides_end))]
-fn add_all_sides(
-    writers: &ChannelSides,
-    readers: &ChannelSides,
-    faults: &mut Vec<CheckFault>,
-    declarations: &[Declaration],
-) -> Result<(), NoMemory>
-    ensures { IfOk result (λ u. HasAdded (sides_parts writers.now readers.now (declared_channels declarations.now)) faults.old.items faults.new.items) }
+/// Returns the first fault of each part of a program, and its tables. The sides of channels are told of only if nothing else is wrong.
+pub fn walk(alloc: Global, program: &Program) -> Result<CheckWalk, NoMemory>
+    ensures { IfOk result (IsWalkOf program.now) }
 {
-    for declaration in declarations {
-        add_declared_sides(writers, readers, faults, declaration)?;
-    }
-    Ok(())
+    let mut faults = Vec::new(alloc);
+    let globals = add_declarations(alloc, program, &mut faults)?;
+    let mut writers = ChannelSides::new(alloc);
+    let mut readers = ChannelSides::new(alloc);
+    let mut processes = Vec::new(alloc);
+    add_instances(
+        &globals,
+        &mut writers,
+        &mut readers,
+        &mut processes,
+        &mut faults,
+        &program.instances,
+    )?;
+    let mut wires = Vec::new(alloc);
+    let mut sides = Vec::new(alloc);
+    all_wires(
+        &mut wires,
+        &mut sides,
+        &writers,
+        &readers,
+        &program.declarations,
+    )?;
+    Ok(CheckWalk {
+        faults: unless_empty(faults, sides),
+        wires,
+        processes,
+    })
 }
 
 /// Returns what is wrong with a program: the first fault of each declared name, of each body and of each instance, in text
@@ -338,20 +322,5 @@ fn add_all_sides(
 pub fn every(alloc: Global, program: &Program) -> Result<Vec<CheckFault>, NoMemory>
     ensures { IfOk result (λ faults. faults.items ≡ faults_by_part program.now) }
 {
-    let mut faults = Vec::new(alloc);
-    let globals = add_declarations(alloc, program, &mut faults)?;
-    let mut writers = ChannelSides::new(alloc);
-    let mut readers = ChannelSides::new(alloc);
-    add_instances(
-        &globals,
-        &mut writers,
-        &mut readers,
-        &mut faults,
-        &program.instances,
-    )?;
-    if !faults.is_empty() {
-        return Ok(faults);
-    }
-    add_all_sides(&writers, &readers, &mut faults, &program.declarations)?;
-    Ok(faults)
+    Ok(walk(alloc, program)?.faults)
 }

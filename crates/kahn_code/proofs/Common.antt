@@ -1,7 +1,7 @@
 -- The words that most proofs cite, of this crate and of those below, passed on from one place.
 pub use Rattle.kahn_code.specs.Cells.{AllStand, AreDriven, AreKeptTokens, StoodBy, exec_on, is_streamed, sent_on}
 pub use Rattle.kahn_code.specs.Code.{AreProcessCodes, IsCodeOf, IsCompiled, AreUses, HasProcessCode, HasArguments, IsProcessCode, to_have, to_read, to_write, use_of, state_of}
-pub use Rattle.kahn_code.specs.Common.{Actual, Argument, Failure, Line, Operator, Program, Value, AreInputsExtended, Channel, Cut, Dry, Expr, Follows, Hands, Holds, In, Inner, Input, Inputs, Instance, Integer, IsOf, IsOwn, IsWellWired, Lists, Logical, Network, Out, ScriptOutcome, Output, Parameter, Port, Print, Printer, Reached, Reads, Scope, Script, Stands, Step, Stmt, Store, Tapes, Token, Writes, Written, actual_at, actual_of, actuals_of, apply, body_of, channel_names, constant, default_of, empty, ending, exec, expression_of, goes_to, inputs_of, instance_at, is_output, is_watched, names_of, network_of, number, number_of, opening, opening_of, play, ranged, role_at, sends_of, source, statement_of, the_process, token_value, truth, values_at, values_taken, arithmetic}
+pub use Rattle.kahn_code.specs.Common.{Actual, Argument, Failure, Line, Operator, Program, Value, AreInputsExtended, Channel, Cut, Dry, Expr, Follows, Hands, Holds, In, Inner, Input, Inputs, Node, Integer, IsOf, IsOwn, IsWellWired, Lists, Logical, Schema, Out, ScriptOutcome, Output, Parameter, Port, Print, Printer, Reached, Reads, Scope, Script, Stands, Step, Stmt, Store, Tapes, Token, Writes, Written, actual_at, actual_of, actuals_of, apply, body_of, channel_names, constant, default_of, empty, ending, exec, expression_of, goes_to, inputs_of, instance_at, is_output, is_watched, names_of, network_of, number, number_of, opening, opening_of, play, ranged, role_at, sends_of, source, statement_of, the_process, token_value, truth, values_at, values_taken, arithmetic}
 pub use Rattle.kahn_code.specs.Flat.{Act, Breaks, Ends, Goes, Puts, State, Takes, act_of, asked_by, at_place, between, but_last, choice, code_script, depth, expr_code, held_at, is_operator, jump_of, later, literal, look, loop_code, named, need, negative, opened, operand_code, operate, part_code, part_of_body, perform, register, registers_of, skip_unless, stmt_code, target, test_code, test_of, tested, unless, wrote, wrote_or_breaks}
 pub use Rattle.kahn_code.specs.Lines.{AreFirst, AreQueued, HasPoured, IsFirst, IsPoured, IsQueue, Joins, Lines, actual_here, at_first, given_of, next_at, place_at, queue_of, route_of, spare_of, taken_of, waiting_of, HasMore, Waiting}
 pub use Rattle.kahn_code.specs.Progress.{AreStill, HasKept, HasStepped, IsFull, IsPause, IsSameOne, Sits, Wants, core_of, first_core, gone_of, opening_core, printed_core, sent_core, spare_in, taken_core, turned_core, AreCounts, HasRunFor, IsAt, IsStanding, CellView, site_of, told_of, told_view, Pauses, PausesAt}

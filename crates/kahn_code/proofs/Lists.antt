@@ -1,6 +1,6 @@
 -- Lists whose values stand.
 use Rattle.std.proofs.Common.{slice_get, length-append}
-use Rattle.kahn_code.proofs.Common.{arith, ◌≡◌, ◌⊎◌, inl, inr, ℕ, zero, suc, ◌<◌, ◌≤◌, max, List, [], ◌∷◌, length, map, refl, sym, ap, ◌∙◌, subst, Some, None, le_refl, eq-or-lt_of_le, le_of_suc-le-suc, ◌+◌, ◌++◌, pos, drop, take, slice_index_or, cases_lt, handed_within, slice_get-get_or, slice_get_within, map-append, length-map, Network, Actual, Reads, Writes, Hands, network_of, instance_at, actual_at, Written, Value, Integer, Line, Channel, Token, Tapes, Inputs, iterate, IsPrefix, Stands, tapes_of, goes_to, values_at, source, out, exec_at, some_same, prefix_get, prefix_refl, prefix_trans, iterates_rise, feeds, solves, script_at, values_append, AreInputsExtended, IsOf, Lists, inputs_of, Program, AllStand, AreKeptTokens, exec_on, sent_on, IsOwn, token_value, fun_ext}
+use Rattle.kahn_code.proofs.Common.{arith, ◌≡◌, ◌⊎◌, inl, inr, ℕ, zero, suc, ◌<◌, ◌≤◌, max, List, [], ◌∷◌, length, map, refl, sym, ap, ◌∙◌, subst, Some, None, le_refl, eq-or-lt_of_le, le_of_suc-le-suc, ◌+◌, ◌++◌, pos, drop, take, slice_index_or, cases_lt, handed_within, slice_get-get_or, slice_get_within, map-append, length-map, Schema, Actual, Reads, Writes, Hands, network_of, instance_at, actual_at, Written, Value, Integer, Line, Channel, Token, Tapes, Inputs, iterate, IsPrefix, Stands, tapes_of, goes_to, values_at, source, out, exec_at, some_same, prefix_get, prefix_refl, prefix_trans, iterates_rise, feeds, solves, script_at, values_append, AreInputsExtended, IsOf, Lists, inputs_of, Program, AllStand, AreKeptTokens, exec_on, sent_on, IsOwn, token_value, fun_ext}
 use Rattle.kahn_streams.proofs.Framed.{Begins, and_more, grows_play}
 
 -- a list all of whose values stand in another begins it
@@ -24,7 +24,7 @@ enough P rise (suc b) h = join (h b (omega arith)) (enough P rise b (λ k lt. h 
     join one rest = (max one.0 rest.0, λ k lt. by one rest k (eq-or-lt_of_le (le_of_suc-le-suc lt)))
 
 -- values that stand begin an iterate
-pub stand_in : (N : Network) (I : Inputs) (c : Line) (xs : List Value) → AllStand N I c xs → (n : ℕ) × IsPrefix xs (iterate N I n c)
+pub stand_in : (N : Schema) (I : Inputs) (c : Line) (xs : List Value) → AllStand N I c xs → (n : ℕ) × IsPrefix xs (iterate N I n c)
 stand_in N I c xs h =
     let r : (n : ℕ) × ((k : ℕ) → k < length xs → (v : Value) → slice_get xs k ≡ Some v → slice_get (iterate N I n c) k ≡ Some v) =
     enough (λ n k. (v : Value) → slice_get xs k ≡ Some v → slice_get (iterate N I n c) k ≡ Some v)
@@ -35,7 +35,7 @@ stand_in N I c xs h =
 
 -- ---- what is sent on tapes whose values stand, stands
 
-module _ (N : Network) (I : Inputs) (p : ℕ) (T : Tapes) (stand : (q d : ℕ) → actual_at (instance_at N p) q ≡ Reads d → AllStand N I (Channel d) (T q)) (none : (q : ℕ) → ((d : ℕ) → actual_at (instance_at N p) q ≡ Reads d → ⊥) → T q ≡ []) where
+module _ (N : Schema) (I : Inputs) (p : ℕ) (T : Tapes) (stand : (q d : ℕ) → actual_at (instance_at N p) q ≡ Reads d → AllStand N I (Channel d) (T q)) (none : (q : ℕ) → ((d : ℕ) → actual_at (instance_at N p) q ≡ Reads d → ⊥) → T q ≡ []) where
   abbrev Begun : ℕ → ℕ → Type 0
   Begun m q = IsPrefix (T q) (tapes_of (instance_at N p) (iterate N I m) q)
 
@@ -95,19 +95,19 @@ own_of t lists u h = (
 )
 
 -- for an input whose lists are longer
-pub own_grown : (N : Network) (I J : Inputs) (t : Token) → AreInputsExtended I J → IsOwn N I t → IsOwn N J t
+pub own_grown : (N : Schema) (I J : Inputs) (t : Token) → AreInputsExtended I J → IsOwn N I t → IsOwn N J t
 own_grown N I J t grown h = (h.0, λ c. prefix_trans _ _ _ (h.1 c) (grown c))
 
-pub kept_grown : (N : Network) (I J : Inputs) (c : Line) (vs : List Value) (ts : List Token) → AreInputsExtended I J → AreKeptTokens N I c vs ts → AreKeptTokens N J c vs ts
+pub kept_grown : (N : Schema) (I J : Inputs) (c : Line) (vs : List Value) (ts : List Token) → AreInputsExtended I J → AreKeptTokens N I c vs ts → AreKeptTokens N J c vs ts
 kept_grown N I J c vs ts grown h = record { values = h.values; places = h.places; own = λ k t e. own_grown N I J t grown (h.own k t e) }
 
-pub kept_none : (N : Network) (I : Inputs) (c : Line) → AreKeptTokens N I c [] []
+pub kept_none : (N : Schema) (I : Inputs) (c : Line) → AreKeptTokens N I c [] []
 kept_none N I c = record { values = refl; places = λ k t e. absurd cc; own = λ k t e. absurd cc }
 
-pub kept_long : (N : Network) (I : Inputs) (c : Line) (vs : List Value) (ts : List Token) → AreKeptTokens N I c vs ts → length ts ≡ length vs
+pub kept_long : (N : Schema) (I : Inputs) (c : Line) (vs : List Value) (ts : List Token) → AreKeptTokens N I c vs ts → length ts ≡ length vs
 kept_long N I c vs ts h = sym (length-map ts token_value) ∙ ap length h.values
 
-pub kept_push : (N : Network) (I : Inputs) (c : Line) (vs : List Value) (ts : List Token) (v : Value) (t : Token) → AreKeptTokens N I c vs ts → t.line ≡ c → t.place ≡ length vs → t.value ≡ v → IsOwn N I t →
+pub kept_push : (N : Schema) (I : Inputs) (c : Line) (vs : List Value) (ts : List Token) (v : Value) (t : Token) → AreKeptTokens N I c vs ts → t.line ≡ c → t.place ≡ length vs → t.value ≡ v → IsOwn N I t →
     AreKeptTokens N I c (vs ++ v ∷ []) (ts ++ t ∷ [])
 kept_push N I c vs ts v t h l p w o =
     record {

@@ -1,17 +1,17 @@
 -- In a well wired program each channel is read at one side at most, and written at one at most.
-use Rattle.kahn_code.proofs.Common.{◌≡◌, ℕ, ◌<◌, length, Option, Some, None, refl, sym, ap, ◌∙◌, subst, Program, Network, Actual, Reads, Writes, network_of, instance_at, actual_at, IsWithin, IsOnly, handed_at, IsWellWired, handed_within, reads_listed, writes_listed, writes, AreDriven, Joins}
+use Rattle.kahn_code.proofs.Common.{◌≡◌, ℕ, ◌<◌, length, Option, Some, None, refl, sym, ap, ◌∙◌, subst, Program, Schema, Actual, Reads, Writes, network_of, instance_at, actual_at, IsWithin, IsOnly, handed_at, IsWellWired, handed_within, reads_listed, writes_listed, writes, AreDriven, Joins}
 use Rattle.kahn_streams.specs.declared.sides.Side.{Side}
 use Rattle.kahn_streams.proofs.Sided.{one_reader, one_writer, declared_there}
 
 -- a channel is handed over only by an instance that is there, at a parameter that is there
-pub joins_within : (N : Network) (p q c : ℕ) → Joins (actual_at (instance_at N p) q) c → p < length N.instances
+pub joins_within : (N : Schema) (p q c : ℕ) → Joins (actual_at (instance_at N p) q) c → p < length N.instances
 joins_within N p q c j = (handed_within N p q c j).0
 
-pub joins_parameter : (N : Network) (p q c : ℕ) → Joins (actual_at (instance_at N p) q) c → q < length (instance_at N p).actuals
+pub joins_parameter : (N : Schema) (p q c : ℕ) → Joins (actual_at (instance_at N p) q) c → q < length (instance_at N p).actuals
 joins_parameter N p q c j = (handed_within N p q c j).1
 
 -- where one side at most is handed this, it is handed there
-one_side : (N : Network) (a : Actual) (c : ℕ) → Joins a c → (o : Option Side) → IsOnly (λ s. IsWithin N s × (handed_at N s ≡ a)) o → (p q p' r : ℕ) →
+one_side : (N : Schema) (a : Actual) (c : ℕ) → Joins a c → (o : Option Side) → IsOnly (λ s. IsWithin N s × (handed_at N s ≡ a)) o → (p q p' r : ℕ) →
     actual_at (instance_at N p) q ≡ a → actual_at (instance_at N p') r ≡ a → (p ≡ p') × (q ≡ r)
 one_side N a c j None none p q p' r e f = absurd (none (record { instance = p; parameter = q }) (handed_within N p q c (subst (λ x. Joins x c) (sym e) j), e))
 one_side N a c j (Some s) one p q p' r e f =
@@ -21,7 +21,7 @@ one_side N a c j (Some s) one p q p' r e f =
     (ap (λ (u : Side). u.instance) same, ap (λ (u : Side). u.parameter) same)
 
 module _ (t : Program) (wired : IsWellWired t) where
-  abbrev N : Network
+  abbrev N : Schema
   N = network_of t
 
   pub reads_once : (p q p' r c : ℕ) → actual_at (instance_at N p) q ≡ Reads c → actual_at (instance_at N p') r ≡ Reads c → (p ≡ p') × (q ≡ r)

@@ -1,9 +1,9 @@
 -- What the parameters of an instance are for.
 use Rattle.std.proofs.Common.{slice_get}
 use Rattle.std.proofs.Math.ListN.{get_or-map}
-use Rattle.kahn_code.proofs.Common.{◌≡◌, ℕ, List, map, refl, ap, ◌∙◌, slice_index_or, pos, Option, option_map, Some, None, Bool, sym, subst, get_or_from_slice_get, slice_get-map, handed_within, slice_get-get_or, Number, Network, Actual, Reads, Writes, Hands, instance_at, actual_at, role_at, ParameterUse, is_output, Direction, Joins, route_of, to_read, to_write, to_have, use_of, AreUses}
+use Rattle.kahn_code.proofs.Common.{◌≡◌, ℕ, List, map, refl, ap, ◌∙◌, slice_index_or, pos, Option, option_map, Some, None, Bool, sym, subst, get_or_from_slice_get, slice_get-map, handed_within, slice_get-get_or, Number, Schema, Actual, Reads, Writes, Hands, instance_at, actual_at, role_at, ParameterUse, is_output, Direction, Joins, route_of, to_read, to_write, to_have, use_of, AreUses}
 
-pub use_at : (N : Network) (p : ℕ) (uses : List ParameterUse) (q : ℕ) → AreUses N p uses → slice_index_or uses q to_have ≡ use_of N (actual_at (instance_at N p) q)
+pub use_at : (N : Schema) (p : ℕ) (uses : List ParameterUse) (q : ℕ) → AreUses N p uses → slice_index_or uses q to_have ≡ use_of N (actual_at (instance_at N p) q)
 use_at N p uses q h = ap (λ l. slice_index_or l q to_have) h ∙ get_or-map (use_of N) (instance_at N p).actuals q (Hands (Number (pos 0)))
 
 -- the channel of a use with this direction
@@ -11,20 +11,20 @@ abbrev route_by : Option Direction → ℕ → Option ℕ
 route_by (Some d) c = Some c
 route_by None c = None
 
-route_here : (N : Network) (a : Actual) → route_by (use_of N a).direction (use_of N a).channel ≡ route_of a
+route_here : (N : Schema) (a : Actual) → route_by (use_of N a).direction (use_of N a).channel ≡ route_of a
 route_here N (Reads c) = refl
 route_here N (Writes c) = refl
 route_here N (Hands v) = refl
 
-pub routed : (N : Network) (a : Actual) (w : ParameterUse) (o : Option Direction) → w ≡ use_of N a → w.direction ≡ o → route_by o w.channel ≡ route_of a
+pub routed : (N : Schema) (a : Actual) (w : ParameterUse) (o : Option Direction) → w ≡ use_of N a → w.direction ≡ o → route_by o w.channel ≡ route_of a
 routed N a w o e f = ap (λ o. route_by o w.channel) (sym f) ∙ ap (λ w. route_by w.direction w.channel) e ∙ route_here N a
 
-pub reads_by : (N : Network) (a : Actual) (c : ℕ) → to_read c ≡ use_of N a → a ≡ Reads c
+pub reads_by : (N : Schema) (a : Actual) (c : ℕ) → to_read c ≡ use_of N a → a ≡ Reads c
 reads_by N (Reads d) c e = ap Reads (sym (ap (λ w. w.channel) e))
 reads_by N (Writes d) c e = let f = ap (λ w. w.direction) e in absurd cc
 reads_by N (Hands v) c e = let f = ap (λ w. w.direction) e in absurd cc
 
-pub writes_by : (N : Network) (a : Actual) (c : ℕ) (b : Bool) → to_write c b ≡ use_of N a → (a ≡ Writes c) × (is_output (role_at N c) ≡ b)
+pub writes_by : (N : Schema) (a : Actual) (c : ℕ) (b : Bool) → to_write c b ≡ use_of N a → (a ≡ Writes c) × (is_output (role_at N c) ≡ b)
 writes_by N (Reads d) c b e = let f = ap (λ w. w.direction) e in absurd cc
 writes_by N (Writes d) c b e =
     let f : d ≡ c = sym (ap (λ w. w.channel) e) in
@@ -33,14 +33,14 @@ writes_by N (Writes d) c b e =
 writes_by N (Hands v) c b e = let f = ap (λ w. w.direction) e in absurd cc
 
 -- the use of a parameter that has a channel stands in the list
-pub listed : (N : Network) (p : ℕ) (uses : List ParameterUse) (q c : ℕ) (a : Actual) → AreUses N p uses → Joins a c → actual_at (instance_at N p) q ≡ a → slice_get uses q ≡ Some (use_of N a)
+pub listed : (N : Schema) (p : ℕ) (uses : List ParameterUse) (q c : ℕ) (a : Actual) → AreUses N p uses → Joins a c → actual_at (instance_at N p) q ≡ a → slice_get uses q ≡ Some (use_of N a)
 listed N p uses q c a are j e =
     let acts = (instance_at N p).actuals in
     let lt = (handed_within N p q c (subst (λ x. Joins x c) (sym e) j)).1 in
     ap (λ l. slice_get l q) are ∙ slice_get-map (use_of N) acts q ∙ ap (option_map (use_of N)) (slice_get-get_or acts q (Hands (Number (pos 0))) lt) ∙ ap (λ x. Some (use_of N x)) e
 
 -- and what stands there is its use
-pub used : (N : Network) (p : ℕ) (uses : List ParameterUse) (q : ℕ) (w : ParameterUse) → AreUses N p uses → slice_get uses q ≡ Some w → w ≡ use_of N (actual_at (instance_at N p) q)
+pub used : (N : Schema) (p : ℕ) (uses : List ParameterUse) (q : ℕ) (w : ParameterUse) → AreUses N p uses → slice_get uses q ≡ Some w → w ≡ use_of N (actual_at (instance_at N p) q)
 used N p uses q w are e =
     let acts = (instance_at N p).actuals in
     sym (get_or_from_slice_get (map (use_of N) acts) q w to_have (sym (ap (λ l. slice_get l q) are) ∙ e)) ∙ get_or-map (use_of N) acts q (Hands (Number (pos 0)))

@@ -3,7 +3,7 @@ pub use Rattle.kahn_streams.specs.Answers.{is_output, is_watched}
 pub use Rattle.kahn_streams.specs.Arithmetic.{apply, arithmetic, number, ranged, same, truth}
 pub use Rattle.kahn_streams.specs.Inputs.{Holds, Lists, Names, inputs_of}
 pub use Rattle.kahn_streams.specs.Meaning.{Store, constant, exec}
-pub use Rattle.kahn_streams.specs.Network.{Actual, Hands, Instance, Network, Reads, Writes, Written, actual_at, actual_of, actuals_of, channel_names, instance_at, network_of, role_at}
+pub use Rattle.kahn_streams.specs.Network.{Actual, Hands, Node, Schema, Reads, Writes, Written, actual_at, actual_of, actuals_of, channel_names, instance_at, network_of, role_at}
 pub use Rattle.kahn_streams.specs.Script.{Cut, Dry, ScriptOutcome, Parameter, Port, Printer, Reached, Rest, Script, Tapes, play}
 pub use Rattle.kahn_streams.specs.Solution.{AreInputsExtended, Inputs, Stands, default_of, ending, goes_to, opening, opening_of, source, values_at}
 pub use Rattle.kahn_streams.specs.Steps.{Follows, Step, empty, sends_of, values_taken}

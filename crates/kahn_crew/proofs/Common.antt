@@ -23,7 +23,7 @@ pub use Rattle.kahn_job.specs.inner.Berths.{Serves, end_at, AreJoinedOn}
 pub use Rattle.kahn_job.specs.inner.Tasks.{Continues, HasStanding, IsTrueOf, Tasked, standing_after, woken_task}
 pub use Rattle.kahn_job.specs.inner.Works.{IsDelivered, IsJob, Work}
 pub use Rattle.kahn_streams.specs.{Answers.is_output, Inputs.Lists, Inputs.inputs_of, Wiring.IsWellWired, Wiring.side_at, declared.sides.Side.Side, declared.tree.Program.Program}
-pub use Rattle.kahn_streams.specs.Network.{Actual, Given, Hands, IsOnly, IsWriter, Network, Reads, Writes, Written, actual_at, channel_source, instance_at, network_of, role_at}
+pub use Rattle.kahn_streams.specs.Network.{Actual, Given, Hands, IsOnly, IsWriter, Schema, Reads, Writes, Written, actual_at, channel_source, instance_at, network_of, role_at}
 pub use Rattle.kahn_crew.specs.declared.run.Run.{Run}
 pub use Rattle.kahn_crew.specs.inner.Turns.{CanRest, IsDue, IsSetDown, IsSameWorker, HasPicked, HasTask, Heeds, IsAtWork, IsTaskIn, RaisesAsWanted, SitsWith, StandsStill, WasNotReady, terms_of, HasCause, HasGone, HasSeat, WantsNone, seat_of, table_id_of}
 pub use Rattle.kahn_crew.specs.inner.Tasks.{AreReadyTasks, HasBegun, IsNumber, IsReadyTask, FitTogether, IsTaskOf, AgreesWith, IsLater, IsPublished, count_on, handed_to_task, is_channel, read_by, reads_at, task_rows, told_tale, waits_on, work_of, writes_at, written_by, wrote_by}

@@ -1,5 +1,5 @@
 -- Who reads and who writes a channel, by the numbers of instances and parameters.
-use Rattle.kahn_crew.proofs.Common.{arith, ◌≡◌, ℕ, ◌<◌, ◌==◌, Bool, true, false, length, refl, sym, ap, ◌∙◌, subst, Option, Some, None, eqb-true, if◌then◌else◌, position, Program, Side, Network, Actual, Reads, Writes, Hands, Written, network_of, instance_at, actual_at, role_at, IsOnly, IsWriter, IsWellWired, is_output, Joins, route_of, joins_within, joins_parameter, reads_once, driven, wires, read_by, written_by, is_channel, nothing, sole_first, sole_reader, sole_writer}
+use Rattle.kahn_crew.proofs.Common.{arith, ◌≡◌, ℕ, ◌<◌, ◌==◌, Bool, true, false, length, refl, sym, ap, ◌∙◌, subst, Option, Some, None, eqb-true, if◌then◌else◌, position, Program, Side, Schema, Actual, Reads, Writes, Hands, Written, network_of, instance_at, actual_at, role_at, IsOnly, IsWriter, IsWellWired, is_output, Joins, route_of, joins_within, joins_parameter, reads_once, driven, wires, read_by, written_by, is_channel, nothing, sole_first, sole_reader, sole_writer}
 use Rattle.kahn_streams.proofs.Sourced.{reads_listed, writes_listed}
 use Rattle.kahn_crew.proofs.Found.{apart, none_some, some_same}
 use Rattle.std.proofs.lemmas.List.Quantifiers.{position-Some}
@@ -29,14 +29,14 @@ so_inner : (b : Bool) (c : ℕ) → b ≡ false → (if b then None else Some c)
 so_inner true c e = absurd (apart e)
 so_inner false c e = refl
 
-pub written_so : (N : Network) (a : Actual) (c : ℕ) → written_by N a ≡ Some c → (a ≡ Writes c) × (is_output (role_at N c) ≡ false)
+pub written_so : (N : Schema) (a : Actual) (c : ℕ) → written_by N a ≡ Some c → (a ≡ Writes c) × (is_output (role_at N c) ≡ false)
 written_so N (Reads d) c e = absurd (none_some e)
 written_so N (Writes d) c e =
     let f = inner_so (is_output (role_at N d)) d c e in
     (ap Writes f.0, ap (λ k. is_output (role_at N k)) (sym f.0) ∙ f.1)
 written_so N (Hands v) c e = absurd (none_some e)
 
-pub so_written : (N : Network) (a : Actual) (c : ℕ) → a ≡ Writes c → is_output (role_at N c) ≡ false → written_by N a ≡ Some c
+pub so_written : (N : Schema) (a : Actual) (c : ℕ) → a ≡ Writes c → is_output (role_at N c) ≡ false → written_by N a ≡ Some c
 so_written N a c e inner = ap (written_by N) e ∙ so_inner (is_output (role_at N c)) c inner
 
 -- the channel of a parameter, by an equal program
@@ -56,7 +56,7 @@ instances_are t = refl
 -- ---- in a well wired program
 
 module _ (t : Program) (wired : IsWellWired t) where
-  abbrev N : Network
+  abbrev N : Schema
   N = network_of t
 
   joins_read : (p q c : ℕ) → actual_at (instance_at N p) q ≡ Reads c → Joins (actual_at (instance_at N p) q) c

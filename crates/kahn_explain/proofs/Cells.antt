@@ -1,5 +1,5 @@
 -- Which streams an answer has, and which lines the columns.
-use Rattle.kahn_explain.proofs.Common.{◌≡◌, ◌∙◌, ℕ, zero, suc, ◌+◌, ◌<◌, ◌||◌, Bool, true, false, if◌then◌else◌, List, [], ◌∷◌, ◌++◌, length, map, flat_map, Option, Some, refl, sym, ap, subst, arith, get_or, slice_get, take, append_assoc, append-nil, add-one, flat_map-append, map-append, All-append, slice_get-get_or, Kind, Role, Line, Inner, Output, Instance, Network, role_at, Channel, Print, is_output, is_watched, HasStream, channel_lines, stream_line, print_lines, stream_lines, Answer, Stream, column_line, AddsPrint, AddsPrints, HasLine, HasValuesOf, print_line, print_part, Column}
+use Rattle.kahn_explain.proofs.Common.{◌≡◌, ◌∙◌, ℕ, zero, suc, ◌+◌, ◌<◌, ◌||◌, Bool, true, false, if◌then◌else◌, List, [], ◌∷◌, ◌++◌, length, map, flat_map, Option, Some, refl, sym, ap, subst, arith, get_or, slice_get, take, append_assoc, append-nil, add-one, flat_map-append, map-append, All-append, slice_get-get_or, Kind, Role, Line, Inner, Output, Node, Schema, role_at, Channel, Print, is_output, is_watched, HasStream, channel_lines, stream_line, print_lines, stream_lines, Answer, Stream, column_line, AddsPrint, AddsPrints, HasLine, HasValuesOf, print_line, print_part, Column}
 use Rattle.std.proofs.{Math.Seq.take-suc, lemmas.List.Folds.flat_map-map}
 use Rattle.kahn_streams.specs.{declared.tree.Kind.TheVariants.Integer, Syntax.prints_in}
 use Rattle.kahn_code.specs.Cells.{is_streamed}
@@ -36,7 +36,7 @@ stream_at [] j c e = absurd cc
 stream_at (s ∷ ss) zero c e = let same : s.line ≡ c = cc in (s, refl, same)
 stream_at (s ∷ ss) (suc j) c e = stream_at ss j c e
 
-pub has_line : (N : Network) (watch : Option ℕ) (a : Answer) (c : ℕ) → map stream_line a.streams.items ≡ stream_lines N watch → c < length N.channels
+pub has_line : (N : Schema) (watch : Option ℕ) (a : Answer) (c : ℕ) → map stream_line a.streams.items ≡ stream_lines N watch → c < length N.channels
     → is_streamed N watch c ≡ true → HasLine a (Channel c)
 has_line N watch a c named below is =
     let row = slice_get-get_or N.channels c (Integer, Inner) below in
@@ -45,7 +45,7 @@ has_line N watch a c named below is =
     (ap (λ l. slice_get l j) named ∙ in_front (channel_lines watch N.channels 0) (print_lines N.instances 0) j (Channel c) at) in
     (s, (j, has), line)
 
-pub output_streamed : (N : Network) (watch : Option ℕ) (c : ℕ) → role_at N c ≡ Output → is_streamed N watch c ≡ true
+pub output_streamed : (N : Schema) (watch : Option ℕ) (c : ℕ) → role_at N c ≡ Output → is_streamed N watch c ≡ true
 output_streamed N watch c e = ap (λ r. is_output r || is_watched watch c) e
 
 -- ---- the lines of the prints are those that an answer has
@@ -62,11 +62,11 @@ one_print : (b : Bool) (p : ℕ) (rest : List Line) → flat_map print_line rest
 one_print true p rest e = ap (λ l. Print p ∷ l) e
 one_print false p rest e = e
 
-all_prints : (is : List Instance) (p : ℕ) → flat_map print_line (print_lines is p) ≡ print_lines is p
+all_prints : (is : List Node) (p : ℕ) → flat_map print_line (print_lines is p) ≡ print_lines is p
 all_prints [] p = refl
 all_prints (i ∷ is) p = one_print (prints_in i.body) p (print_lines is (suc p)) (all_prints is (suc p))
 
-pub printed : (N : Network) (watch : Option ℕ) (ss : List Stream) → map stream_line ss ≡ stream_lines N watch → flat_map print_part ss ≡ print_lines N.instances 0
+pub printed : (N : Schema) (watch : Option ℕ) (ss : List Stream) → map stream_line ss ≡ stream_lines N watch → flat_map print_part ss ≡ print_lines N.instances 0
 printed N watch ss named =
     sym (flat_map-map print_line stream_line ss) ∙ ap (flat_map print_line) named ∙ flat_map-append print_line (channel_lines watch N.channels 0) (print_lines N.instances 0)
     ∙ ap (λ l. l ++ flat_map print_line (print_lines N.instances 0)) (no_prints watch N.channels 0) ∙ all_prints N.instances 0

@@ -9,7 +9,7 @@ pub use Rattle.kahn_needs.specs.Finding.{AreNeedsFound, IsNetworkLine, cut_told,
 pub use Rattle.kahn_sequential.specs.Recordings.{IsCountedRun, IsHistoryIn, IsRecordedRun}
 pub use Rattle.kahn_streams.specs.Answers.{HasStream, IsRight, IsRightRun, IsUnrun, channel_lines, is_output, is_watched, print_lines, stream_line, stream_lines, values_of}
 pub use Rattle.kahn_streams.specs.Inputs.{IsNoName, Lists, inputs_of}
-pub use Rattle.kahn_streams.specs.Network.{Given, Instance, Network, channels_of, network_of, role_at}
+pub use Rattle.kahn_streams.specs.Network.{Given, Node, Schema, channels_of, network_of, role_at}
 pub use Rattle.kahn_streams.specs.Solution.{Inputs, IsPrefix, IsWhole, Stands, iterate, source}
 pub use Rattle.kahn_texts.specs.Formats.{IsInputTextFault, IsLine, StandsFor, channel_count, instance_count}
 pub use Rattle.kahn_why.proofs.Parts.{are_allowed, broke_off, went_out}
@@ -25,7 +25,7 @@ pub use Rattle.std.proofs.lemmas.Option.{slice_get-get_or, slice_get_read, slice
 pub use Rattle.std.proofs.lemmas.Result.{IfOk-weaker}
 pub use Rattle.std.specs.Io.KnownBytes.{Appends}
 pub use Rattle.std.specs.Prelude.{MatchResult, not, ◌↔◌}
-pub use Rattle.kahn_explain.specs.declared.{tracing.column.Column.Column}
+pub use Rattle.kahn_explain.specs.declared.{tracing.histories.Column.Column}
 pub use Rattle.kahn_fault.specs.declared.{work.WorkFault.WorkFault, work.WorkFault.TheVariants.Check, work.WorkFault.TheVariants.Run, work.WorkFault.TheVariants.Syntax, work.WorkFault.TheVariants.Text, work.WorkFault.TheVariants.Write}
 pub use Rattle.kahn_sequential.specs.declared.{recorded.Recorded.Recorded}
 pub use Rattle.kahn_streams.specs.declared.{answer.Answer.Answer, answer.Stream.Stream, config.Config.Config, fault.RunFault.TheVariants.NoMemory, tree.Kind.Kind, tree.Program.Program, tree.Role.Role, tree.Role.TheVariants.Inner, tree.Role.TheVariants.Output, value.Line.Line, value.Line.TheVariants.Channel, value.Line.TheVariants.Print, value.Value.Value}

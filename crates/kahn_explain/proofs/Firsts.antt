@@ -1,5 +1,5 @@
 -- The first value that needs one of an input.
-use Rattle.kahn_explain.proofs.Common.{arith, ◌≡◌, ◌⊎◌, inl, inr, ℕ, ◌≤◌, ◌<◌, ◌+◌, subst, ap, ◌∙◌, slice_index_or, cases_lt, slice_get_within, Lists, inputs_of, Given, Network, network_of, Inputs, Stands, iterate, source, Program, Line, Channel, Print, Value, AreNeedsFound, cut_told, of_input, AreRows, IsFirstNeeding, NeedsNot, EndsSearch}
+use Rattle.kahn_explain.proofs.Common.{arith, ◌≡◌, ◌⊎◌, inl, inr, ℕ, ◌≤◌, ◌<◌, ◌+◌, subst, ap, ◌∙◌, slice_index_or, cases_lt, slice_get_within, Lists, inputs_of, Given, Schema, network_of, Inputs, Stands, iterate, source, Program, Line, Channel, Print, Value, AreNeedsFound, cut_told, of_input, AreRows, IsFirstNeeding, NeedsNot, EndsSearch}
 use Rattle.kahn_streams.proofs.Proved.{prefix_get}
 use Rattle.kahn_needs.specs.{Needs.Cut, declared.needs.Found.Found, declared.needs.Needs.Needs}
 use Rattle.kahn_needs.specs.declared.needs.Found.TheVariants as found
@@ -12,7 +12,7 @@ not_less a b more = by (cases_lt a b)
     by (inl l) = absurd (more l)
     by (inr l) = l
 
-module _ (N : Network) (I : Inputs) (c : Line) (j k : ℕ) where
+module _ (N : Schema) (I : Inputs) (c : Line) (j k : ℕ) where
   not_here : (d : Line) (f : Found) → source N d ≡ Given → AreNeedsFound N I c k f → (EndsSearch d j f → ⊥) → NeedsNot N I c d j k
   not_here (Channel d) (found.Needs y) given h goes = λ v x g.
       let e : x ≡ cut_told N y.values.items y.events.items = one_cut N I c k v y.value x _ g h in
@@ -53,11 +53,11 @@ module _ (N : Network) (I : Inputs) (c : Line) (j k : ℕ) where
   first_is d found.Bound h ends before = tt
 
 -- what holds for a network, an input and a line holds for the same ones
-pub same_search : {t s : Program} {i j : Lists} {c d : Line} (P : Network → Inputs → Line → Type 0) → s ≡ t → j ≡ i → d ≡ c → P (network_of s) (inputs_of j) d → P (network_of t) (inputs_of i) c
+pub same_search : {t s : Program} {i j : Lists} {c d : Line} (P : Schema → Inputs → Line → Type 0) → s ≡ t → j ≡ i → d ≡ c → P (network_of s) (inputs_of j) d → P (network_of t) (inputs_of i) c
 same_search P e g h is = subst (λ (k : Program × Lists × Line). P (network_of k.0) (inputs_of k.1) k.2) (λ x. (e x, g x, h x)) is
 
 -- one place more with what is needed
-pub rows_more : (N : Network) (I : Inputs) (c : Line) (n : ℕ) (x : Needs) → AreRows N I c n → AreNeedsFound N I c n (found.Needs x) → AreRows N I c (n + 1)
+pub rows_more : (N : Schema) (I : Inputs) (c : Line) (n : ℕ) (x : Needs) → AreRows N I c n → AreNeedsFound N I c n (found.Needs x) → AreRows N I c (n + 1)
 rows_more N I c n x rows is k l = by (cases_lt k n)
   where
     by : (k < n) ⊎ (n ≤ k) → (x : Needs) × AreNeedsFound N I c k (found.Needs x)

@@ -1,5 +1,5 @@
 -- The columns of a run that keeps all channels.
-use Rattle.kahn_explain.proofs.Common.{◌≡◌, ◌∙◌, ℕ, ◌<◌, ap, arith, false, length, Some, slice_get, sym, length-map, Config, Program, Line, Kind, Role, Output, Instance, channels_of, network_of, role_at, Lists, inputs_of, Channel, Print, HasStream, IsRightRun, is_output, stream_line, stream_lines, Stream, IsNetworkLine, IsLine, channel_count, instance_count, IsRecordedRun, Recorded, HasLine, HasValuesOf, IsAny, IsColumnOf, IsHistoryOf, IsRecord, Column}
+use Rattle.kahn_explain.proofs.Common.{◌≡◌, ◌∙◌, ℕ, ◌<◌, ap, arith, false, length, Some, slice_get, sym, length-map, Config, Program, Line, Kind, Role, Output, Node, channels_of, network_of, role_at, Lists, inputs_of, Channel, Print, HasStream, IsRightRun, is_output, stream_line, stream_lines, Stream, IsNetworkLine, IsLine, channel_count, instance_count, IsRecordedRun, Recorded, HasLine, HasValuesOf, IsAny, IsColumnOf, IsHistoryOf, IsRecord, Column}
 use Rattle.kahn_streams.proofs.By_number.{all_at, mapped}
 use Rattle.kahn_texts.proofs.Answer_lines.{streamed_lines}
 use Rattle.kahn_explain.proofs.{Begun.history, Begun.kept_history, Cells.has_line, Cells.output_streamed}
@@ -35,7 +35,7 @@ kept_column t x c s y (lists, config, (allowed, (w, watched, (right, counts, kep
 -- the line of a stream is one of the network
 network_line : (t : Program) (c : Line) → IsLine t c → IsNetworkLine (network_of t) c
 network_line t (Channel c) h = let e : length (network_of t).channels ≡ channel_count t = length-map {B = Kind × Role} (channels_of t.declarations.items) (λ x. x.1) in omega (arith, h, e)
-network_line t (Print p) h = let e : length (network_of t).instances ≡ instance_count t = length-map {B = Instance} t.instances.items _ in omega (arith, h, e)
+network_line t (Print p) h = let e : length (network_of t).instances ≡ instance_count t = length-map {B = Node} t.instances.items _ in omega (arith, h, e)
 
 pub stream_listed : (t : Program) (x : Recorded) (k : ℕ) (s : Stream) → IsRecord t x → slice_get x.answer.streams.items k ≡ Some s → IsNetworkLine (network_of t) s.line
 stream_listed t x k s (lists, config, (allowed, (w, watched, (right, counts, kept)))) at =

@@ -1,7 +1,7 @@
 -- Believed. What is told of the needs of values (this project's profile): of one, and of all of a line as a table; and of which values need one.
 use Rattle.std.specs.Prelude.{◌≡◌, ℕ, zero, suc, ◌+◌, ◌≤◌, ◌<◌, ◌^◌, List, Option, Some, None, Bool, true, false, ⊤, length, slice_get, slice_index_or, unwrap_or}
 use Rattle.std.specs.Str.Parse.{IsNumeral, digits_value, without_leading_plus}
-use Rattle.kahn_streams.specs.{declared.answer.Stream.Stream, declared.answer.Verdict.Verdict, declared.answer.Verdict.TheVariants.Finished, declared.answer.Verdict.TheVariants.Bound, declared.answer.Verdict.TheVariants.Memory, declared.config.Config.Config, declared.tree.Program.Program, declared.value.Line.Line, declared.value.Line.TheVariants.Channel, declared.value.Line.TheVariants.Print, declared.value.Value.Value, Inputs.Lists, Inputs.inputs_of, Inputs.IsNameOf, Inputs.IsNoName, Network.Given, Network.Network, Network.network_of, Solution.Inputs, Solution.source}
+use Rattle.kahn_streams.specs.{declared.answer.Stream.Stream, declared.answer.Verdict.Verdict, declared.answer.Verdict.TheVariants.Finished, declared.answer.Verdict.TheVariants.Bound, declared.answer.Verdict.TheVariants.Memory, declared.config.Config.Config, declared.tree.Program.Program, declared.value.Line.Line, declared.value.Line.TheVariants.Channel, declared.value.Line.TheVariants.Print, declared.value.Value.Value, Inputs.Lists, Inputs.inputs_of, Inputs.IsNameOf, Inputs.IsNoName, Network.Given, Network.Schema, Network.network_of, Solution.Inputs, Solution.source}
 use Rattle.kahn_needs.specs.{Finding.AreNeedsFound, Needs.AreNeeds, Needs.Cut, declared.needs.Found.Found, declared.needs.Needs.Needs}
 use Rattle.kahn_needs.specs.declared.needs.Found.TheVariants as found
 use Rattle.kahn_sequential.specs.declared.recorded.Recorded.{Recorded}
@@ -72,11 +72,11 @@ IsNone found.Ring = ⊤
 IsNone found.Bound = ⊤
 
 -- the first n places of line c have values, with what each needs
-abbrev pub AreRows : Network → Inputs → Line → ℕ → Type 0
+abbrev pub AreRows : Schema → Inputs → Line → ℕ → Type 0
 AreRows N I c n = (k : ℕ) → k < n → (x : Needs) × AreNeedsFound N I c k (found.Needs x)
 
 -- all places of a line, up to its end or to the bound
-abbrev pub AreAllNeeds : Network → Inputs → Line → Found → Type 0
+abbrev pub AreAllNeeds : Schema → Inputs → Line → Found → Type 0
 AreAllNeeds N I c f = (n : ℕ) × AreRows N I c n × AreNeedsFound N I c n f × IsNone f
 
 abbrev pub IsTableTold : Program → List ℕ → Line → Verdict → Type 0
@@ -90,11 +90,11 @@ values_on f (Channel d) = f d
 values_on f (Print p) = 0
 
 -- the value at place k of line c, if there is one, doesn't need that at place j of input d
-abbrev pub NeedsNot : Network → Inputs → Line → Line → ℕ → ℕ → Type 0
+abbrev pub NeedsNot : Schema → Inputs → Line → Line → ℕ → ℕ → Type 0
 NeedsNot N I c d j k = (v : Value) (x : Cut) → AreNeeds N I c k v x → values_on x.values d ≤ j
 
 -- that at place k is the first of line c that needs the value at place j of input d, and this is what it needs; or none of the line ever does
-abbrev pub IsFirstNeeding : Network → Inputs → Line → Line → ℕ → ℕ → Found → Type 0
+abbrev pub IsFirstNeeding : Schema → Inputs → Line → Line → ℕ → ℕ → Found → Type 0
 IsFirstNeeding N I c d j k (found.Needs x) =
     AreNeedsFound N I c k (found.Needs x) × (j < values_on (λ e. slice_index_or x.values.items e 0) d) × ((i : ℕ) → i < k → NeedsNot N I c d j i)
 IsFirstNeeding N I c d j k found.Never = (i : ℕ) → NeedsNot N I c d j i
@@ -102,7 +102,7 @@ IsFirstNeeding N I c d j k found.Ring = (i : ℕ) → NeedsNot N I c d j i
 IsFirstNeeding N I c d j k found.Bound = ⊤
 
 -- how the search for it ended, on a line that an instance sends; of an input nothing is sought
-abbrev pub IsFirstEnd : Network → Inputs → Line → ℕ → Line → Verdict → Type 0
+abbrev pub IsFirstEnd : Schema → Inputs → Line → ℕ → Line → Verdict → Type 0
 IsFirstEnd N I d j c v =
     ((source N c ≡ Given → ⊥) → (k : ℕ) × (f : Found) × IsFirstNeeding N I c d j k f × (v ≡ found_end f)) × (source N c ≡ Given → v ≡ Finished)
 
@@ -113,7 +113,7 @@ worse Bound v = Bound
 worse Memory v = Memory
 
 -- for the first n streams of the report, how the searches for the first that needs the value at place j of input d ended
-abbrev pub AreFirstEnds : Network → Recorded → Inputs → Line → ℕ → ℕ → Verdict → Type 0
+abbrev pub AreFirstEnds : Schema → Recorded → Inputs → Line → ℕ → ℕ → Verdict → Type 0
 AreFirstEnds N x I d j zero v = v ≡ Finished
 AreFirstEnds N x I d j (suc n) v =
     (s : Stream) × (u w : Verdict) × (slice_get x.answer.streams.items n ≡ Some s) × AreFirstEnds N x I d j n u × IsFirstEnd N I d j s.line w × (v ≡ worse u w)

@@ -7,7 +7,7 @@ use Rattle.kahn_texts.specs.{Formats.StandsFor, Formats.IsInputTextFault, declar
 use Rattle.kahn_fault.specs.{Status.status_of, Telling.WasWritten, Telling.told_text, Work.IsChecked, Work.IsUnchecked, declared.fault.Fault.TheVariants.Work, declared.texts.Texts.Texts, declared.work.WorkFault.WorkFault, declared.work.WorkFault.TheVariants.Syntax, declared.work.WorkFault.TheVariants.Check, declared.work.WorkFault.TheVariants.Text, declared.work.WorkFault.TheVariants.Run, declared.work.WorkFault.TheVariants.Write}
 use Rattle.kahn_marks.specs.Marks.{shown_text}
 use Rattle.kahn_sequential.specs.{Recordings.IsCountedRun, Recordings.IsRecordedRun, declared.counted.Counted.Counted, declared.recorded.Recorded.Recorded}
-use Rattle.kahn_why.specs.{Refusing.AreAllowed, Refusing.IsRefusal, Refusing.IsRefusedFor, Telling.HasToldInput, declared.explaining.Came.Came, declared.explaining.Came.TheVariants.Stopped, declared.explaining.Came.TheVariants.Refused, declared.why.told.Finding.Finding}
+use Rattle.kahn_why.specs.{Data.HasToldData, Refusing.AreAllowed, Refusing.IsRefusal, Refusing.IsRefusedFor, Telling.HasToldInput, declared.explaining.Came.Came, declared.explaining.Came.TheVariants.Stopped, declared.explaining.Came.TheVariants.Refused, declared.why.told.Finding.Finding}
 use Rattle.kahn_why.specs.declared.why.told.Finding.TheVariants as told
 use Rattle.kahn_explain.specs.{Needing.AreNeedsTold, Needing.IsUnaskedOf, declared.pipe.Pipe.Pipe, declared.replying.Sheet.Sheet, Untaken.IsToldFor, declared.running.Paths.Paths, declared.running.Wish.Wish}
 use Rattle.kahn_explain.specs.declared.replying.Sheet.TheVariants as sheet
@@ -151,13 +151,19 @@ abbrev pub IsOrRefused : Sources → Result Came WorkFault → Option (List ℕ)
 IsOrRefused s (Err (Text f)) old new r = HasToldInput s.input_path s.program s.input f old new r
 IsOrRefused s came old new r = (r ≡ came) × (new ≡ old)
 
--- a run was explained; or the texts were looked at; or a sheet was written, and to the other writer what is told beside it
+-- the same as data: the status is that of looking at the texts for a writer whose text is dropped
+abbrev pub HasDoneAsData : Sources → Bool → Option (List ℕ) → Option (List ℕ) → Result Came WorkFault → Type 0
+HasDoneAsData s strict out made r = (came looked : Result Came WorkFault) × (old mid new : Option (List ℕ)) × HasLooked s.path s.program s.input strict old mid came
+    × IsOrRefused s came mid new looked × HasToldData looked out made r
+
+-- a run was explained; or the texts were looked at, or as data; or a sheet was written, and to the other writer what is told beside it
 abbrev pub HasDone : Wish → List ℕ → Sources → Config → Bool → Option (List ℕ) → Option (List ℕ) → Option (List ℕ) → Option (List ℕ) → Result Came WorkFault → Type 0
 HasDone wish.Reasons word s config strict out made old new r =
     (came : Result Came WorkFault) × (mid : Option (List ℕ)) × HasExplained s.path s.program s.input config strict out mid came × IsOrRefused s came mid made r
     × (new ≡ old)
 HasDone wish.Look word s config strict out made old new r =
     (came : Result Came WorkFault) × (mid : Option (List ℕ)) × HasLooked s.path s.program s.input strict out mid came × IsOrRefused s came mid made r × (new ≡ old)
+HasDone wish.Data word s config strict out made old new r = HasDoneAsData s strict out made r × (new ≡ old)
 HasDone (wish.Sheet kind) word s config strict out made old new r =
     (came : Result Came WorkFault) × (mid : Option (List ℕ)) × HasReplied kind word s.path s.program s.input config strict out made old mid came
     × IsOrRefused s came mid new r

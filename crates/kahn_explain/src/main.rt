@@ -43,7 +43,9 @@ fn paths_of(alloc: Global, options: &ExplainOptions) -> Result<Paths, AllocError
 
 /// What the command line asks for.
 fn wish_of(options: &ExplainOptions) -> Wish {
-    if options.check {
+    if options.json {
+        Wish::Data
+    } else if options.check {
         Wish::Look
     } else if options.needs.is_some() {
         Wish::Sheet(Sheet::Needs(false))

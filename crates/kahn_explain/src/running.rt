@@ -1,14 +1,14 @@
 //! What is asked for, from the bytes of the texts to the exit status.
 
 ghost use Rattle.std.specs.Prelude.{◌≡◌};
-ghost use Rattle.kahn_explain.specs.Running.{HasDoneOn, HasExplainedAs, IsFaultTold, IsOrRefused, end_status, texts_of};
+ghost use Rattle.kahn_explain.specs.Running.{HasDoneAsData, HasDoneOn, HasExplainedAs, IsFaultTold, IsOrRefused, end_status, texts_of};
 
 use crate::explaining::{explain, look, status};
 use crate::pipe::Pipe;
 use crate::replying::{Sheet, sheet_out};
 use kahn_fault::{Fault, Texts, WorkFault, tell};
 use kahn_streams::Config;
-use kahn_why::{Came, refuse_input};
+use kahn_why::{Came, refuse_input, write_data};
 use std::alloc::Global;
 use std::io::Write;
 
@@ -19,6 +19,8 @@ pub(crate) enum Wish {
     Reasons,
     /// What is wrong with the texts, without a run.
     Look,
+    /// The same as data.
+    Data,
     /// A sheet.
     Sheet(Sheet),
 }
@@ -49,6 +51,25 @@ fn or_refused<W: Write>(
     }
 }
 
+/// Looks at the texts, and writes what is said of them as data.
+fn done_as_data<W: Write>(
+    alloc: Global,
+    paths: &Paths,
+    texts: &Texts,
+    strict: bool,
+    out: &mut W,
+) -> Result<Came, WorkFault>
+    ensures { HasDoneAsData (texts_of paths.now texts.now) strict (W.contents out.old) (W.contents out.new) result }
+{
+    let (path, input_path) = (paths.program.as_str(), paths.input.as_str());
+    let (program, input) = (texts.program.as_str(), texts.input.as_str());
+    let mut lines: Vec<u8> = Vec::new(alloc);
+    let came = look(alloc, path, program, input, strict, &mut lines);
+    let came = or_refused(alloc, paths, texts, came, &mut lines);
+    let of = (path, input_path);
+    write_data(alloc, of, program, input, strict, came, out)
+}
+
 /// Explains the run of the program on the input; or looks at the texts alone; or writes a sheet, and to the other writer what is told beside
 /// it, or why there is none.
 fn done<W: Write, E: Write>(
@@ -76,6 +97,7 @@ fn done<W: Write, E: Write>(
             let came = look(alloc, path, program, input, strict, out);
             or_refused(alloc, paths, texts, came, out)
         }
+        Wish::Data => done_as_data(alloc, paths, texts, strict, out),
         Wish::Sheet(kind) => {
             let came = sheet_out(
                 alloc, path, program, input, kind, word, config, strict, all, out, log,

@@ -80,24 +80,24 @@ fn fullest(network: &Network, counts: &[Count]) -> Option<usize>
     one
 }
 
-/// The verb of so many.
-fn was(count: u64) -> &'static str {
-    if count == 1 { " was" } else { " were" }
-}
-
 /// That so many of all values of a channel were never taken.
 fn never_taken(alloc: Global, left: u64, sent: u64, name: &str) -> Result<String, AllocError> {
     let mut text = String::new(alloc);
-    if sent == 1 {
-        add(&mut text, &["the value of ", name, " was never taken\n"])?;
-        return Ok(text);
-    }
     let mut some = Buffer::new();
     let mut all = Buffer::new();
     let (some, all) = (some.format(left), all.format(sent));
-    add(&mut text, &[some, " of the ", all, " values of ", name])?;
-    text.push_str(was(left))?;
-    text.push_str(" never taken\n")?;
+    if sent == 1 {
+        add(&mut text, &["the value of ", name, " was never taken\n"])?;
+    } else if left == sent {
+        add(
+            &mut text,
+            &["none of the ", all, " values of ", name, " was taken\n"],
+        )?;
+    } else {
+        add(&mut text, &[some, " of the ", all, " values of ", name])?;
+        let was = if left == 1 { " was" } else { " were" };
+        add(&mut text, &[was, " never taken\n"])?;
+    }
     Ok(text)
 }
 

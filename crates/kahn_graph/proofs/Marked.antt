@@ -1,14 +1,14 @@
 -- Standings, and the marks of rings over them.
-use Rattle.kahn_graph.proofs.Common.{AreRings, Bool, Ended, Faulted, IsRingMark, IsWaitAt, IsWaitMark, LeadsOn, List, More, Network, Some, Standing, Waits, [], ap, arith, cases_lt, eq-eqb, eqb-true, false, get_or, is_wait, length, refl, same_Some, slice_get, slice_get-get_or, slice_get_within, subst, sym, true, ℕ, ⊎_elim, ◌+◌, ◌<◌, ◌∙◌, ◌≡◌, ◌≤◌}
+use Rattle.kahn_graph.proofs.Common.{AreRings, Bool, Ended, Faulted, IsRingMark, IsWaitAt, IsWaitMark, LeadsOn, List, More, Schema, Some, Standing, Waits, [], ap, arith, cases_lt, eq-eqb, eqb-true, false, get_or, is_wait, length, refl, same_Some, slice_get, slice_get-get_or, slice_get_within, subst, sym, true, ℕ, ⊎_elim, ◌+◌, ◌<◌, ◌∙◌, ◌≡◌, ◌≤◌}
 
 -- nobody stands, so nobody is on a ring
-pub no_rings : (N : Network) (ss : List Standing) (marks : List Bool) → ss ≡ [] → marks ≡ [] → AreRings N ss marks
+pub no_rings : (N : Schema) (ss : List Standing) (marks : List Bool) → ss ≡ [] → marks ≡ [] → AreRings N ss marks
 no_rings N ss marks none nothing = subst (λ l. AreRings N l marks) (sym none) (subst (AreRings N []) (sym nothing) record {
   each = refl;
   rings = λ p mark e. absurd cc;
 })
 
-module _ (N : Network) (ss : List Standing) (marks : List Bool) (rings : AreRings N ss marks) where
+module _ (N : Schema) (ss : List Standing) (marks : List Bool) (rings : AreRings N ss marks) where
   pub ring_at : (p : ℕ) (d : Bool) → p < length marks → IsRingMark N ss p (get_or marks p d)
   ring_at p d le = rings.rings p (get_or marks p d) (slice_get-get_or marks p d le)
 
@@ -37,7 +37,7 @@ module _ (N : Network) (ss : List Standing) (marks : List Bool) (rings : AreRing
       (slice_get-get_or ss p x le) f
 
 -- no instance before the nth
-pub no_wait_more : (N : Network) (ss : List Standing) (c n : ℕ) → ((p : ℕ) → p < n → IsWaitAt N ss c p false) → IsWaitAt N ss c n false
+pub no_wait_more : (N : Schema) (ss : List Standing) (c n : ℕ) → ((p : ℕ) → p < n → IsWaitAt N ss c p false) → IsWaitAt N ss c n false
     → (p : ℕ) → p < n + 1 → IsWaitAt N ss c p false
 no_wait_more N ss c n before here p le =
     ⊎_elim (λ l. before p l) (λ ge. subst (λ q. IsWaitAt N ss c q false) (sym (the_nth ge)) here) (cases_lt p n)
@@ -45,5 +45,5 @@ no_wait_more N ss c n before here p le =
     the_nth : n ≤ p → p ≡ n
     the_nth ge = omega (arith, ge, le)
 
-pub some_wait : (N : Network) (ss : List Standing) (c p : ℕ) → IsWaitAt N ss c p true → IsWaitMark N ss c true
+pub some_wait : (N : Schema) (ss : List Standing) (c p : ℕ) → IsWaitAt N ss c p true → IsWaitMark N ss c true
 some_wait N ss c p is = (p, is.0, is.1)

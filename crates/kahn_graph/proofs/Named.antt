@@ -1,5 +1,5 @@
 -- Values and ends of edges by the names of parameters.
-use Rattle.kahn_graph.proofs.Common.{Argument, Bool, End, IfSome, IsEdge, IsOnly, IsPortText, IsReader, IsWaitMark, IsWithin, IsWriter, Kind, List, Network, None, Option, Parameter, Process, Program, Role, Scope, Side, Some, Standing, Stream, [], actuals_of, ap, ap₂, arith, awaited_text, bytes_of, cases_lt, channel_names, codes, column_of, concat, count_by, drop, drop_of_length-le, edge_text, inl, inr, instance_at, instance_from, kind_at, length, length-map, line_of, map, mark_text, min, network_of, not, process_of, refl, role_at, slice_get, stands, subst, suffix_len, sym, take, take_all, values_text, ℕ, ⊎_elim, ◌++◌, ◌+◌, ◌<◌, ◌==◌, ◌∙◌, ◌∷◌, ◌≡◌, ◌≤◌, ◌⊎◌}
+use Rattle.kahn_graph.proofs.Common.{Argument, Bool, End, IfSome, IsEdge, IsOnly, IsPortText, IsReader, IsWaitMark, IsWithin, IsWriter, Kind, List, Schema, None, Option, Parameter, Process, Program, Role, Scope, Side, Some, Standing, Stream, [], actuals_of, ap, ap₂, arith, awaited_text, bytes_of, cases_lt, channel_names, codes, column_of, concat, count_by, drop, drop_of_length-le, edge_text, inl, inr, instance_at, instance_from, kind_at, length, length-map, line_of, map, mark_text, min, network_of, not, process_of, refl, role_at, slice_get, stands, subst, suffix_len, sym, take, take_all, values_text, ℕ, ⊎_elim, ◌++◌, ◌+◌, ◌<◌, ◌==◌, ◌∙◌, ◌∷◌, ◌≡◌, ◌≤◌, ◌⊎◌}
 use Rattle.kahn_graph.proofs.Front.{front}
 
 -- ---- values
@@ -34,18 +34,18 @@ few_actuals names [] xs = omega arith
 few_actuals names (q ∷ qs) [] = omega arith
 few_actuals names (q ∷ qs) (x ∷ xs) = let less = few_actuals names qs xs in omega (arith, less)
 
-pub port_within : (N : Network) (names : Scope) (p : Process) (xs : List Argument) (s : Side) → IsWithin N s → instance_at N s.instance ≡ instance_from names (Some p) xs
+pub port_within : (N : Schema) (names : Scope) (p : Process) (xs : List Argument) (s : Side) → IsWithin N s → instance_at N s.instance ≡ instance_from names (Some p) xs
     → s.parameter < length p.parameters.items
 port_within N names p xs s within e =
     let same : length (instance_at N s.instance).actuals ≡ length (actuals_of names p.parameters.items xs) = ap (λ i. length i.actuals) e in
     let less : length (actuals_of names p.parameters.items xs) ≤ length p.parameters.items = few_actuals names p.parameters.items xs in
     omega (arith, within.1, same, less)
 
-pub writer_within : (N : Network) (c : ℕ) (o : Option Side) → IsOnly (IsWriter N c) o → IfSome o (IsWithin N)
+pub writer_within : (N : Schema) (c : ℕ) (o : Option Side) → IsOnly (IsWriter N c) o → IfSome o (IsWithin N)
 writer_within N c None only = tt
 writer_within N c (Some s) only = only.0.0
 
-pub reader_within : (N : Network) (c : ℕ) (o : Option Side) → IsOnly (IsReader N c) o → IfSome o (IsWithin N)
+pub reader_within : (N : Schema) (c : ℕ) (o : Option Side) → IsOnly (IsReader N c) o → IfSome o (IsWithin N)
 reader_within N c None only = tt
 reader_within N c (Some s) only = only.0.0
 

@@ -2,7 +2,7 @@
 -- Without a run there are none of both.
 use Rattle.std.specs.Prelude.{◌≡◌, ℕ, ◌==◌, Bool, true, false, List, [], ◌∷◌, Option, None, Some, codes, decimal, if◌then◌else◌, length, slice_get, slice_index_or}
 use Rattle.std.specs.List.{concat}
-use Rattle.kahn_streams.specs.{declared.answer.End.End, declared.answer.Outcome.Outcome, declared.answer.Stream.Stream, declared.tree.Program.Program, declared.value.Line.Line, declared.answer.Outcome.TheVariants.Ended, declared.answer.Outcome.TheVariants.Waits, declared.answer.Outcome.TheVariants.Faulted, declared.answer.Outcome.TheVariants.More, declared.value.Failure.TheVariants.Overflow, declared.value.Failure.TheVariants.Division, declared.value.Line.TheVariants.Channel, declared.value.Line.TheVariants.Print, Network.Network, Network.channel_names}
+use Rattle.kahn_streams.specs.{declared.answer.End.End, declared.answer.Outcome.Outcome, declared.answer.Stream.Stream, declared.tree.Program.Program, declared.value.Line.Line, declared.answer.Outcome.TheVariants.Ended, declared.answer.Outcome.TheVariants.Waits, declared.answer.Outcome.TheVariants.Faulted, declared.answer.Outcome.TheVariants.More, declared.value.Failure.TheVariants.Overflow, declared.value.Failure.TheVariants.Division, declared.value.Line.TheVariants.Channel, declared.value.Line.TheVariants.Print, Network.Schema, Network.channel_names}
 use Rattle.kahn_chain.specs.{Chain.LeadsOn, declared.standing.Standing.Standing}
 use Rattle.kahn_chain.specs.declared.standing.Standing.TheVariants as S
 
@@ -40,6 +40,6 @@ count_text None = []
 count_text (Some n) = concat (codes "\\n" ∷ decimal n ∷ [])
 
 -- a mark is set where an instance of a ring waits on channel c
-abbrev pub IsWaitMark : Network → List Standing → ℕ → Bool → Type 0
+abbrev pub IsWaitMark : Schema → List Standing → ℕ → Bool → Type 0
 IsWaitMark N ss c true = (p : ℕ) × (slice_get ss p ≡ Some (S.Waits c)) × LeadsOn N ss p p
 IsWaitMark N ss c false = (p : ℕ) → slice_get ss p ≡ Some (S.Waits c) → LeadsOn N ss p p → ⊥

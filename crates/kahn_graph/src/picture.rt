@@ -60,7 +60,7 @@ pub fn picture_text(
     ensures { IfOk result (λ text. IsPicture network.now source.now streams.now ends.now (string_bytes text)) }
 {
     let standings = standings(alloc, ends)?;
-    let rings = rings_of(alloc, network, &standings)?;
+    let rings = rings_of(alloc, network, ends)?;
     let printing = printing(alloc, network)?;
     drawn(
         alloc, network, source, streams, ends, &standings, &rings, &printing,

@@ -1,28 +1,28 @@
 //! Which instances and channels of a picture are on rings of waits.
 
-ghost use Rattle.std.specs.Prelude.{◌≡◌, ◌<◌, [], IfOk, length};
+ghost use Rattle.std.specs.Prelude.{◌≡◌, ◌<◌, [], IfOk, length, map};
 ghost use Rattle.std.specs.Prelude.{◌⊎◌};
 ghost use Rattle.kahn_streams.specs.Network.{network_of};
-ghost use Rattle.kahn_chain.specs.Chain.{AreRings, AreStandings, IsRingMark};
+ghost use Rattle.kahn_chain.specs.Chain.{AreRings, AreStandings, IsRingMark, stands};
 ghost use Rattle.kahn_graph.specs.{Ran.IsWaitMark, inner.Adding.is_wait as is_wait_on, inner.Adding.IsWaitAt};
 
 use kahn_chain::{Standing, rings};
-use kahn_streams::Network;
+use kahn_streams::{End, Network};
 use std::alloc::{AllocError, Global};
 
 /// Which instances are on rings, where they stand so; or none, where nothing was run.
 pub(crate) fn rings_of(
     alloc: Global,
     network: &Network,
-    standings: &[Standing],
+    ends: &[End],
 ) -> Result<Vec<bool>, AllocError>
-    requires { (standings.now ≡ []) ⊎ AreStandings (network_of network.now) standings.now }
-    ensures { IfOk result (λ marks. AreRings (network_of network.now) standings.now marks.items) }
+    requires { (ends.now ≡ []) ⊎ AreStandings (network_of network.now) (map stands ends.now) }
+    ensures { IfOk result (λ marks. AreRings (network_of network.now) (map stands ends.now) marks.items) }
 {
-    if standings.is_empty() {
+    if ends.is_empty() {
         return Ok(Vec::new(alloc));
     }
-    rings(alloc, network, standings)
+    rings(alloc, network, ends)
 }
 
 // Whether one that stands so waits on a channel.

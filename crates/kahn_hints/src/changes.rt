@@ -1,63 +1,90 @@
 //! Which change of one word was perhaps meant: each is tried, and the one that leaves the fewest faults is told.
 
-use crate::declaring::{begin_in, forms_in, undeclared};
-use crate::lost::longer_of;
-use crate::names::names_asked;
+use crate::heads::{head_before, targets_behind};
+use crate::lost::{longer_of, spans_of};
+use crate::names::{NameKind, names_asked, names_seen};
 use crate::near::nearest;
-use crate::others::{first_passed, idle_at};
 use crate::place::{
-    NetworkPlace, class_of, instance_at, is_called, is_in, seen_in, text_of, word_at,
+    Handed, NetworkPlace, called_first, is_called, is_in, process_called, side_of, text_of, word_at,
 };
-use crate::rows::head_in;
-use crate::sides::{hands, parameter_for, process_called};
-use crate::trial::{Edit, EditKind, Trial};
-use kahn_marks::{add, part_of};
-use kahn_streams::{Argument, CheckFault, Declaration, Direction, Name, NoMemory, Span};
-use kahn_syntax::{Class, Keyword, Lexeme, Sign};
-use std::alloc::{AllocError, Global};
+use crate::said::Added;
+use crate::trial::{Edit, EditKind, Trial, Tried};
+use kahn_marks::add;
+use kahn_streams::{CheckFault, Declaration, Name, NoMemory, Span};
+use kahn_syntax::{Class, Keyword, Sign};
+use std::alloc::AllocError;
 
 impl<'p> Trial<'p> {
-    /// A truth value for a number.
-    fn with_literal(&mut self) -> Result<(), NoMemory> {
-        let at = self.place.at;
-        match part_of(self.place.text, at) {
-            "0" => self.put_one(EditKind::Near, at, "false"),
-            "1" => self.put_one(EditKind::Near, at, "true"),
-            _ => Ok(()),
+    /// All those for a fault.
+    fn with_fault(&mut self, fault: CheckFault) -> Tried {
+        let place = self.place;
+        match fault {
+            CheckFault::Unknown(_) => return self.with_unknown(),
+            CheckFault::DeclaredTwice(_) => {
+                for fault in self.faults {
+                    if let CheckFault::Unknown(span) = fault {
+                        self.put_one(EditKind::Near, place.at, place.part(*span))?;
+                    }
+                }
+                return Ok(());
+            }
+            CheckFault::WrongCount(_) => return self.with_counts(),
+            CheckFault::NoWriter(_) => return self.with_role(fault, "input", "input channel"),
+            CheckFault::NoReader(_) => return self.with_role(fault, "output", "output channel"),
+            CheckFault::TooMany(_) | CheckFault::NoMemory => return Ok(()),
+            CheckFault::WrongDirection(_) => {
+                if let Some(name) = nearest(place.word(), &names_asked(place)?) {
+                    self.put_name(EditKind::Near, place.at, name)?;
+                }
+            }
+            CheckFault::ChannelExpected(_) => {
+                let wait = place.beyond(Sign::Open, -1);
+                if let (Some(wait), Some(close)) = (wait, place.span(1)) {
+                    self.put(EditKind::Bare, (wait, close), &[place.part(place.at)])?;
+                }
+            }
+            _ => match place.part(place.at) {
+                "0" => self.put_one(EditKind::Near, place.at, "false")?,
+                "1" => self.put_one(EditKind::Near, place.at, "true")?,
+                _ => {}
+            },
         }
+        self.with_targets()?;
+        self.with_others(fault)
     }
 
-    /// The name at the place and the one behind its `on` interchanged, where a bracket may stand between.
-    fn with_target(&mut self) -> Result<(), NoMemory> {
+    /// The name at the place and the one behind its `on` interchanged, where a bracket may stand between; or the channels of the first
+    /// send that ends behind the place and of another one.
+    fn with_targets(&mut self) -> Tried {
         let place = self.place;
-        let behind = place.number.saturating_add(1);
-        let behind = match class_of(place.lexemes, Some(behind)) {
-            Some(Class::Sign(Sign::Close)) => behind.saturating_add(1),
-            _ => behind,
-        };
-        let on = class_of(place.lexemes, Some(behind));
-        match (on, place.lexemes.get(behind.saturating_add(1))) {
-            (Some(Class::Word(Keyword::On)), Some(target)) => {
-                self.with_swap(EditKind::Swap, place.at, target.span)
-            }
-            _ => Ok(()),
+        let is_closed = place.class(1) == Some(Class::Sign(Sign::Close));
+        let behind = if is_closed { 2 } else { 1 };
+        let on = place.class(behind);
+        if let (Some(Class::Word(Keyword::On)), Some(target)) = (
+            on,
+            place.span(behind.saturating_add(1)),
+        ) {
+            self.with_swap(EditKind::Swap, place.at, target)?;
         }
+        let targets = targets_behind(place)?;
+        let Some((first, rest)) = targets.split_first() else {
+            return Ok(());
+        };
+        for other in rest {
+            self.with_swap(EditKind::Swap, *first, *other)?;
+        }
+        Ok(())
     }
 
     /// An instance of a process that has none and could have the side; or else a role in the declaration of the channel at the place, and one
     /// instance more of any process.
-    fn with_role(
-        &mut self,
-        role: &str,
-        head: &'static str,
-        direction: Direction,
-    ) -> Result<(), NoMemory> {
+    fn with_role(&mut self, fault: CheckFault, role: &str, head: &'p str) -> Tried {
         let place = self.place;
-        if let Some(process) = idle_at(place, direction) {
+        if let Some(process) = place.idle(side_of(fault)) {
             return self.with_instance(process);
         }
-        if let Some((kind, _)) = head_in(place.lexemes.get(..place.number).unwrap_or(&[])) {
-            self.put(EditKind::Role, (kind, kind), &[role])?;
+        if let Some((kind, _)) = head_before(place) {
+            self.put_one(EditKind::Role, kind, role)?;
         }
         self.with_head(place.at, false, Some(head))?;
         for declaration in &place.program.declarations {
@@ -69,59 +96,52 @@ impl<'p> Trial<'p> {
     }
 
     /// Other directions, kinds and roles, in a part and of the channels that are arguments.
-    fn with_flips(
-        &mut self,
-        place: NetworkPlace,
-        part: Span,
-        arguments: &[Argument],
-    ) -> Result<(), NoMemory> {
-        let mut before: Option<Lexeme> = None;
+    fn with_flips(&mut self, place: NetworkPlace, part: Span, handed: &[Handed]) -> Tried {
+        let mut directions: Vec<Span> = Vec::new(place.alloc);
         for (number, lexeme) in place.lexemes.iter().enumerate() {
             let words = flipped(lexeme.what);
+            let is_within = is_in(part, lexeme.span);
+            if is_within && matches!(lexeme.what, Class::Word(Keyword::In | Keyword::Out)) {
+                directions.push(lexeme.span)?;
+            }
             let is_tried = self.tries > 0 && !words.is_empty();
-            if is_tried && (is_in(part, lexeme.span) || declares_one(place, number, arguments)) {
-                for put in words {
-                    self.put_one(EditKind::Flip, lexeme.span, put)?;
-                }
+            if is_tried && (is_within || declares_one(place, number, handed)) {
+                self.put_each(lexeme.span, words)?;
             }
-            if is_in(part, lexeme.span)
-                && matches!(lexeme.what, Class::Word(Keyword::In | Keyword::Out))
-            {
-                match before {
-                    Some(first) if first.what != lexeme.what => {
-                        self.with_swap(EditKind::Moved, first.span, lexeme.span)?;
-                    }
-                    _ => {}
-                }
-                before = Some(*lexeme);
-            }
+        }
+        self.with_swaps(EditKind::Moved, &directions)
+    }
+
+    /// Each of some words in the place of a direction, kind or role.
+    fn put_each(&mut self, span: Span, words: &'static [&'static str]) -> Tried {
+        for put in words {
+            self.put_one(EditKind::Flip, span, put)?;
         }
         Ok(())
     }
 
-    /// The nearest of the names that may stand at the place.
-    fn with_near(&mut self, names: &[&'p Name]) -> Result<Option<Span>, NoMemory> {
-        let Some(name) = nearest(self.place.word(), names) else {
-            return Ok(None);
-        };
-        self.put_one(EditKind::Near, self.place.at, name.text.as_str())?;
-        Ok(Some(name.span))
-    }
-
-    /// Those for a name that isn't declared: a near one; or one that nothing uses, there or declared so.
-    fn with_unknown(&mut self) -> Result<(), NoMemory> {
+    /// Those for a name that isn't declared: a near one, or the parameter for which an instance hands over its channel; or one that nothing
+    /// uses, there or declared so; or a declaration.
+    fn with_unknown(&mut self) -> Tried {
         let place = self.place;
         if longer_of(place).is_some() {
             return Ok(());
         }
-        let names = names_asked(self.alloc, place)?;
-        self.with_handed(&names)?;
-        let near = self.with_near(&names)?;
+        let names = names_asked(place)?;
+        let near = nearest(place.word(), &names);
+        let is_near = |name: &Name| matches!(near, Some(near) if near.span == name.span);
+        match place.parameter_for() {
+            Some(name) if !is_near(name) => self.put_name(EditKind::Handed, place.at, name)?,
+            _ => {}
+        }
+        if let Some(name) = near {
+            self.put_name(EditKind::Near, place.at, name)?;
+        }
         for name in &names {
-            let is_meant = near.is_none() || near == Some(name.span);
+            let is_meant = near.is_none() || is_near(name);
             if is_meant && !is_called(place.word(), name) && !is_used(place, name) {
-                self.put_one(EditKind::Unused, place.at, name.text.as_str())?;
-                self.put_one(EditKind::Renamed, name.span, part_of(place.text, place.at))?;
+                self.put_name(EditKind::Unused, place.at, name)?;
+                self.put_one(EditKind::Renamed, name.span, place.part(place.at))?;
             }
         }
         if near.is_some() {
@@ -129,148 +149,70 @@ impl<'p> Trial<'p> {
         }
         self.with_declared()?;
         if place.process.is_none() {
-            return self.with_names(None);
+            return self.with_names();
         }
         Ok(())
-    }
-
-    /// The parameter for which an instance hands over the channel at the place, unless that is the nearest of some names.
-    fn with_handed(&mut self, names: &[&'p Name]) -> Result<(), NoMemory> {
-        let place = self.place;
-        let Some(process) = place.process else {
-            return Ok(());
-        };
-        match (
-            parameter_for(place.program, process, place.word()),
-            nearest(place.word(), names),
-        ) {
-            (Some(name), Some(near)) if name.span == near.span => Ok(()),
-            (Some(name), _) => self.put_one(EditKind::Handed, place.at, name.text.as_str()),
-            (None, _) => Ok(()),
-        }
     }
 
     /// A declaration of the name at the place: of a channel; or of a variable that is assigned, with all others like it.
-    fn with_declared(&mut self) -> Result<(), NoMemory> {
+    fn with_declared(&mut self) -> Tried {
         let place = self.place;
-        let (Some(begin), Some(names)) = (begin_in(place), undeclared(self.alloc, place)?) else {
+        let mut all = place.seen().iter();
+        let begin = all.find(|lexeme| lexeme.what == Class::Word(Keyword::Begin));
+        let (Some(begin), Some(names)) = (begin, undeclared(place)?) else {
             return Ok(());
         };
+        let parts = (begin.span, begin.span);
         for form in forms_in(place) {
             let pieces = [*form, names.as_str(), ";"];
-            self.put(EditKind::Declared, (begin, begin), &pieces)?;
+            self.put(EditKind::Declared, parts, &pieces)?;
         }
         Ok(())
     }
 
-    /// A name without the `wait` that takes it for a channel.
-    fn with_bare(&mut self) -> Result<(), NoMemory> {
+    /// The other names in sight, put in the place of the one at the place.
+    fn with_names(&mut self) -> Tried {
         let place = self.place;
-        let wait = place.lexemes.get(place.number.saturating_sub(2));
-        let close = place.lexemes.get(place.number.saturating_add(1));
-        match (wait, close) {
-            (Some(wait), Some(close)) if matches!(wait.what, Class::Word(Keyword::Wait)) => {
-                let put = part_of(place.text, place.at);
-                self.put(EditKind::Bare, (wait.span, close.span), &[put])
-            }
-            _ => Ok(()),
-        }
-    }
-
-    /// The names that aren't declared, put in the place of one that is declared twice.
-    fn with_undeclared(&mut self) -> Result<(), NoMemory> {
-        let place = self.place;
-        for fault in self.faults {
-            if let CheckFault::Unknown(span) = fault {
-                self.put_one(EditKind::Near, place.at, part_of(place.text, *span))?;
-            }
-        }
-        Ok(())
-    }
-
-    /// The other names in sight, put in the place of the one at the place, or where a channel is handed over first.
-    fn with_names(&mut self, first: Option<Span>) -> Result<(), NoMemory> {
-        let place = self.place;
-        let names = names_asked(self.alloc, place)?;
-        for name in &names {
+        for name in &names_asked(place)? {
             if self.tries > 0 && !is_called(place.word(), name) {
-                let way = if is_used(place, name) {
+                let is_used = is_used(place, name);
+                let way = if is_used {
                     EditKind::Used
                 } else {
                     EditKind::Unused
                 };
-                self.put_one(way, place.at, name.text.as_str())?;
-                if let Some(span) = first {
-                    self.put_one(way, span, name.text.as_str())?;
-                }
+                self.put_name(way, place.at, name)?;
             }
         }
         Ok(())
     }
 
     /// Those that don't put a near name in.
-    fn with_others(&mut self, fault: CheckFault) -> Result<(), NoMemory> {
+    fn with_others(&mut self, fault: CheckFault) -> Tried {
         let place = self.place;
-        let instances = &place.program.instances;
-        let none: &[Argument] = &[];
-        let (called, arguments) = match (place.process, instance_at(instances, place.at.from)) {
-            (Some(process), _) => (process.name.text.as_bytes(), none),
-            (None, Some(instance)) => (
-                instance.process.text.as_bytes(),
-                instance.arguments.as_slice(),
-            ),
+        let called = match (place.process, place.instance()) {
+            (Some(process), _) => &process.name,
+            (None, Some(instance)) => &instance.process,
             (None, None) => return Ok(()),
         };
-        self.with_swaps(arguments)?;
-        let first = first_of(place, fault);
-        if let Some(span) = first {
-            if let Some(instance) = instance_at(instances, span.from) {
-                self.with_swaps(&instance.arguments)?;
-            }
+        let called = called.text.as_bytes();
+        let handed = place.handed_at(place.at.from);
+        let spans = spans_of(place.alloc, handed)?;
+        self.with_swaps(EditKind::Swap, &spans)?;
+        if let Some(first) = place.passed_before(side_of(fault)) {
+            let others = spans_of(place.alloc, place.handed_at(first.from))?;
+            self.with_swaps(EditKind::Swap, &others)?;
         }
-        if let (None, Some(process)) = (place.process, process_called(place.program, called)) {
-            if let Some(instance) = instance_at(instances, place.at.from) {
-                self.with_groups(instance, process)?;
-                self.with_spares(instance, process)?;
-            }
+        if process_called(place.program, called).is_some() {
+            self.with_groups(handed)?;
+            self.with_spares(handed)?;
         }
-        self.with_flips(place, flips_in(place, called), arguments)?;
+        self.with_flips(place, flips_in(place, called), handed)?;
         self.with_heads(fault)?;
         if is_of_names(place, fault) {
-            self.with_names(first)?;
+            self.with_names()?;
         }
-        self.with_moves(arguments)
-    }
-
-    /// All those for a fault.
-    fn with_fault(&mut self, fault: CheckFault) -> Result<(), NoMemory> {
-        match fault {
-            CheckFault::Unknown(_) => self.with_unknown(),
-            CheckFault::WrongDirection(_) => {
-                let names = names_asked(self.alloc, self.place)?;
-                self.with_near(&names)?;
-                self.with_target()?;
-                self.with_others(fault)
-            }
-            CheckFault::ChannelExpected(_) => {
-                self.with_bare()?;
-                self.with_others(fault)
-            }
-            CheckFault::DeclaredTwice(_) => self.with_undeclared(),
-            CheckFault::WrongCount(_) => self.with_counts(),
-            CheckFault::WrongKind(_)
-            | CheckFault::ValueExpected(_)
-            | CheckFault::TwoWriters(_)
-            | CheckFault::TwoReaders(_) => {
-                self.with_literal()?;
-                self.with_target()?;
-                self.with_targets()?;
-                self.with_others(fault)
-            }
-            CheckFault::NoWriter(_) => self.with_role("input", "input channel", Direction::Out),
-            CheckFault::NoReader(_) => self.with_role("output", "output channel", Direction::In),
-            _ => Ok(()),
-        }
+        self.with_moves(&spans)
     }
 }
 
@@ -287,72 +229,62 @@ fn flipped(class: Class) -> &'static [&'static str] {
     }
 }
 
+/// How the names that a place sees are declared.
+fn forms_in(place: NetworkPlace) -> &'static [&'static str] {
+    match place.process {
+        Some(_) => &["integer ", "logical "],
+        None => &[
+            "integer channel ",
+            "logical channel ",
+            "integer input channel ",
+            "logical input channel ",
+            "integer output channel ",
+            "logical output channel ",
+        ],
+    }
+}
+
 /// Whether a kind or a role is that of the declaration of a channel which is one of some arguments.
-fn declares_one(place: NetworkPlace, number: usize, arguments: &[Argument]) -> bool {
-    let is_declaration = matches!(
-        class_of(place.lexemes, number.checked_add(1)),
-        Some(Class::Word(Keyword::Channel | Keyword::Input | Keyword::Output))
-    );
-    let Some(rest) = place.lexemes.get(number..) else {
+fn declares_one(place: NetworkPlace, number: usize, handed: &[Handed]) -> bool {
+    let rest = place.lexemes.get(number..).unwrap_or(&[]);
+    let second = rest.get(1).map(|lexeme| lexeme.what);
+    let mut row = rest
+        .iter()
+        .take_while(|lexeme| lexeme.what != Class::Sign(Sign::Semicolon));
+    let Some(Class::Word(Keyword::Channel | Keyword::Input | Keyword::Output)) = second else {
         return false;
     };
-    for lexeme in rest {
-        if !is_declaration || matches!(lexeme.what, Class::Sign(Sign::Semicolon)) {
-            return false;
-        }
+    row.any(|lexeme| {
         let word = word_at(place.text, lexeme.span);
-        if arguments.iter().any(|argument| hands(word, argument)) {
-            return true;
-        }
-    }
-    false
+        handed.iter().any(|one| one.is_channel(word))
+    })
 }
 
 /// The part of a text in which a direction or a kind may be another one: of the process that has the fault, or the parameters of the one
 /// that an instance names, to the first `)`.
 fn flips_in(place: NetworkPlace, called: &[u8]) -> Span {
-    let nowhere = Span { from: 0, to: 0 };
     let Some(part) = text_of(place.program, called) else {
-        return nowhere;
+        return Span { from: 0, to: 0 };
     };
-    for lexeme in place.lexemes {
-        let is_end = matches!(lexeme.what, Class::Sign(Sign::Close));
-        if place.process.is_none() && is_end && lexeme.span.from >= part.from {
-            let to = lexeme.span.from;
-            return Span { to, ..part };
-        }
-    }
-    part
+    let mut all = place.within(part).iter();
+    let close = all.find(|lexeme| lexeme.what == Class::Sign(Sign::Close));
+    let to = match (place.process, close) {
+        (None, Some(close)) => close.span.from,
+        _ => part.to,
+    };
+    Span { to, ..part }
 }
 
 /// Whether a name stands more than once in the part of a text that sees the names at a place.
 fn is_used(place: NetworkPlace, name: &Name) -> bool {
-    let part = seen_in(place);
-    let mut is_there = false;
-    for lexeme in place.lexemes {
-        let is_name = is_in(part, lexeme.span) && matches!(lexeme.what, Class::Name);
-        if is_name && is_called(word_at(place.text, lexeme.span), name) {
-            if is_there {
-                return true;
-            }
-            is_there = true;
-        }
-    }
-    false
-}
-
-/// Where a channel is handed over first that has a side twice.
-fn first_of(place: NetworkPlace, fault: CheckFault) -> Option<Span> {
-    match fault {
-        CheckFault::TwoWriters(_) => first_passed(place, Direction::Out),
-        CheckFault::TwoReaders(_) => first_passed(place, Direction::In),
-        _ => None,
-    }
+    let its = place.seen().iter().filter(|lexeme| {
+        lexeme.what == Class::Name && is_called(word_at(place.text, lexeme.span), name)
+    });
+    its.count() > 1
 }
 
 /// Whether any other name may be meant.
 fn is_of_names(place: NetworkPlace, fault: CheckFault) -> bool {
-    let class = class_of(place.lexemes, Some(place.number));
     let is_asked = match fault {
         CheckFault::TwoWriters(_)
         | CheckFault::TwoReaders(_)
@@ -361,12 +293,60 @@ fn is_of_names(place: NetworkPlace, fault: CheckFault) -> bool {
         CheckFault::WrongKind(_) => place.process.is_none(),
         _ => false,
     };
-    is_asked && matches!(class, Some(Class::Name))
+    is_asked && matches!(place.class(0), Some(Class::Name))
+}
+
+/// Whether a comment has the name at a place, and a kind.
+fn is_held(place: NetworkPlace) -> bool {
+    let word = place.part(place.at);
+    let mut from = 0;
+    for lexeme in place.lexemes {
+        let to = lexeme.span.from;
+        let comment = place.part(Span { from, to });
+        let has_kind = comment.find("integer").is_some() || comment.find("logical").is_some();
+        if has_kind && comment.find(word).is_some() {
+            return true;
+        }
+        from = lexeme.span.to;
+    }
+    false
+}
+
+/// The name of a channel at a place of the program; in a process the names that it assigns and doesn't declare, if the one at the place is
+/// one of them. None where a comment holds a declaration.
+fn undeclared(place: NetworkPlace) -> Result<Option<String>, AllocError> {
+    let word = place.part(place.at);
+    let is_variable = place.asked() == NameKind::Value;
+    if is_held(place) || !is_variable && place.asked() != NameKind::Channel {
+        return Ok(None);
+    }
+    if !is_variable {
+        return Ok(Some(String::from_str(place.alloc, word)?));
+    }
+    let declared = names_seen(place, place.process, None)?;
+    let seen = place.seen();
+    let mut words: Vec<&str> = Vec::new(place.alloc);
+    let mut names = String::new(place.alloc);
+    for (lexeme, behind) in seen.iter().zip(seen.iter().skip(1)) {
+        if behind.what == Class::Sign(Sign::Becomes) {
+            let name = place.part(lexeme.span);
+            let is_declared = called_first(name.as_bytes(), &declared).is_some();
+            if !is_declared && !words.contains(&name) {
+                let between = if words.is_empty() { "" } else { ", " };
+                add(&mut names, &[between, name])?;
+                words.push(name)?;
+            }
+        }
+    }
+    Ok(if words.contains(&word) {
+        Some(names)
+    } else {
+        None
+    })
 }
 
 /// The change that leaves the fewest faults of all, and fewer than there are, of those that may be tried yet.
 pub(crate) fn change_for(
-    alloc: Global,
     place: NetworkPlace,
     faults: &[CheckFault],
     tries: &mut usize,
@@ -375,12 +355,12 @@ pub(crate) fn change_for(
     if *tries == 0 {
         return Ok(None);
     }
+    let (tried, best) = (*tries, None);
     let mut trial = Trial {
-        alloc,
         place,
         faults,
-        tries: *tries,
-        best: None,
+        tries: tried,
+        best,
     };
     trial.with_fault(fault)?;
     *tries = trial.tries;
@@ -405,44 +385,24 @@ pub(crate) fn is_of_sides(fault: CheckFault) -> bool {
 /// Whether a change is told apart from the words of a fault at a place: it is made elsewhere.
 pub(crate) fn is_elsewhere(change: &Edit, at: Span) -> bool {
     match change.way {
-        EditKind::Flip | EditKind::Renamed | EditKind::Declared | EditKind::Bare => true,
-        EditKind::Moved | EditKind::Role | EditKind::Handed => true,
         EditKind::Unused | EditKind::Used => change.fix.span.from != at.from,
         EditKind::Near | EditKind::Swap => false,
+        _ => true,
     }
 }
 
 /// Adds a change to the words of a fault, unless it is made elsewhere.
-pub(crate) fn add_change(
-    words: &mut String,
-    place: NetworkPlace,
-    change: &Edit,
-) -> Result<(), AllocError> {
-    let (first, last) = change.parts;
-    let (first, last) = (part_of(place.text, first), part_of(place.text, last));
+pub(crate) fn add_change(words: &mut String, place: NetworkPlace, change: &Edit) -> Added {
+    let (first, last) = (place.part(change.parts.0), place.part(change.parts.1));
+    let put = change.fix.put.as_str();
     match change.way {
         EditKind::Renamed => add(words, &["; nothing uses `", first, "`"]),
-        EditKind::Swap => add(
-            words,
-            &["; are `", first, "` and `", last, "` interchanged?"],
-        ),
-        EditKind::Handed => {
-            let process = match place.process {
-                Some(process) => process.name.text.as_str(),
-                None => "",
-            };
-            add(
-                words,
-                &[
-                    "; `",
-                    process,
-                    "` has it as `",
-                    change.fix.put.as_str(),
-                    "`",
-                ],
-            )
+        EditKind::Swap => {
+            add(words, &["; are `", first, "` and `", last])?;
+            words.push_str("` interchanged?")
         }
+        EditKind::Handed => add(words, &["; `", place.name(), "` has it as `", put, "`"]),
         _ if is_elsewhere(change, place.at) => Ok(()),
-        _ => add(words, &["; did you mean `", change.fix.put.as_str(), "`?"]),
+        _ => add(words, &["; did you mean `", put, "`?"]),
     }
 }

@@ -14,19 +14,30 @@ fn is_side(fault: CheckFault) -> bool {
     matches!(fault, CheckFault::TwoReaders(_) | CheckFault::TwoWriters(_))
 }
 
-/// Whether one of some faults stands within a part.
-fn has_fault(faults: &[CheckFault], part: Option<Span>) -> bool {
-    let Some(part) = part else {
-        return false;
-    };
-    faults.iter().any(|fault| match check_span(*fault) {
-        Some(span) => part.from < span.from && span.from < part.to,
-        None => false,
-    })
+/// Where the first fault of a limit stands.
+fn limit_of(faults: &[CheckFault]) -> usize {
+    let limit = faults.iter().find_map(|fault| match fault {
+        CheckFault::TooMany(span) => Some(span.from),
+        _ => None,
+    });
+    limit.unwrap_or(usize::MAX)
 }
 
-/// Whether a fault behind the first one is told: all are behind the first of a limit; of an instance where its process has none, nothing
-/// of sides where something else is wrong, and nothing twice.
+/// Whether a fault follows from another one: an instance's from one of its process, one of sides from any that isn't, and that a name isn't
+/// declared from one that has it as declared twice.
+fn follows(text: &str, body: Option<Span>, fault: CheckFault, other: CheckFault) -> bool {
+    let is_unknown = matches!(fault, CheckFault::Unknown(_));
+    let is_twice = matches!(other, CheckFault::DeclaredTwice(_));
+    let is_same = is_unknown && is_twice && letters_at(text, other) == letters_at(text, fault);
+    let is_within = match (body, check_span(other)) {
+        (Some(body), Some(span)) => body.from < span.from && span.from < body.to,
+        _ => false,
+    };
+    is_within || is_same || is_side(fault) && !is_side(other)
+}
+
+/// Whether a fault behind the first one is told: all are behind the first of a limit; of an instance none that follows from another one,
+/// and nothing twice.
 fn is_told(
     text: &str,
     tree: &Program,
@@ -34,41 +45,17 @@ fn is_told(
     told: &[CheckFault],
     fault: CheckFault,
 ) -> bool {
-    let Some(span) = check_span(fault) else {
+    let from = check_span(fault).map_or(0, |span| span.from);
+    let Some(instance) = instance_at(&tree.instances, from) else {
         return true;
     };
-    let Some(instance) = instance_at(&tree.instances, span.from) else {
-        return true;
-    };
-    if span.from >= limit_of(faults) {
-        return true;
-    }
-    let is_late = is_side(fault) && faults.iter().any(|other| !is_side(*other));
-    let follows = is_late || is_of_twice(text, faults, fault);
     let body = text_of(tree, instance.process.text.as_bytes());
-    let is_again = told
-        .iter()
-        .any(|other| is_same_fault(text, *other, text, fault));
-    !follows && !has_fault(faults, body) && !is_again
-}
-
-/// Whether a fault is that a name isn't declared which another fault has as declared twice.
-fn is_of_twice(text: &str, faults: &[CheckFault], fault: CheckFault) -> bool {
-    matches!(fault, CheckFault::Unknown(_))
-        && faults.iter().any(|other| {
-            matches!(*other, CheckFault::DeclaredTwice(_))
-                && letters_at(text, *other) == letters_at(text, fault)
-        })
-}
-
-/// Where the first fault of a limit stands.
-fn limit_of(faults: &[CheckFault]) -> usize {
-    for fault in faults {
-        if let CheckFault::TooMany(span) = fault {
-            return span.from;
-        }
-    }
-    usize::MAX
+    let mut again = told.iter();
+    let is_held = again.any(|other| is_same_fault(text, *other, text, fault))
+        || faults
+            .iter()
+            .any(|other| follows(text, body, fault, *other));
+    from >= limit_of(faults) || !is_held
 }
 
 /// Adds a fault, if it is told.

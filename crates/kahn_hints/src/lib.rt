@@ -3,7 +3,7 @@
 #![tactic(auto)]
 
 mod changes;
-mod declaring;
+mod heads;
 mod inputs;
 mod kept;
 mod lost;
@@ -13,9 +13,7 @@ mod near;
 mod notes;
 mod others;
 mod place;
-mod rows;
 mod said;
-mod sides;
 mod sight;
 mod trial;
 

@@ -5,7 +5,6 @@ ghost use Rattle.std.specs.List.{list_all, list_any};
 ghost use Rattle.kahn_hints.specs.Hints.{LessensFaults, HasFewerFaults, are_known, is_known, is_same_fault, letters_at};
 
 use crate::place::{NetworkPlace, is_in, word_at};
-use crate::sides::channel_called;
 use kahn_check::every;
 use kahn_fault::{check_span, check_words};
 use kahn_marks::{Fix, applied};
@@ -85,9 +84,9 @@ pub(crate) fn left_by(
 }
 
 /// The kind of what stands at a place where the other one is wanted: that of a channel, or logical where a number is right.
-pub(crate) fn found_kind(alloc: Global, place: NetworkPlace) -> Result<Option<Kind>, NoMemory> {
-    let channel = channel_called(place.program, place.word());
-    if let (None, Some((kind, _))) = (place.process, channel) {
+pub(crate) fn found_kind(place: NetworkPlace) -> Result<Option<Kind>, NoMemory> {
+    let alloc = place.alloc;
+    if let (None, Some((kind, _))) = (place.process, place.channel()) {
         return Ok(Some(kind));
     }
     let (span, beside) = (place.at, place.at);

@@ -3,8 +3,8 @@
 ghost use Rattle.std.specs.Prelude.{◌≡◌, ◌++◌, IfOk, map};
 ghost use Rattle.kahn_hints.specs.Names.{channels_asked, channels_in, is_asked};
 
-use crate::place::{NetworkPlace, asked_kind};
-use kahn_streams::{Declaration, Direction, Name, Process, Program, Role, Taking};
+use crate::place::NetworkPlace;
+use kahn_streams::{Declaration, Direction, Kind, Name, Parameter, Process, Program, Role, Taking};
 use std::alloc::{AllocError, Global};
 
 /// What a name stands for.
@@ -22,61 +22,76 @@ pub(crate) enum NameKind {
     Process,
 }
 
+/// What a parameter takes stands for, and of which kind it is.
+pub(crate) fn taken_by(parameter: &Parameter) -> (NameKind, Kind) {
+    match parameter.taking {
+        Taking::Channel(Direction::In, kind) => (NameKind::Source, kind),
+        Taking::Channel(Direction::Out, kind) => (NameKind::Target, kind),
+        Taking::Value(kind) => (NameKind::Value, kind),
+    }
+}
+
 /// The names that may stand at the place of a fault.
-pub(crate) fn names_asked<'p>(
-    alloc: Global,
-    place: NetworkPlace<'p>,
-) -> Result<Vec<&'p Name>, AllocError> {
-    names_seen(alloc, place.program, place.process, Some(asked_kind(place)))
+pub(crate) fn names_asked<'p>(place: NetworkPlace<'p>) -> Result<Vec<&'p Name>, AllocError> {
+    names_seen(place, place.process, Some(place.asked()))
 }
 
 /// The names of a process, its parameters first, or those of the program where there is none; of the kind that is asked for, or all.
 pub(crate) fn names_seen<'p>(
-    alloc: Global,
-    program: &'p Program,
+    place: NetworkPlace<'p>,
     process: Option<&'p Process>,
     asked: Option<NameKind>,
 ) -> Result<Vec<&'p Name>, AllocError> {
-    let mut names = Vec::new(alloc);
+    let mut names = Vec::new(place.alloc);
+    let is_asked = |kind: NameKind| asked.is_none() || asked == Some(kind);
     let Some(process) = process else {
-        for declaration in &program.declarations {
+        for declaration in &place.program.declarations {
             match declaration {
-                Declaration::Channels(_, _, channels) if asked != Some(NameKind::Process) => {
-                    add_channels(&mut names, channels)?;
+                Declaration::Process(process) if is_asked(NameKind::Process) => {
+                    names.push(&process.name)?;
                 }
-                Declaration::Process(process) => {
-                    keep(&mut names, asked, NameKind::Process, &process.name)?;
-                }
-                Declaration::Channels(_, _, _) => {}
+                _ if is_asked(NameKind::Channel) => add_declared(&mut names, false, declaration)?,
+                _ => {}
             }
         }
         return Ok(names);
     };
     for parameter in &process.parameters {
-        let kind = match parameter.taking {
-            Taking::Channel(Direction::In, _) => NameKind::Source,
-            Taking::Channel(Direction::Out, _) => NameKind::Target,
-            Taking::Value(_) => NameKind::Value,
-        };
-        keep(&mut names, asked, kind, &parameter.name)?;
+        if is_asked(taken_by(parameter).0) {
+            names.push(&parameter.name)?;
+        }
     }
     for variable in &process.variables {
-        keep(&mut names, asked, NameKind::Value, &variable.name)?;
+        if is_asked(NameKind::Value) {
+            names.push(&variable.name)?;
+        }
     }
     Ok(names)
 }
 
-/// Adds a name of a kind, where it is the one that is asked for.
-fn keep<'p>(
-    names: &mut Vec<&'p Name>,
-    asked: Option<NameKind>,
-    kind: NameKind,
-    name: &'p Name,
-) -> Result<(), AllocError> {
-    if asked.is_none() || asked == Some(kind) {
-        names.push(name)?;
+/// The channels of a kind that nothing has on a side.
+pub(crate) fn spare_channels<'p>(
+    place: NetworkPlace<'p>,
+    side: NameKind,
+    kind: Kind,
+) -> Result<Vec<&'p Name>, AllocError> {
+    let mut spares = Vec::new(place.alloc);
+    for declaration in &place.program.declarations {
+        if let Declaration::Channels(of, role, names) = declaration {
+            let is_had = match role {
+                Role::Input => side == NameKind::Target,
+                Role::Output => side == NameKind::Source,
+                Role::Inner => false,
+            };
+            for name in names {
+                let word = name.text.as_bytes();
+                if *of == kind && !is_had && place.passed(side, word).is_none() {
+                    spares.push(name)?;
+                }
+            }
+        }
     }
-    Ok(())
+    Ok(spares)
 }
 
 /// Adds names of channels.

@@ -8,7 +8,7 @@ use crate::changes::{add_change, change_for, is_elsewhere, is_of_sides};
 use crate::kept::kept;
 use crate::mending::{found_kind, left_by};
 use crate::others::others_of;
-use crate::place::{NetworkPlace, place_of};
+use crate::place::{NetworkPlace, beginning, handed_in};
 use crate::said::{add_advice, add_found};
 use crate::trial::{Edit, tries_of};
 use kahn_fault::{check_span, check_words};
@@ -46,22 +46,21 @@ fn span_of(fault: CheckFault) -> Span
 
 /// The words of a fault, with what is wanted and found, and what to do.
 fn words_of(
-    alloc: Global,
     place: NetworkPlace,
     fault: CheckFault,
     change: &Option<Edit>,
 ) -> Result<String, NoMemory> {
     let kind = match fault {
-        CheckFault::WrongKind(_) => found_kind(alloc, place)?,
+        CheckFault::WrongKind(_) => found_kind(place)?,
         _ => None,
     };
-    let mut words = String::from_str(alloc, check_words(fault))?;
-    add_found(&mut words, alloc, place, fault, kind)?;
+    let mut words = String::from_str(place.alloc, check_words(fault))?;
+    add_found(&mut words, place, fault, kind)?;
     match change {
         Some(change) if !is_of_sides(fault) => {
             add_change(&mut words, place, change)?;
         }
-        _ => add_advice(&mut words, alloc, place, fault, kind)?,
+        _ => add_advice(&mut words, place, fault, kind)?,
     }
     Ok(words)
 }
@@ -99,13 +98,13 @@ fn found_at(
 ) -> Result<ToldFault, NoMemory>
     ensures { IfOk result (λ found. Contains faults.now fault → TellsFault text.now faults.now found.note fault) }
 {
-    let change = change_for(alloc, place, faults, tries, fault)?;
+    let change = change_for(place, faults, tries, fault)?;
     let is_whole = match &change {
         Some(change) => change.left == 0,
         None => false,
     };
-    let words = words_of(alloc, place, fault, &change)?;
-    let others = others_of(alloc, place, fault)?;
+    let words = words_of(place, fault, &change)?;
+    let others = others_of(place, fault)?;
     let note = Note {
         sort: Sort::Error,
         span: span_of(fault),
@@ -164,11 +163,13 @@ pub fn fault_notes(
     let Ok(lexemes) = lex(alloc, text) else {
         return Err(NoMemory);
     };
+    let handed = handed_in(alloc, program)?;
+    let begin = beginning(alloc, text, &lexemes, program, &handed);
     let mut notes = Vec::new(alloc);
     let mut tries = tries_of(text, &lexemes);
     let (shown, more) = first_ones(&told, most_told(&told));
     for fault in shown {
-        let place = place_of(text, &lexemes, program, span_of(*fault));
+        let place = begin.moved_to(span_of(*fault));
         let found = found_at(alloc, text, place, faults, *fault, &mut tries)?;
         if found.is_whole {
             return alone(alloc, found.note);

@@ -1,12 +1,13 @@
 //! Changes that are tried one after another, and the one that leaves the fewest faults.
 
 use crate::mending::left_by;
-use crate::others::argument_span;
 use crate::place::NetworkPlace;
-use kahn_marks::{Fix, add, part_of};
-use kahn_streams::{Argument, CheckFault, NoMemory, Span};
+use kahn_marks::{Fix, add};
+use kahn_streams::{CheckFault, Name, NoMemory, Span};
 use kahn_syntax::Lexeme;
-use std::alloc::Global;
+
+/// Whether memory was there for trying a change.
+pub(crate) type Tried = Result<(), NoMemory>;
 
 /// The most lexemes of a text in which changes are tried.
 const MOST_LEXEMES: usize = 8192;
@@ -61,42 +62,38 @@ pub(crate) fn tries_of(text: &str, lexemes: &[Lexeme]) -> usize {
     if lexemes.len() > MOST_LEXEMES {
         return 0;
     }
-    match MOST_READ.checked_div(text.len()) {
-        Some(tries) => tries.min(MOST_TRIES),
-        None => 0,
-    }
+    let tries = MOST_READ.checked_div(text.len()).unwrap_or(0);
+    tries.min(MOST_TRIES)
 }
 
 /// The better of two changes: the one that leaves fewer faults, or else the first, but for a name that nothing uses.
 fn better(best: Option<Edit>, change: Edit) -> Edit {
-    let Some(best) = best else {
+    let Some(mut best) = best else {
         return change;
     };
-    if change.left != best.left {
-        return if change.left < best.left {
-            change
-        } else {
-            best
-        };
+    let is_better = match (change.way, best.way) {
+        _ if change.left != best.left => change.left < best.left,
+        (EditKind::Declared, _) => best.is_one_of,
+        (EditKind::Unused, EditKind::Used | EditKind::Bare) => true,
+        _ => false,
+    };
+    if is_better {
+        return change;
     }
     let is_another = match (change.way, best.way) {
-        (EditKind::Declared, _) if best.is_one_of => return change,
-        (EditKind::Unused, EditKind::Used | EditKind::Bare) => return change,
         (EditKind::Renamed, EditKind::Renamed) => true,
         (EditKind::Unused, EditKind::Unused) | (EditKind::Used, EditKind::Used) => {
             change.fix.put.as_bytes() != best.fix.put.as_bytes()
         }
         _ => false,
     };
-    let mut best = best;
-    best.is_one_of = best.is_one_of || is_another;
+    best.is_one_of = best.is_one_of || is_another && change.left == best.left;
     best
 }
 
 /// The changes that are tried for a fault, one after another.
 #[derive(Drop)]
 pub(crate) struct Trial<'p> {
-    pub(crate) alloc: Global,
     pub(crate) place: NetworkPlace<'p>,
     /// All faults of the text.
     pub(crate) faults: &'p [CheckFault],
@@ -108,35 +105,29 @@ pub(crate) struct Trial<'p> {
 
 impl<'p> Trial<'p> {
     /// Tries these pieces in the place of what stands from the first part to the second, or behind that, if some change may be tried yet.
-    pub(crate) fn put(
-        &mut self,
-        way: EditKind,
-        parts: (Span, Span),
-        pieces: &[&str],
-    ) -> Result<(), NoMemory> {
+    pub(crate) fn put(&mut self, way: EditKind, parts: (Span, Span), pieces: &[&str]) -> Tried {
         let Some(rest) = self.tries.checked_sub(1) else {
             return Ok(());
         };
         self.tries = rest;
-        let (first, last) = parts;
+        let (first, beside) = parts;
+        let (alloc, to) = (self.place.alloc, beside.to);
         let from = match way {
-            EditKind::Declared | EditKind::Role => last.to,
+            EditKind::Declared | EditKind::Role => to,
             _ => first.from,
         };
-        let mut put = String::new(self.alloc);
+        let mut put = String::new(alloc);
         add(&mut put, pieces)?;
-        let fix = Fix {
-            span: Span { from, to: last.to },
-            put,
-            beside: last,
-        };
-        if let Some(left) = left_by(self.alloc, self.place.text, self.faults, &fix)? {
+        let span = Span { from, to };
+        let fix = Fix { span, put, beside };
+        if let Some(left) = left_by(alloc, self.place.text, self.faults, &fix)? {
+            let is_one_of = false;
             let change = Edit {
                 way,
                 fix,
                 parts,
                 left,
-                is_one_of: false,
+                is_one_of,
             };
             self.best = Some(better(self.best.take(), change));
         }
@@ -144,69 +135,48 @@ impl<'p> Trial<'p> {
     }
 
     /// Tries this in the place of one part.
-    pub(crate) fn put_one(&mut self, way: EditKind, at: Span, put: &str) -> Result<(), NoMemory> {
+    pub(crate) fn put_one(&mut self, way: EditKind, at: Span, put: &str) -> Tried {
         self.put(way, (at, at), &[put])
     }
 
-    /// Two parts interchanged, with what stands between them.
-    pub(crate) fn with_swap(
-        &mut self,
-        way: EditKind,
-        first: Span,
-        last: Span,
-    ) -> Result<(), NoMemory> {
-        let between = Span {
-            from: first.to,
-            to: last.from,
-        };
-        let text = self.place.text;
-        let pieces = [
-            part_of(text, last),
-            part_of(text, between),
-            part_of(text, first),
-        ];
-        self.put(way, (first, last), &pieces)
+    /// Tries a name in the place of one part.
+    pub(crate) fn put_name(&mut self, way: EditKind, at: Span, name: &Name) -> Tried {
+        self.put(way, (at, at), &[name.text.as_str()])
     }
 
-    /// Two neighbouring ones of some arguments interchanged.
-    pub(crate) fn with_swaps(&mut self, arguments: &[Argument]) -> Result<(), NoMemory> {
-        let mut before: Option<Span> = None;
-        for argument in arguments {
-            let last = argument_span(argument);
-            if let Some(first) = before {
-                self.with_swap(EditKind::Swap, first, last)?;
-            }
-            before = Some(last);
+    /// Two parts interchanged, with what stands between them.
+    pub(crate) fn with_swap(&mut self, way: EditKind, first: Span, last: Span) -> Tried {
+        let (place, from, to) = (self.place, first.to, last.from);
+        let between = place.part(Span { from, to });
+        self.put(
+            way,
+            (first, last),
+            &[place.part(last), between, place.part(first)],
+        )
+    }
+
+    /// Two neighbouring ones of some parts interchanged.
+    pub(crate) fn with_swaps(&mut self, way: EditKind, parts: &[Span]) -> Tried {
+        for (first, last) in parts.iter().zip(parts.iter().skip(1)) {
+            self.with_swap(way, *first, *last)?;
         }
         Ok(())
     }
 
-    /// Two of some arguments interchanged that have others between them, or one of the two on the other side of these.
-    pub(crate) fn with_moves(&mut self, arguments: &[Argument]) -> Result<(), NoMemory> {
-        let text = self.place.text;
-        for (number, argument) in arguments.iter().enumerate() {
-            let (last, mut behind) = (argument_span(argument), None);
-            for other in arguments.get(..number).unwrap_or(&[]).iter().rev() {
-                let first = argument_span(other);
-                if let Some((next, to)) = behind {
-                    let (from, parts) = (first.from, (first, last));
-                    let rest = part_of(
-                        text,
-                        Span {
-                            from: next,
-                            to: last.to,
-                        },
-                    );
-                    let front = part_of(text, Span { from, to });
-                    let (one, two) = (part_of(text, first), part_of(text, last));
-                    self.put(EditKind::Moved, parts, &[rest, ", ", one])?;
-                    self.put(EditKind::Moved, parts, &[two, ", ", front])?;
-                    self.with_swap(EditKind::Swap, first, last)?;
-                }
-                behind = Some(match behind {
-                    Some((_, to)) => (first.from, to),
-                    None => (first.from, first.to),
-                });
+    /// Two of some parts interchanged that have others between them, or one of the two on the other side of these.
+    pub(crate) fn with_moves(&mut self, parts: &[Span]) -> Tried {
+        let place = self.place;
+        for (number, last) in parts.iter().enumerate() {
+            let before = parts.get(..number).unwrap_or(&[]);
+            for (first, next) in before.iter().zip(before.iter().skip(1)).rev() {
+                let (from, to) = (next.from, last.to);
+                let rest = place.part(Span { from, to });
+                let to = before.last().map_or(from, |end| end.to);
+                let front = place.part(Span { to, ..*first });
+                let ends = (*first, *last);
+                self.put(EditKind::Moved, ends, &[rest, ", ", place.part(*first)])?;
+                self.put(EditKind::Moved, ends, &[place.part(*last), ", ", front])?;
+                self.with_swap(EditKind::Swap, *first, *last)?;
             }
         }
         Ok(())

@@ -9,7 +9,7 @@ use crate::fitting::{
 };
 use crate::meant::meant_lines;
 use crate::seeking::{FoundLine, LineKind, find_line, first_named};
-use crate::strange::{NO_COMMENTS, is_number, no_comment_words, strange_words, word_words};
+use crate::strange::{is_number, no_comment_words, strange_words, word_words};
 use kahn_hints::{add_inputs, add_unknown_input};
 use kahn_marks::{Note, Other, Sort, add};
 use kahn_streams::{InputFault, Kind, Network, NoMemory, Span, channel_named};
@@ -17,32 +17,26 @@ use kahn_texts::TextFault;
 use std::alloc::{AllocError, Global};
 use std::str;
 
-/// What is said of a line that doesn't begin with a name and a colon.
-fn lack_words(lack: Lack) -> &'static str {
+/// What is said of a line that doesn't begin with a name and a colon, and where lines come one at a time.
+pub(crate) fn lack_words(lack: Lack) -> (&'static str, &'static str) {
     match lack {
-        Lack::Name => "not a name and a colon: wanted a name, which begins with a letter",
-        Lack::ShortName => "not a name and a colon: wanted a name of at most 64 characters",
-        Lack::Colon => "not a name and a colon: wanted `:` behind the name",
+        Lack::Name => (
+            "not a name and a colon: wanted a name, which begins with a letter",
+            "; a line begins with the name of a channel",
+        ),
+        Lack::ShortName => (
+            "not a name and a colon: wanted a name of at most 64 characters",
+            "; a name has at most 64 characters",
+        ),
+        Lack::Colon => (
+            "not a name and a colon: wanted `:` behind the name",
+            "; a colon stands behind the name",
+        ),
     }
 }
 
 /// What is said of a word that is no value.
 const NO_VALUE: &str = "not a value: wanted a number of 64 bits, `true` or `false`";
-
-/// What is said of an entry.
-fn entry_words(fault: InputFault) -> &'static str {
-    match fault {
-        InputFault::UnknownName(_) => "no such channel",
-        InputFault::NotAnInput(_) => "not an input channel",
-        InputFault::GivenTwice(_) => "given twice; all values of a channel stand on one line",
-        InputFault::WrongKind(_) => "kind does not agree",
-        InputFault::TooMany(_) => "too many values; at most 1048576",
-        InputFault::NoMemory => "no memory",
-    }
-}
-
-/// What is said of a line that stands in the text before.
-const SAME_LINE: &str = "given twice; the same line stands there before: leave one of them out";
 
 /// Whether a line stands in a text before the byte at which it begins.
 fn stands_before(text: &str, found: FoundLine<'_>) -> bool {
@@ -50,12 +44,15 @@ fn stands_before(text: &str, found: FoundLine<'_>) -> bool {
     before.lines().any(|line| line.as_bytes() == found.line)
 }
 
-/// What is said of a value of another kind than that of its channel.
-fn kinds_words(kind: Option<Kind>) -> &'static str {
+/// What is said of a value of another kind than that of its channel, and where lines come one at a time.
+pub(crate) fn kind_words(kind: Option<Kind>) -> (&'static str, &'static str) {
     match kind {
-        Some(Kind::Integer) => ": wanted integer, found logical",
-        Some(Kind::Logical) => ": wanted logical, found integer",
-        None => "",
+        Some(Kind::Integer) => (": wanted integer, found logical", "; wanted a number"),
+        Some(Kind::Logical) => (
+            ": wanted logical, found integer",
+            "; wanted `true` or `false`",
+        ),
+        None => ("", ""),
     }
 }
 
@@ -115,7 +112,7 @@ fn lack_note(
     let part = part_of(found.line, span);
     let strange = strange_words(found.from + span.from, part);
     let more = lack_more(found.line, lack, part);
-    let words = [lack_words(lack), more, strange];
+    let words = [lack_words(lack).0, more, strange];
     part_note(alloc, network, text, found, span, &words)
 }
 
@@ -154,18 +151,12 @@ fn value_note(
     let part = part_of(found.line, span);
     let strange = strange_words(found.from + span.from, part);
     let more = if line_name(found.line).eq_ignore_ascii_case(b"comment") {
-        NO_COMMENTS
+        no_comment_words(b"#")
     } else {
         word_words(found.line, part)
     };
-    part_note(
-        alloc,
-        network,
-        text,
-        found,
-        span,
-        &[NO_VALUE, more, strange],
-    )
+    let words = [NO_VALUE, more, strange];
+    part_note(alloc, network, text, found, span, &words)
 }
 
 /// The kind of the channel of that name, where a channel has it.
@@ -181,21 +172,32 @@ pub(crate) fn kind_for(network: &Network, name: &[u8]) -> Option<Kind>
     }
 }
 
-/// What is said of an entry with this name.
+/// What is said of an entry, which is for a channel of this kind.
 fn entry_text(
     alloc: Global,
     network: &Network,
-    name: &[u8],
+    text: &str,
+    found: FoundLine<'_>,
     kind: Option<Kind>,
     fault: InputFault,
 ) -> Result<String, AllocError> {
-    let program = network.program();
-    let mut words = String::from_str(alloc, entry_words(fault))?;
+    let mut words = String::new(alloc);
+    words.push_str(match fault {
+        InputFault::UnknownName(_) => "no such channel",
+        InputFault::NotAnInput(_) => "not an input channel",
+        InputFault::GivenTwice(_) if stands_before(text, found) =>
+            "given twice; the same line stands there before: leave one of them out",
+        InputFault::GivenTwice(_) => "given twice; all values of a channel stand on one line",
+        InputFault::WrongKind(_) => "kind does not agree",
+        InputFault::TooMany(_) => "too many values; at most 1048576",
+        InputFault::NoMemory => "no memory",
+    })?;
+    let (program, name) = (network.program(), line_name(found.line));
     match fault {
         InputFault::UnknownName(_) => add_unknown_input(&mut words, alloc, program, name)?,
         InputFault::NotAnInput(_) => add_inputs(&mut words, alloc, program)?,
-        InputFault::WrongKind(_) => words.push_str(kinds_words(kind))?,
-        InputFault::GivenTwice(_) | InputFault::TooMany(_) | InputFault::NoMemory => {}
+        InputFault::WrongKind(_) => words.push_str(kind_words(kind).0)?,
+        _ => {}
     }
     Ok(words)
 }
@@ -248,12 +250,7 @@ fn entry_note(
 {
     let name = line_name(found.line);
     let kind = kind_for(network, name);
-    let words = match fault {
-        InputFault::GivenTwice(_) if stands_before(text, found) => {
-            String::from_str(alloc, SAME_LINE)?
-        }
-        _ => entry_text(alloc, network, name, kind, fault)?,
-    };
+    let words = entry_text(alloc, network, text, found, kind, fault)?;
     let span = entry_span(found.line, kind, fault);
     let others = given_first(alloc, text, name, fault)?;
     let mut note = part_note(alloc, network, text, found, span, &[words.as_str()])?;

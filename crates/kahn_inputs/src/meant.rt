@@ -3,7 +3,7 @@
 ghost use Rattle.std.specs.Prelude.{◌≡◌, IfOk, string_bytes};
 ghost use Rattle.kahn_inputs.specs.Meant.{AreMeantLines, joined_lines};
 
-use crate::strange::{has_blanks_between, is_in_number, plain_sign};
+use crate::strange::{has_between, is_in_number, plain_sign};
 use itoa::Buffer;
 use kahn_marks::{add, is_within};
 use kahn_streams::{Kind, Network, NoMemory, Role};
@@ -14,11 +14,6 @@ use std::alloc::{AllocError, Global};
 const MOST_BYTES: usize = 1024;
 
 const MOST_OF_RANGE: i64 = 64;
-
-/// What stands between names and values, and what follows on a name.
-const BETWEEN: &[u8] = b" \t,;|[](){}\"'";
-
-const BEHIND_NAMES: &[u8] = b":=";
 
 /// Words that say nothing here.
 const IDLE: &str = "integer logical input channel";
@@ -72,7 +67,7 @@ fn add_number(line: &mut String, number: i64) -> Result<(), AllocError> {
 
 /// What was read of a text.
 #[derive(Drop)]
-struct Reading<'n> {
+struct LineReading<'n> {
     alloc: Global,
     network: &'n Network,
     /// The channels that have entries, with their kinds, and the lines of these.
@@ -90,7 +85,7 @@ struct Reading<'n> {
     is_range: bool,
 }
 
-impl<'n> Reading<'n> {
+impl<'n> LineReading<'n> {
     /// Reads the name of a channel.
     fn name(&mut self, channel: usize) -> Result<(), AllocError> {
         if !self.is_head {
@@ -149,7 +144,7 @@ impl<'n> Reading<'n> {
 
     /// Reads a word; answers whether it is understood.
     fn word(&mut self, word: &str) -> Result<bool, AllocError> {
-        if word.is_empty() || is_one_of(IDLE, word) {
+        if is_one_of(IDLE, word) {
             return Ok(true);
         }
         if let Some(channel) = input_called(self.network, word) {
@@ -167,54 +162,48 @@ impl<'n> Reading<'n> {
         Ok(self.is_range && (last.is_empty() || self.value(last)?))
     }
 
-    /// Reads a line without comments; answers whether all of its words are understood.
+    /// Reads a line without comments, in which a `:` stands apart; answers whether all of its words are understood.
     fn line(&mut self, line: &str) -> Result<bool, AllocError> {
         self.is_head = false;
-        let mut from = 0;
-        let bare = line.strip_prefix("- ").unwrap_or(line);
-        for (at, byte) in bare.as_bytes().iter().enumerate() {
-            let is_behind = BEHIND_NAMES.contains(byte);
-            if is_behind || BETWEEN.contains(byte) {
-                if !self.word(bare.get(from..at).unwrap_or(""))? {
-                    return Ok(false);
-                }
-                self.is_head = self.is_head && !is_behind;
-                from = at.saturating_add(1);
+        for word in line.split_whitespace() {
+            if word == ":" {
+                self.is_head = false;
+            } else if !self.word(word)? {
+                return Ok(false);
             }
         }
-        self.word(bare.get(from..).unwrap_or(""))
+        Ok(true)
     }
 
     /// Begins with the one input channel, where there are no others.
     fn begin(&mut self) -> Result<(), AllocError> {
-        let mut only = None;
+        let mut inputs = 0_usize;
+        let mut last = 0;
         for number in 0..self.network.channels() {
             if let Role::Input = self.network.channel(number).role {
-                if only.is_some() {
-                    return Ok(());
-                }
-                only = Some(number);
+                inputs = inputs.saturating_add(1);
+                last = number;
             }
         }
-        match only {
-            Some(number) => self.name(number),
-            None => Ok(()),
-        }
+        if inputs == 1 { self.name(last) } else { Ok(()) }
     }
 }
 
-/// A line with signs of ASCII for those that look like them, and numbers without what stands before three digits of them; a `,` within a
-/// number is a point where blanks stand between values.
+/// A line with signs of ASCII for those that look like them, blanks between names and values, a `:` behind names, and numbers without what
+/// stands before three digits of them; a `,` within a number is a point where blanks stand between values.
 fn plain_line(alloc: Global, line: &str) -> Result<String, AllocError> {
     let mut plain = String::new(alloc);
     let bytes = line.as_bytes();
-    let is_apart = has_blanks_between(bytes);
+    let is_apart = has_between(bytes, b' ');
     for (at, character) in line.char_indices() {
-        match character {
+        match plain_sign(character) {
             ',' if is_apart && is_in_number(bytes, at, true) => {}
             '_' | '\'' if is_in_number(bytes, at, true) => {}
             ',' if is_apart && is_in_number(bytes, at, false) => plain.push_str(".")?,
-            _ => plain.push(plain_sign(character))?,
+            ':' | '=' => plain.push_str(" : ")?,
+            '\t' | ',' | ';' | '|' | '"' | '\'' => plain.push_str(" ")?,
+            '[' | ']' | '(' | ')' | '{' | '}' => plain.push_str(" ")?,
+            sign => plain.push(sign)?,
         }
     }
     Ok(plain)
@@ -226,7 +215,7 @@ fn meant_entries(
     network: &Network,
     text: &str,
 ) -> Result<Option<Vec<String>>, AllocError> {
-    let mut reading = Reading {
+    let mut reading = LineReading {
         alloc,
         network,
         channels: Vec::new(alloc),
@@ -245,8 +234,9 @@ fn meant_entries(
         let line = if is_again { "" } else { line };
         let (line, _) = line.split_once("#").unwrap_or((line, ""));
         let (line, _) = line.split_once("//").unwrap_or((line, ""));
-        let plain = plain_line(alloc, line)?;
-        if !reading.line(plain.as_str().trim())? {
+        let bare = line.trim();
+        let plain = plain_line(alloc, bare.strip_prefix("- ").unwrap_or(bare))?;
+        if !reading.line(plain.as_str())? {
             return Ok(None);
         }
     }

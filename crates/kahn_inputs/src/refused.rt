@@ -5,12 +5,12 @@ ghost use Rattle.kahn_texts.specs.Formats.{content as content_of};
 ghost use Rattle.kahn_hints.specs.Inputs.{input_names, inputs_words, unknown_input};
 ghost use Rattle.kahn_inputs.specs.{Fitting.line_name, Refused.IsHeadPart, Refused.IsKindPart, Refused.IsValuePart};
 
-use crate::feeding::{kind_for, unfit_span};
-use crate::fitting::{Lack, lack_of, lack_span, line_name, part_of};
+use crate::feeding::{kind_for, kind_words, lack_words, unfit_span};
+use crate::fitting::{lack_of, lack_span, line_name, part_of};
 use crate::seeking::content;
 use crate::strange::{no_comment_words, numeral_words, stands_in, words_or};
 use kahn_hints::{add_inputs, add_unknown_input};
-use kahn_streams::{Kind, Network};
+use kahn_streams::Network;
 use std::alloc::{AllocError, Global};
 
 /// A part of a line.
@@ -20,15 +20,6 @@ pub struct RefusedPart<'a> {
     pub word: &'a [u8],
     /// What is wanted there, behind a semicolon, or nothing.
     pub words: &'a str,
-}
-
-/// What is wanted of a line that doesn't begin with a name and a colon.
-fn lack_wanted(lack: Lack) -> &'static str {
-    match lack {
-        Lack::Name => "; a line begins with the name of a channel",
-        Lack::ShortName => "; a name has at most 64 characters",
-        Lack::Colon => "; a colon stands behind the name",
-    }
 }
 
 /// What is wanted in the place of a word that is no value.
@@ -42,15 +33,6 @@ fn value_wanted(word: &[u8]) -> &'static str {
     )
 }
 
-/// What is wanted in the place of a value of another kind.
-fn kind_wanted(kind: Option<Kind>) -> &'static str {
-    match kind {
-        Some(Kind::Integer) => "; wanted a number",
-        Some(Kind::Logical) => "; wanted `true` or `false`",
-        None => "",
-    }
-}
-
 /// Where a line doesn't begin with a name and a colon.
 pub fn head_part(line: &[u8]) -> RefusedPart<'_>
     ensures { IsHeadPart (content_of line.now) result.word.now result.words.now }
@@ -58,7 +40,7 @@ pub fn head_part(line: &[u8]) -> RefusedPart<'_>
     let line = content(line);
     let lack = lack_of(line);
     let word = part_of(line, lack_span(line, lack));
-    let words = words_or(no_comment_words(word), lack_wanted(lack));
+    let words = words_or(no_comment_words(word), lack_words(lack).1);
     RefusedPart { word, words }
 }
 
@@ -109,6 +91,6 @@ pub fn kind_part<'l>(network: &Network, line: &'l [u8]) -> RefusedPart<'l>
     let kind = kind_for(network, line_name(line));
     let span = unfit_span(kind, line);
     let word = part_of(line, span);
-    let words = kind_wanted(kind);
+    let words = kind_words(kind).1;
     RefusedPart { word, words }
 }

@@ -3,9 +3,6 @@
 use crate::fitting::behind;
 use kahn_marks::is_within;
 
-/// What is said of what begins as a comment of the language or of others does.
-pub(crate) const NO_COMMENTS: &str = "; an input has no comments";
-
 /// Characters that look like blanks and other signs and are none, and the mark of byte order.
 const STRANGE: &str = "
 \u{FEFF} | ; in it stands a byte order mark (EF BB BF)
@@ -36,22 +33,25 @@ pub(crate) fn plain_sign(character: char) -> char {
     }
 }
 
-/// What stands at the front of words that are no values.
-const FRONTS: &str = "
-# // | ; an input has no comments
-[ ( { \" ' | ; values stand without brackets and quotation marks
-";
+/// What begins as a comment of other languages does.
+const COMMENTS: &str = "^# ^// | ; an input has no comments";
 
-/// Units that stand before numbers.
-const UNITS: &str = "$ \u{20AC} \u{00A3} | ; a number has no unit";
-
-/// What stands in others.
-const WITHIN: &str = "
+/// What stands in words that are no values: behind a `^` at the front, and behind an `=` alone.
+const NUMERALS: &str = "
+^# ^// | ; an input has no comments
+^[ ^( ^{ ^\" ^' | ; values stand without brackets and quotation marks
 .. | ; there are no ranges: each value stands there itself
 , ; | ; blanks stand between values
 . | ; numbers are whole
 + | ; a number has no `+`
 0x | ; numbers are decimal
+=- | ; a `-` stands right before its digits
+";
+
+/// The same of what is no numeral.
+const OTHERS: &str = "
+^$ ^\u{20AC} ^\u{00A3} | ; a number has no unit
+=NaN =nan =null =NULL =None =NA =N/A | ; a missing value is left out
 ";
 
 /// Whether this stands somewhere in a part.
@@ -64,13 +64,18 @@ pub(crate) fn stands_in(text: &str, part: &[u8]) -> bool {
     false
 }
 
-/// What a table says of the first of its texts that stands at the front of a part, or somewhere in it.
-fn words_of(table: &'static str, part: &[u8], anywhere: bool) -> &'static str {
+/// What a table says of the first of its keys that fits a part.
+fn words_of(table: &'static str, part: &[u8]) -> &'static str {
     for row in table.lines() {
         let (keys, words) = row.split_once(" | ").unwrap_or(("", ""));
         for key in keys.split(" ") {
-            let is_there = part.starts_with(key.as_bytes()) || (anywhere && stands_in(key, part));
-            if !key.is_empty() && is_there {
+            let fits = match key.as_bytes().split_first() {
+                Some((b'^', front)) => part.starts_with(front),
+                Some((b'=', all)) => part == all,
+                Some(_) => stands_in(key, part),
+                None => false,
+            };
+            if fits {
                 return words;
             }
         }
@@ -83,7 +88,7 @@ pub(crate) fn strange_words(at: usize, part: &[u8]) -> &'static str {
     if at == 0 && part.starts_with(b"\xEF\xBB\xBF") {
         return "; a byte order mark (EF BB BF) stands before the first line";
     }
-    words_of(STRANGE, part, true)
+    words_of(STRANGE, part)
 }
 
 /// Whether it is digits, and a sign before them or none.
@@ -94,10 +99,7 @@ pub(crate) fn is_number(part: &[u8]) -> bool {
 
 /// What is said of a part that begins as a comment of other languages does.
 pub(crate) fn no_comment_words(part: &[u8]) -> &'static str {
-    if part.starts_with(b"#") || part.starts_with(b"//") {
-        return NO_COMMENTS;
-    }
-    ""
+    words_of(COMMENTS, part)
 }
 
 /// How many digits stand from a byte on.
@@ -108,21 +110,6 @@ fn digits_from(bytes: &[u8], at: usize) -> usize {
         .unwrap_or(rest.len())
 }
 
-/// Whether two numbers stand in a line with blanks alone between them.
-pub(crate) fn has_blanks_between(line: &[u8]) -> bool {
-    let mut is_behind = false;
-    for (at, byte) in line.iter().enumerate() {
-        if *byte == b' ' && is_behind {
-            let is_before = digits_from(line, at.saturating_add(1)) > 0;
-            if is_before {
-                return true;
-            }
-        }
-        is_behind = byte.is_ascii_digit();
-    }
-    false
-}
-
 /// Whether a digit stands before a byte of a line, and digits behind it: three where they are asked for, and no more.
 pub(crate) fn is_in_number(line: &[u8], at: usize, are_three: bool) -> bool {
     let before = at.checked_sub(1).unwrap_or(at);
@@ -130,10 +117,14 @@ pub(crate) fn is_in_number(line: &[u8], at: usize, are_three: bool) -> bool {
     digits_from(line, before) == 1 && digits > 0 && (digits == 3 || !are_three)
 }
 
-/// Whether a comma stands in a number of a line.
-fn has_comma_within(line: &[u8], part: &[u8]) -> bool {
-    has_blanks_between(line)
-        && (0..part.len()).any(|at| part.get(at) == Some(&b',') && is_in_number(part, at, false))
+/// Whether this mark stands between digits of a line.
+pub(crate) fn has_between(line: &[u8], mark: u8) -> bool {
+    for (at, byte) in line.iter().enumerate() {
+        if *byte == mark && is_in_number(line, at, false) {
+            return true;
+        }
+    }
+    false
 }
 
 /// Whether letters stand where no truth value is meant.
@@ -142,41 +133,36 @@ fn is_text(part: &[u8]) -> bool {
     part.len() > 3 && !is_near && part.iter().all(|byte| byte.is_ascii_alphabetic())
 }
 
-/// Whether a part ends a line.
-fn ends_line(line: &[u8], part: &[u8]) -> bool {
-    line.trim_ascii_end().ends_with(part)
-}
-
 /// What is said of a word that is no value.
 pub(crate) fn numeral_words(part: &[u8]) -> &'static str {
-    let words = words_or(words_of(FRONTS, part, false), words_of(WITHIN, part, true));
-    match part {
-        _ if !words.is_empty() => words,
-        b"-" => "; a `-` stands right before its digits",
-        _ if is_number(part) => "; it is past 64 bits",
-        _ => "",
-    }
+    let past = if is_number(part) {
+        "; it is past 64 bits"
+    } else {
+        ""
+    };
+    words_or(words_of(NUMERALS, part), past)
 }
 
 /// What is said of a word of a line that is no value.
 pub(crate) fn word_words(line: &[u8], part: &[u8]) -> &'static str {
-    if has_comma_within(line, part) {
+    if has_between(line, b' ') && has_between(part, b',') {
         return "; a number is whole, and has no `,`";
     }
-    if part.ends_with(b";") && ends_line(line, part) {
+    if part.ends_with(b";") && line.trim_ascii_end().ends_with(part) {
         return "; a line has no `;` at its end";
     }
-    let words = words_or(numeral_words(part), words_of(UNITS, part, false));
+    let words = words_or(numeral_words(part), words_of(OTHERS, part));
     let digits = part.strip_prefix(b"-").unwrap_or(part);
-    match part {
-        _ if !words.is_empty() => words,
-        b"NaN" | b"nan" | b"null" | b"NULL" | b"None" | b"NA" | b"N/A" =>
-            "; a missing value is left out",
-        _ if is_text(part) => "; an input has no texts: a number stands for each character",
-        _ if digits_from(digits, 0) > 0 && words_of(STRANGE, part, true).is_empty() =>
-            "; a number is digits alone, without a unit or an exponent",
-        _ => "",
+    if !words.is_empty() {
+        return words;
     }
+    if is_text(part) {
+        return "; an input has no texts: a number stands for each character";
+    }
+    if digits_from(digits, 0) > 0 && words_of(STRANGE, part).is_empty() {
+        return "; a number is digits alone, without a unit or an exponent";
+    }
+    ""
 }
 
 /// The first words, or the others where these are none.

@@ -16,7 +16,7 @@ pub use Rattle.kahn_streams.proofs.Proved.{prefix_refl, prefix_trans}
 pub use Rattle.kahn_streams.proofs.Sourced.{handed_within, reads, reads_listed, writes, writes_listed}
 pub use Rattle.kahn_streams.specs.Answers.{is_output}
 pub use Rattle.kahn_streams.specs.Inputs.{Lists, inputs_of}
-pub use Rattle.kahn_streams.specs.Network.{Actual, Hands, IsOnly, IsReader, IsServed, IsWithin, IsWriter, Network, Reads, Writes, actual_at, idle, instance_at, network_of, role_at}
+pub use Rattle.kahn_streams.specs.Network.{Actual, Hands, IsOnly, IsReader, IsServed, IsWithin, IsWriter, Schema, Reads, Writes, actual_at, idle, instance_at, network_of, role_at}
 pub use Rattle.kahn_streams.specs.Solution.{AreInputsExtended}
 pub use Rattle.kahn_streams.specs.Wiring.{IsWellWired, side_at}
 pub use Rattle.kahn_streams.specs.declared.sides.Side.{Side}

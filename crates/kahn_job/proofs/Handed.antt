@@ -1,5 +1,5 @@
 -- The ends of a channel come to the parameters that it is handed to.
-use Rattle.kahn_job.proofs.Common.{arith, ◌≡◌, ◌⊎◌, inl, inr, ℕ, ◌+◌, ◌<◌, List, [], length, refl, sym, ap, ◌∙◌, subst, Option, Some, None, IfSome, slice_set, slice_index_or, cases_eq, length-set, get_or-set_same, get_or-set_other, none-some, same_Some, Program, Role, Side, Inner, Input, Output, Network, Actual, Reads, Writes, Hands, network_of, instance_at, actual_at, role_at, IsWriter, IsReader, IsOnly, IsWithin, IsWellWired, side_at, IsFed, handed_within, reads, writes, Joins, TaskEnd, ShareLane, end_at, AreJoinedOn, HasPlace, end_in, AreEndsSo, no_end, placed}
+use Rattle.kahn_job.proofs.Common.{arith, ◌≡◌, ◌⊎◌, inl, inr, ℕ, ◌+◌, ◌<◌, List, [], length, refl, sym, ap, ◌∙◌, subst, Option, Some, None, IfSome, slice_set, slice_index_or, cases_eq, length-set, get_or-set_same, get_or-set_other, none-some, same_Some, Program, Role, Side, Inner, Input, Output, Schema, Actual, Reads, Writes, Hands, network_of, instance_at, actual_at, role_at, IsWriter, IsReader, IsOnly, IsWithin, IsWellWired, side_at, IsFed, handed_within, reads, writes, Joins, TaskEnd, ShareLane, end_at, AreJoinedOn, HasPlace, end_in, AreEndsSo, no_end, placed}
 use Rattle.kahn_job.proofs.Settles.{is_inner}
 
 -- a row for each instance, in which the parameters have the ends of the first k channels, and what is so of those and of all
@@ -80,7 +80,7 @@ pub inner_is_not_input : {r : Role} → r ≡ Inner → r ≡ Input → ⊥
 inner_is_not_input a b = let e : Inner ≡ Input = sym a ∙ b in absurd cc
 
 module _ (t : Program) (wired : IsWellWired t) (so : Actual → TaskEnd → Type 0) (whole : TaskEnd → Type 0) (c : ℕ) (x y : TaskEnd) (e : AreEndsSo t so whole c x y) where
-  abbrev N : Network
+  abbrev N : Schema
   N = network_of t
 
   serves_reader : (p q : ℕ) → actual_at (instance_at N p) q ≡ Reads c → so (actual_at (instance_at N p) q) y

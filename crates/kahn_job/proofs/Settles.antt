@@ -1,5 +1,5 @@
 -- The ends of channels go on with an input that has grown, channel by channel.
-use Rattle.kahn_job.proofs.Common.{arith, ◌≡◌, ◌⊎◌, inl, inr, ⊎_elim, ℕ, ◌+◌, ◌<◌, ◌≤◌, Bool, true, false, List, length, refl, sym, ap, ◌∙◌, subst, None, Some, Result, Ok, Err, cases_eq, Program, Role, Side, Inner, Input, Output, Network, Actual, Reads, Writes, Hands, network_of, instance_at, actual_at, role_at, IsWriter, IsReader, IsOnly, IsServed, IsFed, IsWellWired, side_at, handed_within, reads, writes, Lists, inputs_of, prefix_refl, is_output, Joins, lane_name, TaskEnd, IsFlushed, ShareLane, AreJoinedOn, AreSoOn, end_in, end_of_side, AreElsewhere, AreResting, AreSettled, GoesOrStays, CanFeed, CanSettle, HasExchanged, HasSettled, HaveExchanged, HasStood, HaveStood, IsCarried, IsOfBefore, ServedBefore, HasStayed, HaveStayed, AreBehindOn}
+use Rattle.kahn_job.proofs.Common.{arith, ◌≡◌, ◌⊎◌, inl, inr, ⊎_elim, ℕ, ◌+◌, ◌<◌, ◌≤◌, Bool, true, false, List, length, refl, sym, ap, ◌∙◌, subst, None, Some, Result, Ok, Err, cases_eq, Program, Role, Side, Inner, Input, Output, Schema, Actual, Reads, Writes, Hands, network_of, instance_at, actual_at, role_at, IsWriter, IsReader, IsOnly, IsServed, IsFed, IsWellWired, side_at, handed_within, reads, writes, Lists, inputs_of, prefix_refl, is_output, Joins, lane_name, TaskEnd, IsFlushed, ShareLane, AreJoinedOn, AreSoOn, end_in, end_of_side, AreElsewhere, AreResting, AreSettled, GoesOrStays, CanFeed, CanSettle, HasExchanged, HasSettled, HaveExchanged, HasStood, HaveStood, IsCarried, IsOfBefore, ServedBefore, HasStayed, HaveStayed, AreBehindOn}
 use Rattle.kahn_streams.proofs.Sided.{channel_served}
 use Rattle.kahn_job.proofs.Berthed.{same_then, stayed_self}
 
@@ -25,7 +25,7 @@ both_or (inr n) b = inr (λ x. n x.0)
 both_or (inl a) (inr n) = inr (λ x. n x.1)
 
 -- the two ends of a channel
-module _ (so : TaskEnd → TaskEnd → Type 0) (N : Network) where
+module _ (so : TaskEnd → TaskEnd → Type 0) (N : Schema) where
   module _ (c : ℕ) (new : List (List TaskEnd)) where
     pub on_only : (w r : Side) → IsOnly (IsWriter N c) (Some w) → IsOnly (IsReader N c) (Some r) → so (end_of_side new w) (end_of_side new r) → AreSoOn so N new c
     on_only w r ow oo x p s o q i j =
@@ -46,7 +46,7 @@ module _ (so : TaskEnd → TaskEnd → Type 0) (N : Network) where
       (subst (λ x. so (end_in old p o) x) (sym (same r q (subst (λ a. Joins a d) (sym j) refl))) (h p r o q i j))
 
 -- they are ends of the same lanes
-pub same_lanes : (N : Network) (old new : List (List TaskEnd)) (d : ℕ) → ((p q : ℕ) → (end_in new p q).lane ≡ (end_in old p q).lane) → AreJoinedOn N old d → AreJoinedOn N new d
+pub same_lanes : (N : Schema) (old new : List (List TaskEnd)) (d : ℕ) → ((p q : ℕ) → (end_in new p q).lane ≡ (end_in old p q).lane) → AreJoinedOn N old d → AreJoinedOn N new d
 same_lanes N old new d same h p r o q i j = let s = h p r o q i j in (s.0, same p o ∙ s.1, same r q ∙ s.2)
 
 -- an end that is as it was stands where it stood
@@ -67,7 +67,7 @@ is_inner t wired c p o r q i j = by (reads t wired r q c j)
     by (inr f) = f.4
 
 module _ (t : Program) (wired : IsWellWired t) (lists : Lists) (rows : List (List TaskEnd)) (h : AreResting t lists rows) where
-  abbrev N : Network
+  abbrev N : Schema
   N = network_of t
 
   -- what is read is no output
@@ -317,7 +317,7 @@ rests_met t lists old new s h = record {
     served p q (Hands v) b = tt
 
 -- a meeting later says the same of the ends before
-pub behind_before : (N : Network) (old now : List (List TaskEnd)) (c : ℕ) → HaveStayed old now → AreBehindOn N now c → AreBehindOn N old c
+pub behind_before : (N : Schema) (old now : List (List TaskEnd)) (c : ℕ) → HaveStayed old now → AreBehindOn N now c → AreBehindOn N old c
 behind_before N old now c s h p r o q i j =
     let b = h p r o q i j in
     let n = (s.each r q).next in

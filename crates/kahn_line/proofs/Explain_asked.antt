@@ -4,13 +4,13 @@ use Rattle.kahn_line.specs.declared.explain.ExplainOptions.{ExplainOptions}
 use Rattle.kahn_line.proofs.Asked.{ParsedAs, apart, known, passed}
 
 workers_parsed : ParsedAs explain_app.top.rules (codes "workers") (Unsigned 1 16)
-workers_parsed = (apart, (apart, ((λ e. refl), (apart, (apart, (apart, (apart, (apart, (apart, (apart, (apart, (apart, tt))))))))))))
+workers_parsed = (apart, (apart, ((λ e. refl), (apart, (apart, (apart, (apart, (apart, (apart, (apart, (apart, (apart, (apart, tt)))))))))))))
 
 quantum_parsed : ParsedAs explain_app.top.rules (codes "quantum") (Unsigned 1 1000000)
-quantum_parsed = (apart, (apart, (apart, ((λ e. refl), (apart, (apart, (apart, (apart, (apart, (apart, (apart, (apart, tt))))))))))))
+quantum_parsed = (apart, (apart, (apart, ((λ e. refl), (apart, (apart, (apart, (apart, (apart, (apart, (apart, (apart, (apart, tt)))))))))))))
 
 bound_parsed : ParsedAs explain_app.top.rules (codes "bound") (Unsigned 0 281474976710655)
-bound_parsed = (apart, (apart, (apart, (apart, ((λ e. refl), (apart, (apart, (apart, (apart, (apart, (apart, (apart, tt))))))))))))
+bound_parsed = (apart, (apart, (apart, (apart, ((λ e. refl), (apart, (apart, (apart, (apart, (apart, (apart, (apart, (apart, tt)))))))))))))
 
 -- the options that are made of what a parse found are those that the words ask for
 pub asked_explain : (cmd : Command) (m : ArgMatches) (words : List Text) → IsParsedFrom cmd m → HasMatchesOf (app_of cmd) words m → app_of cmd ≡ explain_app
@@ -22,8 +22,9 @@ pub asked_explain : (cmd : Command) (m : ArgMatches) (words : List Text) → IsP
     → o.channels ≡ was_given (first_value (found_of m) (codes "channels"))
     → o.check ≡ was_given (first_value (found_of m) (codes "check"))
     → option_map string_bytes o.needs ≡ first_value (found_of m) (codes "needs") → option_map string_bytes o.wakes ≡ first_value (found_of m) (codes "wakes")
+    → o.json ≡ was_given (first_value (found_of m) (codes "json"))
     → IsExplain words o
-asked_explain cmd m words p matches is o program input set all strict trace channels check needs wakes =
+asked_explain cmd m words p matches is o program input set all strict trace channels check needs wakes json =
     let f = found_of m in
     let rows : rows_of f ≡ matches_of explain_app words = (matches (ap is_simple is)).0 ∙ ap (λ (a : App). matches_of a words) is in
     let text : (id : Text) → first_value f id ≡ explain_text words id = λ id. first_value-rows f id ∙ ap (first_of id) rows in
@@ -49,5 +50,6 @@ asked_explain cmd m words p matches is o program input set all strict trace chan
       check = check ∙ ap was_given (text (codes "check"));
       needs = needs ∙ text (codes "needs");
       wakes = wakes ∙ text (codes "wakes");
+      json = json ∙ ap was_given (text (codes "json"));
       in_range = (workers.1, workers.2, quantum.1, quantum.2, omega arith);
     }

@@ -8,7 +8,7 @@ use Rattle.kahn_line.specs.{Line.bare_app, Line.file_named, Line.flag_rule, Line
 -- the program text's path without a name, and the options
 abbrev pub explain_app : App
 explain_app =
-    with_rule (with_rule (with_rule (with_rule (with_rule (with_rule (with_rule (with_rule (with_rule (with_rule (with_rule (with_rule (bare_app (codes "kahn_explain"))
+    with_rule (with_rule (with_rule (with_rule (with_rule (with_rule (with_rule (with_rule (with_rule (with_rule (with_rule (with_rule (with_rule (bare_app (codes "kahn_explain"))
     (new_rule (codes "PROGRAM")))
     (text_rule (codes "input")))
     (number_rule (codes "workers") 1 16 (codes "4")))
@@ -20,7 +20,8 @@ explain_app =
     (flag_rule (codes "channels")))
     (flag_rule (codes "check")))
     (text_rule (codes "needs")))
-    (text_rule (codes "wakes"))
+    (text_rule (codes "wakes")))
+    (flag_rule (codes "json"))
 
 -- the text that the words give for a name
 abbrev pub explain_text : List Text → Text → Option Text
@@ -49,6 +50,7 @@ pub record IsExplain (words : List Text) (o : ExplainOptions) : Type 0 where
   pub check : o.check ≡ explain_flag words (codes "check")
   pub needs : option_map string_bytes o.needs ≡ explain_text words (codes "needs")
   pub wakes : option_map string_bytes o.wakes ≡ explain_text words (codes "wakes")
+  pub json : o.json ≡ explain_flag words (codes "json")
   pub in_range : IsInRange o.config.workers o.config.quantum o.config.bound
 
 -- what the words ask for; or what is at fault in them, such as `--help` and `--version`; or refused memory

@@ -68,7 +68,7 @@ how many values were sent and taken, and how many are left that nobody took:
   B,1 double,,2,0,2
 
 With `--check` nothing is run: it only says what is wrong with the program text and the network, and with the input text
-if there is one, and what it warns of.
+if there is one, and what it warns of. With `--json` it writes the same as data: a line for each note, an object of JSON.
 
 With `--needs OUT:PLACE` it writes what the value at that place of a channel needs, whatever the schedule: the least number
 of values of each channel, and of events of each process, of how many in the whole run. Places are counted from 1, and the
@@ -93,6 +93,11 @@ Exit status:
   7  processes are in a deadlock
   8  a process has a fault of arithmetic, whatever else there is";
 
+// The words of two options.
+static CHECK: &str = "Looks at the texts alone, for editors and repositories: nothing is run";
+
+static JSON: &str = "As --check, and writes each note as an object of JSON, for editors";
+
 /// What the command line asks for.
 #[derive(Debug, Drop)]
 pub struct ExplainOptions {
@@ -116,6 +121,8 @@ pub struct ExplainOptions {
     pub needs: Option<String>,
     /// The place of an input, of which is written which values are the first that need it, or nothing.
     pub wakes: Option<String>,
+    /// Whether the texts are only looked at, and what is said of them is written as data.
+    pub json: bool,
 }
 
 /// Returns the rules of the command line.
@@ -144,11 +151,7 @@ fn explain_command<'a>(alloc: Global) -> Result<Command<'a>, AllocError>
             "channels",
             "Writes how many values each channel carried, as a CSV table",
         ))?
-        .arg(flag_arg(
-            alloc,
-            "check",
-            "Looks at the texts alone, for editors and repositories: nothing is run",
-        ))?
+        .arg(flag_arg(alloc, "check", CHECK))?
         .arg(text_arg(
             alloc,
             "needs",
@@ -160,7 +163,8 @@ fn explain_command<'a>(alloc: Global) -> Result<Command<'a>, AllocError>
             "wakes",
             "IN[:PLACE]",
             "Writes which value of each output is the first that needs the value at a place of an input",
-        ))
+        ))?
+        .arg(flag_arg(alloc, "json", JSON))
 }
 
 /// Reads the words of a command line, the first of which is the name of the program. Fails with `Refused` if clap
@@ -183,5 +187,6 @@ pub fn read_explain_line<'a, S: AsStr>(
         check: was_given(matches.get_str("check")),
         needs: copied(alloc, matches.get_str("needs"))?,
         wakes: copied(alloc, matches.get_str("wakes"))?,
+        json: was_given(matches.get_str("json")),
     })
 }

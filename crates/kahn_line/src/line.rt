@@ -59,6 +59,10 @@ Exit status:
   5  a file can't be read or isn't UTF-8, or the report can't be written
   6  run refused: the watched channel isn't declared, or no thread could be started";
 
+// What the help says of the input text.
+static INPUT: &str =
+    "File of the input text, with lines such as `A: 1 2 3` (an input channel and its values); /dev/stdin is standard input";
+
 /// What the command line asks for.
 #[derive(Debug, Drop)]
 pub struct Options {
@@ -141,12 +145,7 @@ pub(crate) fn input_arg<'a>(alloc: Global) -> Arg<'a>
     ensures rule { rule_of result ≡ text_rule (codes "input") }
     ensures local { result.global ≡ false }
 {
-    text_arg(
-        alloc,
-        "input",
-        "FILE",
-        "File of the input text, with lines such as `A: 1 2 3` (an input channel and its values); /dev/stdin is standard input",
-    )
+    text_arg(alloc, "input", "FILE", INPUT)
 }
 
 /// Makes the option of the bound on events.
@@ -154,14 +153,8 @@ pub(crate) fn bound_arg<'a>(alloc: Global) -> Arg<'a>
     ensures rule { rule_of result ≡ number_rule (codes "bound") 0 281474976710655 (codes "1000000") }
     ensures local { result.global ≡ false }
 {
-    number_arg(
-        alloc,
-        "bound",
-        0,
-        281_474_976_710_655,
-        "1000000",
-        "Events after which the run is stopped, 0 to 281474976710655",
-    )
+    let help = "Events after which the run is stopped, 0 to 281474976710655";
+    number_arg(alloc, "bound", 0, 281_474_976_710_655, "1000000", help)
 }
 
 /// Makes the option of the number of workers, and its default.
@@ -177,14 +170,8 @@ pub(crate) fn quantum_arg<'a>(alloc: Global) -> Arg<'a>
     ensures rule { rule_of result ≡ number_rule (codes "quantum") 1 1000000 (codes "1000") }
     ensures local { result.global ≡ false }
 {
-    number_arg(
-        alloc,
-        "quantum",
-        1,
-        1_000_000,
-        "1000",
-        "Events that a process does at a time, 1 to 1000000",
-    )
+    let help = "Events that a process does at a time, 1 to 1000000";
+    number_arg(alloc, "quantum", 1, 1_000_000, "1000", help)
 }
 
 /// Makes the option of the watched channel.

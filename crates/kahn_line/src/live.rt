@@ -2,7 +2,7 @@
 
 ghost use Rattle.std.specs.Prelude.{◌≡◌, IfOk, codes, false, map, string_bytes};
 ghost use Rattle.clap.specs.Words.{app_of, found_of, rule_of};
-ghost use Rattle.kahn_line.specs.{Line.text_rule, Parts.found_texts, Parts.input_named, Parts.set_line, Live.at_end_rule, Live.live_app, Live.IsLiveRead};
+ghost use Rattle.kahn_line.specs.{Parts.found_texts, Parts.input_named, Parts.set_line, Live.at_end_rule, Live.live_app, Live.IsLiveRead};
 
 use crate::line::{
     LineFault, bare, config_of, file_copied, flag_arg, number_arg, quantum_arg, text_arg,
@@ -65,6 +65,29 @@ Exit status:
   7  with --strict: the end was reached, and processes wait on one another in a ring
   8  with --strict: the end was reached, and a process has a fault of arithmetic";
 
+// What the help says of the options.
+static STEP: &str =
+    "Limit of events after each line, 1 to 281474976710655; if one needs more, its answers come late";
+
+static WATCH: &str =
+    "Shows one more channel besides the output channels; with --plain, write --plain INPUT,NAME";
+
+static KEEP_GOING: &str = "Leaves the status 0 even if lines were refused";
+
+static STRICT: &str =
+    "Ends with 8 if a process has a fault of arithmetic, and else with 7 if processes wait on one another";
+
+static AT_END: &str =
+    "Feeds the line `NAME: VALUE` when the input has ended; with --plain, VALUE alone, such as -1; may be repeated";
+
+static IN: &str =
+    "Reads bare values of this input channel alone, or rows with one value for each of these";
+
+static OUT: &str =
+    "Writes bare values of this channel alone, one a line, or rows of these; with --in alone, those of the first stream";
+
+static PLAIN: &str = "Is short for --in INPUT --out OUTPUT";
+
 /// What the command line asks for.
 #[derive(Debug, Drop)]
 pub struct LiveOptions {
@@ -87,52 +110,7 @@ fn at_end_arg<'a>(alloc: Global) -> Arg<'a>
     ensures rule { rule_of result ≡ at_end_rule }
     ensures local { result.global ≡ false }
 {
-    text_arg(
-        alloc,
-        "at-end",
-        "NAME=VALUE",
-        "Feeds the line `NAME: VALUE` when the input has ended; with --plain, VALUE alone, such as -1; may be repeated",
-    )
-    .action(ArgAction::Append)
-}
-
-/// Makes the option of the channels whose values stand alone in the lines of input.
-fn in_arg<'a>(alloc: Global) -> Arg<'a>
-    ensures rule { rule_of result ≡ text_rule (codes "in") }
-    ensures local { result.global ≡ false }
-{
-    text_arg(
-        alloc,
-        "in",
-        "NAME[,NAME..]",
-        "Reads bare values of this input channel alone, or rows with one value for each of these",
-    )
-}
-
-/// Makes the option of the channels whose values stand alone in the lines of output.
-fn out_arg<'a>(alloc: Global) -> Arg<'a>
-    ensures rule { rule_of result ≡ text_rule (codes "out") }
-    ensures local { result.global ≡ false }
-{
-    text_arg(
-        alloc,
-        "out",
-        "NAME[,NAME..]",
-        "Writes bare values of this channel alone, one a line, or rows of these; with --in alone, those of the first stream",
-    )
-}
-
-/// Makes the option of the channels whose values stand alone.
-fn plain_arg<'a>(alloc: Global) -> Arg<'a>
-    ensures rule { rule_of result ≡ text_rule (codes "plain") }
-    ensures local { result.global ≡ false }
-{
-    text_arg(
-        alloc,
-        "plain",
-        "INPUT[,OUTPUT]",
-        "Is short for --in INPUT --out OUTPUT",
-    )
+    text_arg(alloc, "at-end", "NAME=VALUE", AT_END).action(ArgAction::Append)
 }
 
 /// Returns the rules of the command line.
@@ -146,32 +124,14 @@ fn live_command<'a>(alloc: Global) -> Result<Command<'a>, AllocError>
                 .help("File of the program text"),
         )?
         .arg(quantum_arg(alloc))?
-        .arg(number_arg(
-            alloc,
-            "step",
-            1,
-            281_474_976_710_655,
-            "1000000",
-            "Limit of events after each line, 1 to 281474976710655; if one needs more, its answers come late",
-        ))?
-        .arg(watch_arg(
-            alloc,
-            "Shows one more channel besides the output channels; with --plain, write --plain INPUT,NAME",
-        ))?
-        .arg(flag_arg(
-            alloc,
-            "keep-going",
-            "Leaves the status 0 even if lines were refused",
-        ))?
-        .arg(flag_arg(
-            alloc,
-            "strict",
-            "Ends with 8 if a process has a fault of arithmetic, and else with 7 if processes wait on one another",
-        ))?
+        .arg(number_arg(alloc, "step", 1, 281_474_976_710_655, "1000000", STEP))?
+        .arg(watch_arg(alloc, WATCH))?
+        .arg(flag_arg(alloc, "keep-going", KEEP_GOING))?
+        .arg(flag_arg(alloc, "strict", STRICT))?
         .arg(at_end_arg(alloc))?
-        .arg(in_arg(alloc))?
-        .arg(out_arg(alloc))?
-        .arg(plain_arg(alloc))
+        .arg(text_arg(alloc, "in", "NAME[,NAME..]", IN))?
+        .arg(text_arg(alloc, "out", "NAME[,NAME..]", OUT))?
+        .arg(text_arg(alloc, "plain", "INPUT[,OUTPUT]", PLAIN))
 }
 
 /// Returns the lines that are fed at the end of the input.

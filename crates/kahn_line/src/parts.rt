@@ -1,6 +1,6 @@
 //! Words of the command line that have two parts.
 
-ghost use Rattle.std.specs.Prelude.{◌≡◌, ◌<◌, ◌≤◌, ◌∷◌, ◌++◌, IfOk, Some, codes, length, map, option_copied, option_map, string_bytes};
+ghost use Rattle.std.specs.Prelude.{◌≡◌, ◌<◌, ◌≤◌, ◌∷◌, ◌++◌, IfOk, Some, length, map, option_copied, option_map, string_bytes};
 ghost use Rattle.kahn_line.specs.Parts.{IsJoinedBy, columns_given, input_named, is_negative, joined_words, lent, parted, plain_parts, set_line, takes_behind};
 
 use crate::line::copied;
@@ -45,12 +45,12 @@ fn takes_behind(word: &str, value: &str) -> bool
     word == "--at-end" && is_negative(value)
 }
 
-/// Joins a word and its value to one word.
-fn joined_word(alloc: Global, word: &str, value: &str) -> Result<String, AllocError>
-    ensures { IfOk result (λ text. string_bytes text ≡ word.now ++ (codes "=" ++ value.now)) }
+/// Joins a word and its value, with a sign between.
+fn joined(alloc: Global, word: &str, sign: &str, value: &str) -> Result<String, AllocError>
+    ensures { IfOk result (λ text. string_bytes text ≡ word.now ++ (sign.now ++ value.now)) }
 {
     let mut text = String::from_str(alloc, word)?;
-    text.push_str("=")?;
+    text.push_str(sign)?;
     text.push_str(value)?;
     Ok(text)
 }
@@ -69,7 +69,7 @@ fn add_joined<'w, S: AsStr>(
     if let Some((value, left)) = behind.split_first() {
         let value = value.as_str();
         if takes_behind(word, value) {
-            all.push(joined_word(alloc, word, value)?)?;
+            all.push(joined(alloc, word, "=", value)?)?;
             return Ok(left);
         }
     }
@@ -89,16 +89,6 @@ pub(crate) fn joined_words<S: AsStr>(alloc: Global, words: &[S]) -> Result<Vec<S
     Ok(all)
 }
 
-/// Makes a line of a name and values.
-fn named_line(alloc: Global, name: &str, value: &str) -> Result<String, AllocError>
-    ensures { IfOk result (λ line. string_bytes line ≡ name.now ++ (codes ": " ++ value.now)) }
-{
-    let mut line = String::from_str(alloc, name)?;
-    line.push_str(": ")?;
-    line.push_str(value)?;
-    Ok(line)
-}
-
 /// Returns the line for a word `NAME=VALUE`, `NAME: VALUE`. A word without `=` is values of the input channel whose values
 /// stand alone, if they do, and else the line itself.
 fn set_line(alloc: Global, input: Option<&str>, word: &str) -> Result<String, AllocError>
@@ -106,8 +96,8 @@ fn set_line(alloc: Global, input: Option<&str>, word: &str) -> Result<String, Al
 {
     let (name, value) = parted(word, '=');
     match (value, input) {
-        (Some(value), _) => named_line(alloc, name, value),
-        (None, Some(input)) => named_line(alloc, input, name),
+        (Some(value), _) => joined(alloc, name, ": ", value),
+        (None, Some(input)) => joined(alloc, input, ": ", name),
         (None, None) => String::from_str(alloc, name),
     }
 }

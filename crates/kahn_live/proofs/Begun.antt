@@ -1,20 +1,9 @@
 -- What went out of each stream begins the history of its line.
-use Rattle.std.proofs.Common.{◌≡◌, ◌∙◌, ℕ, false, append_assoc, List, [], ◌++◌, Some, sym, ap, subst, slice_get, slice_index_or}
+use Rattle.kahn_live.proofs.Common.{◌≡◌, ◌∙◌, ℕ, false, append_assoc, List, [], ◌++◌, Some, sym, ap, subst, slice_get, slice_index_or, HeldRun, IsRightSoFar, so_far, Verdict, are_rows, Live, HasHistories, IsShown}
 use Rattle.std.proofs.lemmas.Option.{same_Some}
-use Rattle.kahn_streams.specs.declared.value.Value.{Value}
-use Rattle.kahn_streams.specs.declared.value.Line.{Line}
-use Rattle.kahn_streams.specs.Network.{network_of}
-use Rattle.kahn_streams.specs.Solution.{IsPrefix, IsWhole, iterate}
-use Rattle.kahn_streams.specs.Inputs.{inputs_of}
+use Rattle.kahn_streams.specs.{declared.value.Value.Value, declared.value.Line.Line, Network.network_of, Solution.IsPrefix, Solution.IsWhole, Solution.iterate, Inputs.inputs_of, declared.answer.End.End, declared.answer.Verdict.TheVariants.Finished}
 use Rattle.kahn_sequential.specs.Flows.{flow_lines}
-use Rattle.kahn_sequential.specs.HeldRuns.{HeldRun, IsRightSoFar, so_far}
-use Rattle.kahn_streams.specs.declared.answer.End.{End}
-use Rattle.kahn_streams.specs.declared.answer.Verdict.{Verdict}
-use Rattle.kahn_streams.specs.declared.answer.Verdict.TheVariants.{Finished}
 use Rattle.kahn_session.proofs.Showing.{mapped}
-use Rattle.kahn_session.specs.Forms.{are_rows}
-use Rattle.kahn_session.specs.Live.{Live}
-use Rattle.kahn_live.specs.Histories.{HasHistories, IsShown}
 
 -- ---- the stream so far
 

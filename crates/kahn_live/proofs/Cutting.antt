@@ -1,14 +1,6 @@
 -- Where lines are cut.
-use Rattle.std.proofs.Common.{◌≡◌, ◌≢◌, ◌∙◌, inl, inr, ℕ, zero, suc, ◌+◌, ◌-◌, ◌<◌, ◌≤◌, min, Bool, true, false, eqb, cond, eqb-true, eq-eqb, true≢false, List, [], ◌∷◌, ◌++◌, All, None, Some, Option, IfSome, Result, Ok, Err, IfOk, is_ok, is_err, if◌then◌else◌, get_or, take_all, ⊎_elim, length, take, arith, refl, sym, ap, subst, append_assoc, append-nil, length-append, length-take}
-use Rattle.std.proofs.lemmas.List.Elements.{All-append, All-cons, All-nil}
+use Rattle.kahn_live.proofs.Common.{◌≡◌, ◌≢◌, ◌∙◌, inl, inr, ℕ, zero, suc, ◌+◌, ◌-◌, ◌<◌, ◌≤◌, min, Bool, true, false, eqb, cond, eqb-true, eq-eqb, true≢false, List, [], ◌∷◌, ◌++◌, All, None, Some, Option, IfSome, Result, Ok, Err, IfOk, is_ok, is_err, if◌then◌else◌, get_or, take_all, ⊎_elim, length, take, arith, refl, sym, ap, subst, append_assoc, append-nil, length-append, length-take, All-append, All-cons, All-nil, take_more, Consumes, IsAtEnd, Keeps, DropsThrough, drop_through, CutsLine, IsCutLine, IsNextLine, most_kept, Next, Line, End, Failed, NoMemory, IsLastRead, IsPassed}
 use Rattle.std.proofs.lemmas.Bool.{cases_lt}
-use Rattle.std.proofs.lemmas.List.{take_more}
-use Rattle.std.specs.Io.KnownBytes.{Consumes, IsAtEnd, Keeps}
-use Rattle.std.specs.Io.BufRead.{DropsThrough, drop_through}
-use Rattle.kahn_live.specs.Lines.{CutsLine, IsCutLine, IsNextLine, most_kept}
-use Rattle.kahn_live.specs.declared.lines.Next.{Next}
-use Rattle.kahn_live.specs.declared.lines.Next.TheVariants.{Line, End, Failed, NoMemory}
-use Rattle.kahn_live.specs.inner.Parts.{IsLastRead, IsPassed}
 
 -- what is kept of a text may be cut on the way
 pub kept_more : (n : ℕ) (xs ys : List ℕ) → take n (take n xs ++ ys) ≡ take n (xs ++ ys)

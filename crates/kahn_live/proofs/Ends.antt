@@ -1,9 +1,5 @@
 -- Whether it is told how a run ended that has no fault and the status 0.
-use Rattle.std.proofs.Common.{◌≡◌, Bool, true, false, Option, inr}
-use Rattle.kahn_sequential.specs.HeldRuns.{HeldRun}
-use Rattle.kahn_session.specs.Live.{IsFaulty, IsRinged}
-use Rattle.kahn_streams.specs.declared.answer.Verdict.{Verdict}
-use Rattle.kahn_live.specs.Running.{IsEndWanted, reached_status}
+use Rattle.kahn_live.proofs.Common.{◌≡◌, Bool, true, false, Option, inr, HeldRun, IsFaulty, IsRinged, Verdict, IsEndWanted, reached_status}
 use Rattle.kahn_live.specs.declared.serving.Amiss.{Amiss}
 
 pub by_ring : (h : HeldRun) (amiss : Option Amiss) (refused : Bool) (v : Verdict) (ring : Bool) → reached_status amiss refused v ≡ 0 → IsFaulty h false → IsRinged h ring

@@ -1,21 +1,6 @@
 -- Lines that are fed behind those of the input, and that what went out stays right.
-use Rattle.std.proofs.Common.{arith, ◌≡◌, ◌∙◌, ◌<◌, inl, inr, ℕ, zero, suc, Bool, true, false, true≢false, List, [], ◌∷◌, length, take, Option, None, Some, Result, Ok, Err, refl, sym, ap, subst}
-use Rattle.kahn_streams.specs.declared.answer.Verdict.{Verdict}
-use Rattle.kahn_fault.specs.declared.fault.Fault.{Fault}
-use Rattle.std.specs.List.{list_any}
-use Rattle.std.specs.Prelude.{◌&&◌, nat_lt}
-use Rattle.kahn_session.specs.Forms.{HasLetGoAt, are_rows, next_of, row_count}
-use Rattle.kahn_session.specs.Live.{HasTaken, IsMeantLine, IsTakenLine, IsUnfedBy, Live, pace_after, pace_of}
-use Rattle.kahn_session.specs.Pace.{Pace}
-use Rattle.kahn_session.specs.declared.fault.TakeFault.{TakeFault}
-use Rattle.kahn_session.specs.declared.fault.TakeFault.TheVariants.{TooLong, NotUtf8, BadLine, BadValue, BadRow, Feed, NoMemory, Write}
-use Rattle.kahn_session.specs.Refusals.{at_end_number}
-use Rattle.kahn_live.specs.Course.{HasMissed, IsBrokenOff, IsToldBy, LiveTelling, Point, WasAnswered, WasMet}
-use Rattle.kahn_live.specs.InputMet.{AreFed, AreRead, AreTaken, IsAnyMet, IsCutOff, IsFirstPart, IsFirstUnmeant, IsReadBy, IsReadIn, is_idle}
-use Rattle.kahn_live.specs.Lines.{fed_text, most_kept, unmarked}
-use Rattle.kahn_live.specs.Rows.{AreMeant, row_names}
-use Rattle.kahn_live.specs.LinesMet.{AreEachMet, LinesGiven}
-use Rattle.kahn_live.specs.Histories.{IsShown}
+use Rattle.kahn_live.proofs.Common.{arith, ◌≡◌, ◌∙◌, ◌<◌, inl, inr, ℕ, zero, suc, Bool, true, false, true≢false, List, [], ◌∷◌, length, take, Option, None, Some, Result, Ok, Err, refl, sym, ap, subst, Verdict, Fault, list_any, ◌&&◌, nat_lt, HasLetGoAt, are_rows, next_of, row_count, HasTaken, IsMeantLine, IsTakenLine, IsUnfedBy, Live, pace_after, pace_of, TakeFault, at_end_number, HasMissed, IsBrokenOff, IsToldBy, LiveTelling, Point, WasAnswered, WasMet, AreFed, AreRead, AreTaken, IsAnyMet, IsCutOff, IsFirstPart, IsFirstUnmeant, IsReadBy, IsReadIn, is_idle, fed_text, most_kept, unmarked, AreMeant, row_names, AreEachMet, LinesGiven, IsShown}
+use Rattle.kahn_session.specs.{Pace.Pace, declared.fault.TakeFault.TheVariants.TooLong, declared.fault.TakeFault.TheVariants.NotUtf8, declared.fault.TakeFault.TheVariants.BadLine, declared.fault.TakeFault.TheVariants.BadValue, declared.fault.TakeFault.TheVariants.BadRow, declared.fault.TakeFault.TheVariants.Feed, declared.fault.TakeFault.TheVariants.NoMemory, declared.fault.TakeFault.TheVariants.Write}
 
 -- one line more was fed
 pub fed_more : (line : List ℕ) (lines rest : List (List ℕ)) (old new : Point) → rest ≡ line ∷ lines → WasAnswered at_end_number line old new → (p : Point) → AreFed lines new p

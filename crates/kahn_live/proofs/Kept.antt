@@ -1,7 +1,5 @@
 -- A call that failed left all bytes as they were.
-use Rattle.std.proofs.Common.{ℕ, List, Option, Result, Ok, Err, IsErr}
-use Rattle.std.specs.Io.KnownBytes.{Keeps, ReadConsumes, WriteAppends}
-use Rattle.std.proofs.KnownBytes.{Keeps-trans}
+use Rattle.kahn_live.proofs.Common.{ℕ, List, Option, Result, Ok, Err, IsErr, Keeps, ReadConsumes, WriteAppends, Keeps-trans}
 
 pub none_read : {E : Type 0} (a b c : Option (List ℕ)) (r : Result ℕ E) (buf : List ℕ) → Keeps a b → IsErr r → ReadConsumes b c r buf → Keeps a c
 none_read a b c (Ok n) buf kept failed read = absurd cc

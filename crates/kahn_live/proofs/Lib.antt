@@ -6,3 +6,4 @@ pub mod Meeting
 pub mod Rowing
 pub mod Whole
 pub mod Ends
+pub mod Common

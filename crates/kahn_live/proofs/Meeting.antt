@@ -1,19 +1,6 @@
 -- What lines make, one after the other.
-use Rattle.std.proofs.Common.{◌≡◌, ◌∙◌, inl, inr, ℕ, zero, suc, take, Bool, true, false, true≢false, List, [], None, Some, Option, Result, Ok, Err, IfOk, is_err, MatchResult, append-nil, refl, sym, ap, subst}
-use Rattle.std.proofs.KnownBytes.{Keeps-refl}
-use Rattle.std.specs.Prelude.{◌||◌}
-use Rattle.std.specs.Io.KnownBytes.{Appends}
-use Rattle.kahn_streams.specs.declared.answer.Verdict.{Verdict}
+use Rattle.kahn_live.proofs.Common.{◌≡◌, ◌∙◌, inl, inr, ℕ, zero, suc, take, Bool, true, false, true≢false, List, [], None, Some, Option, Result, Ok, Err, IfOk, is_err, MatchResult, append-nil, refl, sym, ap, subst, Keeps-refl, ◌||◌, Appends, Verdict, AppendsFront, Writes, Fault, HasVerdict, IsTakenLine, Live, breaks, TakeFault, WasAnswered, WasFed, HasSent, HasWaited, IsAnswerTold, IsFaultPut, IsLineMet, IsNewFault, IsPartTold, IsToldBy, IsVerdictTold, Point, LiveTelling, is_verdict_new, AreRead, IsCome, IsHearing, IsNextMet, IsNoneCome, IsSource, IsStep, IsNextLine, Next, Line, End, Failed, NoMemory}
 use Rattle.kahn_streams.specs.declared.value.Failure.{Failure}
-use Rattle.kahn_streams.specs.Written.{AppendsFront, Writes}
-use Rattle.kahn_fault.specs.declared.fault.Fault.{Fault}
-use Rattle.kahn_session.specs.Live.{HasVerdict, IsTakenLine, Live, breaks}
-use Rattle.kahn_session.specs.declared.fault.TakeFault.{TakeFault}
-use Rattle.kahn_live.specs.Course.{WasAnswered, WasFed, HasSent, HasWaited, IsAnswerTold, IsFaultPut, IsLineMet, IsNewFault, IsPartTold, IsToldBy, IsVerdictTold, Point, LiveTelling, is_verdict_new}
-use Rattle.kahn_live.specs.InputMet.{AreRead, IsCome, IsHearing, IsNextMet, IsNoneCome, IsSource, IsStep}
-use Rattle.kahn_live.specs.Lines.{IsNextLine}
-use Rattle.kahn_live.specs.declared.lines.Next.{Next}
-use Rattle.kahn_live.specs.declared.lines.Next.TheVariants.{Line, End, Failed, NoMemory}
 
 -- what the session made of a line, where no byte more went out since
 fed_since : (line : List ℕ) (answer : Result Verdict TakeFault) (old mid new : Point) → IsTakenLine line old.session mid.session old.out mid.out answer → HasWaited mid new

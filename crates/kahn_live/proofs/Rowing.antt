@@ -1,18 +1,7 @@
 -- The lines of a row, one after the other.
-use Rattle.std.proofs.Common.{arith, not, ◌≡◌, ◌∙◌, ◌<◌, inl, inr, ℕ, Bool, true, List, [], ◌∷◌, ◌++◌, length, map, take, drop, Option, None, Some, Result, Ok, Err, refl, sym, ap, ap₂, subst}
-use Rattle.kahn_streams.specs.declared.answer.Verdict.{Verdict}
-use Rattle.kahn_fault.specs.declared.fault.Fault.{Fault}
-use Rattle.kahn_sequential.specs.HeldRuns.{HeldRun}
-use Rattle.kahn_session.specs.Live.{IsMeantLine, IsStreamOf, Live}
-use Rattle.kahn_session.specs.declared.fault.TakeFault.{TakeFault}
-use Rattle.kahn_live.specs.Course.{IsAloneMet, IsBrokenOff, IsLineMet, Point, WasMet, no_memory}
-use Rattle.kahn_live.specs.InputMet.{AreTaken, IsTornOff}
-use Rattle.std.specs.declared.alloc.Global.{Global}
-use Rattle.std.specs.declared.vec.Vec.{Vec}
-use Rattle.std.proofs.lemmas.List.{length-drop, length-take}
-use Rattle.std.specs.List.{list_any, position_or_len}
-use Rattle.std.specs.Prelude.{◌==◌, if◌then◌else◌}
-use Rattle.kahn_live.specs.Rows.{AreCells, AreMeant, HaveStreams, IsRowFront, bare_of, behind_word, bytes_in, row_line, row_names, first_word, from_word, is_row_gap, is_wordless}
+use Rattle.kahn_live.proofs.Common.{arith, not, ◌≡◌, ◌∙◌, ◌<◌, inl, inr, ℕ, Bool, true, List, [], ◌∷◌, ◌++◌, length, map, take, drop, Option, None, Some, Result, Ok, Err, refl, sym, ap, ap₂, subst, Verdict, Fault, HeldRun, IsMeantLine, IsStreamOf, Live, TakeFault, IsAloneMet, IsBrokenOff, IsLineMet, Point, WasMet, no_memory, AreTaken, IsTornOff, Global, Vec, length-drop, list_any, position_or_len, ◌==◌, AreCells, AreMeant, HaveStreams, IsRowFront, bare_of, behind_word, bytes_in, row_line, row_names, first_word, from_word, is_row_gap, is_wordless}
+use Rattle.std.proofs.lemmas.List.{length-take}
+use Rattle.std.specs.Prelude.{if◌then◌else◌}
 
 -- one line more
 cells_more : (blank : Bool) (names words : List ℕ) (cells : List (List ℕ)) (rest left cell : List ℕ) → AreCells blank names words cells rest left → 0 < length (first_word rest)

@@ -1,17 +1,7 @@
 -- What a whole run is made of.
-use Rattle.std.proofs.Common.{◌≡◌, ◌∙◌, inr, ℕ, Bool, true, false, true≢false, eqb, List, [], None, Some, Option, Result, Ok, Err, if◌then◌else◌, refl, sym, ap, subst}
-use Rattle.std.specs.Io.Buffered.{reader_buffer, reader_capacity, reader_inner, reader_remaining}
-use Rattle.std.specs.Io.KnownBytes.{prepend_known}
+use Rattle.kahn_live.proofs.Common.{◌≡◌, ◌∙◌, inr, ℕ, Bool, true, false, true≢false, eqb, List, [], None, Some, Option, Result, Ok, Err, if◌then◌else◌, refl, sym, ap, subst, reader_buffer, reader_capacity, reader_inner, reader_remaining, prepend_known, Program, Fault, PlainNames, HasOpened, Live, Point, LiveTelling, AreAllMet, LinesGiven, HasServed, IsInForm, IsSetUp}
 use Rattle.std.specs.declared.io.buffered.BufReader.{BufReader}
-use Rattle.kahn_streams.specs.declared.config.Config.{Config}
-use Rattle.kahn_streams.specs.declared.tree.Program.{Program}
-use Rattle.kahn_streams.specs.declared.fault.RunFault.{RunFault}
-use Rattle.kahn_fault.specs.declared.fault.Fault.{Fault}
-use Rattle.kahn_line.specs.declared.parts.PlainNames.{PlainNames}
-use Rattle.kahn_session.specs.Live.{HasOpened, Live}
-use Rattle.kahn_live.specs.Course.{Point, LiveTelling}
-use Rattle.kahn_live.specs.LinesMet.{AreAllMet, LinesGiven}
-use Rattle.kahn_live.specs.Running.{HasServed, IsInForm, IsSetUp}
+use Rattle.kahn_streams.specs.{declared.config.Config.Config, declared.fault.RunFault.RunFault}
 use Rattle.kahn_live.specs.declared.serving.RunEnding.{RunEnding}
 
 -- there is an input channel of the name

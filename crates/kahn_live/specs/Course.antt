@@ -1,41 +1,15 @@
 -- Believed. What lines make, one after the other, of a session, of what goes out and of what is told (this project's profile).
 use Rattle.std.specs.Prelude.{◌≡◌, ◌⊎◌, ℕ, ◌-◌, Bool, true, false, not, ◌||◌, ◌&&◌, ◌==◌, List, [], ◌∷◌, Option, None, Some, codes, if◌then◌else◌, string_bytes, Result, Ok, Err}
-use Rattle.std.specs.Io.KnownBytes.{Appends, Keeps}
-use Rattle.kahn_streams.specs.declared.answer.End.{End}
-use Rattle.kahn_streams.specs.declared.answer.Verdict.{Verdict}
-use Rattle.kahn_streams.specs.declared.answer.Verdict.TheVariants.{Finished, Bound, Memory}
-use Rattle.kahn_streams.specs.declared.fault.RunFault.TheVariants.{NoMemory as NoMemoryRun}
-use Rattle.kahn_streams.specs.Written.{AppendsFront}
-use Rattle.kahn_texts.specs.declared.bytes.WriteFault.{WriteFault}
-use Rattle.kahn_streams.specs.declared.feeds.FeedFault.{FeedFault}
-use Rattle.kahn_streams.specs.declared.tree.Program.{Program as Tree}
-use Rattle.kahn_streams.specs.declared.value.Failure.{Failure}
+use Rattle.std.specs.{Io.KnownBytes.Appends, Io.KnownBytes.Keeps, Option.is_none, Str.bytes_eq, List.before_first, IoError.error_kind, declared.io.Error.Error, declared.io.ErrorKind.TheVariants.BrokenPipe, Io.Buffered.reader_remaining, declared.io.buffered.BufReader.BufReader}
+use Rattle.kahn_streams.specs.{declared.answer.End.End, declared.answer.Verdict.Verdict, declared.answer.Verdict.TheVariants.Finished, declared.answer.Verdict.TheVariants.Bound, declared.answer.Verdict.TheVariants.Memory, declared.fault.RunFault.TheVariants.NoMemory as NoMemoryRun, Written.AppendsFront, declared.feeds.FeedFault.FeedFault, declared.tree.Program.Program as Tree, declared.value.Failure.Failure}
+use Rattle.kahn_texts.specs.{declared.bytes.WriteFault.WriteFault, Formats.content, declared.read.ReadFault.TheVariants.Failed as FailedRead}
 use Rattle.kahn_sequential.specs.HeldRuns.{HeldRun, IsRightSoFar}
-use Rattle.kahn_texts.specs.Formats.{content}
-use Rattle.kahn_inputs.specs.declared.refused.RefusedPart.{RefusedPart}
+use Rattle.kahn_inputs.specs.{declared.refused.RefusedPart.RefusedPart, Fitting.line_name, Refused.IsHeadPart, Refused.IsKindPart, Refused.IsValuePart}
 use Rattle.kahn_hints.specs.Inputs.{input_names, inputs_words, unknown_input}
-use Rattle.kahn_inputs.specs.Fitting.{line_name}
-use Rattle.kahn_inputs.specs.Refused.{IsHeadPart, IsKindPart, IsValuePart}
-use Rattle.kahn_texts.specs.declared.read.ReadFault.TheVariants.{Failed as FailedRead}
-use Rattle.kahn_fault.specs.declared.work.WorkFault.TheVariants.{Run as RunWork, Write as WriteWork}
-use Rattle.kahn_fault.specs.declared.fault.Fault.{Fault}
-use Rattle.kahn_fault.specs.declared.fault.Fault.TheVariants.{Program, Work}
-use Rattle.std.specs.Option.{is_none}
-use Rattle.std.specs.Str.{bytes_eq}
-use Rattle.kahn_session.specs.Live.{IsFirstFault, IsFirstInput, IsRinged, IsTakenLine, Live, breaks}
-use Rattle.kahn_session.specs.Refusals.{alike_text, failed_text, is_want, line_note, refusal_text, take_words}
-use Rattle.kahn_session.specs.declared.fault.TakeFault.{TakeFault}
-use Rattle.kahn_session.specs.declared.fault.TakeFault.TheVariants.{BadLine, BadValue, Feed, NoMemory}
+use Rattle.kahn_fault.specs.{declared.work.WorkFault.TheVariants.Run as RunWork, declared.work.WorkFault.TheVariants.Write as WriteWork, declared.fault.Fault.Fault, declared.fault.Fault.TheVariants.Program, declared.fault.Fault.TheVariants.Work}
+use Rattle.kahn_session.specs.{Live.IsFirstFault, Live.IsFirstInput, Live.IsRinged, Live.IsTakenLine, Live.Live, Live.breaks, Refusals.alike_text, Refusals.failed_text, Refusals.is_want, Refusals.line_note, Refusals.refusal_text, Refusals.take_words, declared.fault.TakeFault.TakeFault, declared.fault.TakeFault.TheVariants.BadLine, declared.fault.TakeFault.TheVariants.BadValue, declared.fault.TakeFault.TheVariants.Feed, declared.fault.TakeFault.TheVariants.NoMemory}
 use Rattle.kahn_why.specs.Why.{AreCauses}
-use Rattle.std.specs.List.{before_first}
-use Rattle.kahn_live.specs.Lines.{is_bare_line}
-use Rattle.kahn_live.specs.declared.stage.LiveStage.{LiveStage}
-use Rattle.kahn_live.specs.declared.telling.Teller.{Teller}
-use Rattle.std.specs.IoError.{error_kind}
-use Rattle.std.specs.declared.io.Error.{Error}
-use Rattle.std.specs.declared.io.ErrorKind.TheVariants.{BrokenPipe}
-use Rattle.std.specs.Io.Buffered.{reader_remaining}
-use Rattle.std.specs.declared.io.buffered.BufReader.{BufReader}
+use Rattle.kahn_live.specs.{Lines.is_bare_line, declared.stage.LiveStage.LiveStage, declared.telling.Teller.Teller}
 use Rattle.kahn_streams.specs.declared.feeds.FeedFault.TheVariants as feed
 
 -- the lines that were refused so far; those refused in a row for one reason are told of by the first, and by how many they are more

@@ -1,16 +1,8 @@
 -- Believed. That what goes out of a session is right (this project's profile, over the solution of Kahn's paper).
 use Rattle.std.specs.Prelude.{◌≡◌, ℕ, false, List, [], map, Some, slice_get, slice_index_or}
-use Rattle.kahn_streams.specs.Network.{network_of}
-use Rattle.kahn_streams.specs.declared.value.Line.{Line}
-use Rattle.kahn_streams.specs.Solution.{IsPrefix, IsWhole, iterate}
-use Rattle.kahn_streams.specs.Inputs.{inputs_of}
-use Rattle.kahn_sequential.specs.Flows.{flow_lines}
-use Rattle.kahn_sequential.specs.HeldRuns.{IsRightSoFar, so_far}
-use Rattle.kahn_streams.specs.declared.answer.End.{End}
-use Rattle.kahn_streams.specs.declared.answer.Verdict.{Verdict}
-use Rattle.kahn_streams.specs.declared.answer.Verdict.TheVariants.{Finished}
-use Rattle.kahn_session.specs.Forms.{are_rows}
-use Rattle.kahn_session.specs.Live.{Live, OutBegins}
+use Rattle.kahn_streams.specs.{Network.network_of, declared.value.Line.Line, Solution.IsPrefix, Solution.IsWhole, Solution.iterate, Inputs.inputs_of, declared.answer.End.End, declared.answer.Verdict.Verdict, declared.answer.Verdict.TheVariants.Finished}
+use Rattle.kahn_sequential.specs.{Flows.flow_lines, HeldRuns.IsRightSoFar, HeldRuns.so_far}
+use Rattle.kahn_session.specs.{Forms.are_rows, Live.Live, Live.OutBegins}
 
 -- the run has a verdict with ends that are right; and what was let go of its streams is all that there is, but for values that stand in rows
 abbrev pub IsShown : Live → Type 0

@@ -1,16 +1,10 @@
 -- Believed. The lines of the input, the part before them and the lines behind them, of a run on lines (this project's profile).
 use Rattle.std.specs.Prelude.{◌≡◌, ◌⊎◌, ⊤, ℕ, zero, suc, ◌-◌, ◌^◌, ◌==◌, ◌&&◌, not, length, Bool, true, false, List, [], ◌∷◌, take, Option, None, Some, Result, Ok, Err}
 use Rattle.std.specs.Io.KnownBytes.{IsAtEnd}
-use Rattle.kahn_streams.specs.declared.answer.Verdict.{Verdict}
-use Rattle.kahn_streams.specs.declared.answer.Verdict.TheVariants.{Finished, Memory}
+use Rattle.kahn_streams.specs.{declared.answer.Verdict.Verdict, declared.answer.Verdict.TheVariants.Finished, declared.answer.Verdict.TheVariants.Memory}
 use Rattle.kahn_fault.specs.declared.fault.Fault.{Fault}
-use Rattle.kahn_session.specs.Live.{HasVerdict, IsDeaf, IsFirstInput, IsMeantLine, IsOtherInput, IsUnfedBy, Live}
-use Rattle.kahn_session.specs.Refusals.{alone_text, at_end_number, is_want}
-use Rattle.kahn_session.specs.declared.fault.TakeFault.{TakeFault}
-use Rattle.kahn_live.specs.Lines.{CutsLine, fed_text, most_kept, unmarked}
-use Rattle.kahn_live.specs.declared.lines.Next.{Next}
-use Rattle.kahn_live.specs.declared.lines.Next.TheVariants.{Line, End, Failed, NoMemory}
-use Rattle.kahn_live.specs.Rows.{AreMeant, AreRowCells, IsBadRow, row_names}
+use Rattle.kahn_session.specs.{Live.HasVerdict, Live.IsDeaf, Live.IsFirstInput, Live.IsMeantLine, Live.IsOtherInput, Live.IsUnfedBy, Live.Live, Refusals.alone_text, Refusals.at_end_number, Refusals.is_want, declared.fault.TakeFault.TakeFault}
+use Rattle.kahn_live.specs.{Lines.CutsLine, Lines.fed_text, Lines.most_kept, Lines.unmarked, declared.lines.Next.Next, declared.lines.Next.TheVariants.Line, declared.lines.Next.TheVariants.End, declared.lines.Next.TheVariants.Failed, declared.lines.Next.TheVariants.NoMemory, Rows.AreMeant, Rows.AreRowCells, Rows.IsBadRow, Rows.row_names}
 use Rattle.kahn_live.specs.Course.{HasMissed, HasSent, HasWaited, IsAloneMet, IsBrokenOff, IsReadFailed, IsRefused, IsWriteFault, LiveTelling, Point, WasAnswered, WasMet, WasTold, no_memory}
 
 -- ---- a row

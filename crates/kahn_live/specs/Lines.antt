@@ -1,13 +1,8 @@
 -- Believed. The lines of standard input: where each is cut, and what is fed of it (this project's profile).
 use Rattle.std.specs.Prelude.{◌≡◌, ◌≢◌, ◌⊎◌, ◌==◌, ◌&&◌, ◌||◌, ℕ, Bool, true, false, ◌+◌, ◌<◌, ⊤, List, [], ◌∷◌, ◌++◌, length, slice_index, take, drop, All, Option, None, Some, if◌then◌else◌}
-use Rattle.std.specs.Char.{is_ascii_digit}
-use Rattle.std.specs.Io.KnownBytes.{IsAtEnd}
-use Rattle.std.specs.Cmp.Lexicographic.{pointwise}
+use Rattle.std.specs.{Char.is_ascii_digit, Io.KnownBytes.IsAtEnd, Cmp.Lexicographic.pointwise, List.list_any}
 use Rattle.kahn_texts.specs.Formats.{most_input_bytes}
-use Rattle.kahn_live.specs.declared.lines.Next.{Next}
-use Rattle.kahn_live.specs.declared.lines.Next.TheVariants.{Line, End, Failed, NoMemory}
-use Rattle.kahn_live.specs.declared.outlet.DeferredWriter.{DeferredWriter}
-use Rattle.std.specs.List.{list_any}
+use Rattle.kahn_live.specs.{declared.lines.Next.Next, declared.lines.Next.TheVariants.Line, declared.lines.Next.TheVariants.End, declared.lines.Next.TheVariants.Failed, declared.lines.Next.TheVariants.NoMemory, declared.outlet.DeferredWriter.DeferredWriter}
 
 -- the line stands before the first line feed of the text; or it is the whole text, which has none and isn't empty
 abbrev pub IsCutLine : List ℕ → List ℕ → List ℕ → Type 0

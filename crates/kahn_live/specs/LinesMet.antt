@@ -1,10 +1,7 @@
 -- Believed. All lines of a run: the part before them, those of the input, and those behind these (this project's profile).
 use Rattle.std.specs.Prelude.{◌≡◌, ◌⊎◌, ℕ, Bool, true, false, List, map, Option, option_copied, string_bytes, Result, Ok, Err}
 use Rattle.kahn_fault.specs.declared.fault.Fault.{Fault}
-use Rattle.kahn_live.specs.Course.{Point}
-use Rattle.kahn_live.specs.InputMet.{AreAllRead, AreFed, IsAloneTold, IsCutOff, IsFirstPart, IsInputStopped, IsUnmeantTold}
-use Rattle.kahn_live.specs.Rows.{AreMeant, bare_of}
-use Rattle.kahn_live.specs.declared.taking.Fed.{Fed}
+use Rattle.kahn_live.specs.{Course.Point, InputMet.AreAllRead, InputMet.AreFed, InputMet.IsAloneTold, InputMet.IsCutOff, InputMet.IsFirstPart, InputMet.IsInputStopped, InputMet.IsUnmeantTold, Rows.AreMeant, Rows.bare_of, declared.taking.Fed.Fed}
 
 -- what is fed: the lines of the input, behind the name of a channel where values stand alone, and the lines behind them
 pub record LinesGiven : Type 0 where

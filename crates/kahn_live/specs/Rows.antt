@@ -1,15 +1,10 @@
 -- Believed. Rows: lines that have one value for each of several channels (this project's profile).
 use Rattle.std.specs.Prelude.{◌≡◌, ◌≢◌, ◌⊎◌, ◌==◌, ◌||◌, ◌<◌, not, ℕ, Bool, true, false, List, [], ◌∷◌, ◌++◌, length, map, take, drop, Option, None, Some, Result, Ok, Err, if◌then◌else◌}
-use Rattle.std.specs.List.{list_any, position_or_len}
-use Rattle.std.specs.declared.alloc.Global.{Global}
-use Rattle.std.specs.declared.vec.Vec.{Vec}
+use Rattle.std.specs.{List.list_any, List.position_or_len, declared.alloc.Global.Global, declared.vec.Vec.Vec}
 use Rattle.kahn_texts.specs.Formats.{is_blank}
-use Rattle.kahn_streams.specs.declared.fault.RunFault.{RunFault}
-use Rattle.kahn_streams.specs.declared.fault.RunFault.TheVariants.{NoMemory as NoMemoryRun, UnknownWatch}
+use Rattle.kahn_streams.specs.{declared.fault.RunFault.RunFault, declared.fault.RunFault.TheVariants.NoMemory as NoMemoryRun, declared.fault.RunFault.TheVariants.UnknownWatch}
 use Rattle.kahn_sequential.specs.HeldRuns.{HeldRun}
-use Rattle.kahn_session.specs.Live.{IsMeantLine, IsStreamOf, IsUnfedBy, Live}
-use Rattle.kahn_session.specs.declared.fault.TakeFault.{TakeFault}
-use Rattle.kahn_session.specs.declared.fault.TakeFault.TheVariants.{BadRow, NoMemory}
+use Rattle.kahn_session.specs.{Live.IsMeantLine, Live.IsStreamOf, Live.IsUnfedBy, Live.Live, declared.fault.TakeFault.TakeFault, declared.fault.TakeFault.TheVariants.BadRow, declared.fault.TakeFault.TheVariants.NoMemory}
 
 -- the names of several channels, with commas (44) between them: then each line is a row
 abbrev pub row_names : Option (List ℕ) → Option (List ℕ)

@@ -1,40 +1,14 @@
 -- Believed. A run on lines, from the program text to the status (this project's profile).
 use Rattle.std.specs.Prelude.{◌≡◌, ◌⊎◌, ◌==◌, ℕ, Bool, true, false, List, [], ◌∷◌, map, Option, None, Some, Result, Ok, Err, option_map, option_copied, codes, is_some, string_bytes}
-use Rattle.std.specs.List.{before_first}
-use Rattle.std.specs.declared.alloc.Global.{Global}
-use Rattle.std.specs.declared.vec.Vec.{Vec}
-use Rattle.std.specs.declared.string.String.{String}
-use Rattle.std.specs.Io.KnownBytes.{Keeps}
-use Rattle.kahn_streams.specs.declared.config.Config.{Config}
-use Rattle.kahn_streams.specs.declared.tree.Program.{Program}
+use Rattle.std.specs.{List.before_first, declared.alloc.Global.Global, declared.vec.Vec.Vec, declared.string.String.String, Io.KnownBytes.Keeps}
+use Rattle.kahn_streams.specs.{declared.config.Config.Config, declared.tree.Program.Program, declared.answer.Verdict.Verdict, declared.answer.Verdict.TheVariants.Finished, declared.fault.RunFault.RunFault, declared.fault.RunFault.TheVariants.NoMemory as NoMemoryRun, declared.fault.RunFault.TheVariants.UnknownWatch}
 use Rattle.kahn_sequential.specs.HeldRuns.{HeldRun}
-use Rattle.kahn_streams.specs.declared.answer.Verdict.{Verdict}
-use Rattle.kahn_streams.specs.declared.answer.Verdict.TheVariants.{Finished}
-use Rattle.kahn_streams.specs.declared.fault.RunFault.{RunFault}
-use Rattle.kahn_streams.specs.declared.fault.RunFault.TheVariants.{NoMemory as NoMemoryRun, UnknownWatch}
-use Rattle.kahn_fault.specs.Work.{IsChecked, IsUnchecked}
-use Rattle.kahn_fault.specs.declared.work.WorkFault.{WorkFault}
-use Rattle.kahn_fault.specs.declared.work.WorkFault.TheVariants.{Run as RunWork, Write as WriteWork}
-use Rattle.kahn_fault.specs.Status.{live_status_of}
-use Rattle.kahn_fault.specs.Reasons.{reason_line}
-use Rattle.kahn_fault.specs.Telling.{WasWritten, pointer_text, told_text}
-use Rattle.kahn_fault.specs.declared.fault.Fault.{Fault}
-use Rattle.kahn_fault.specs.declared.fault.Fault.TheVariants.{Work}
-use Rattle.kahn_line.specs.declared.live.LiveOptions.{LiveOptions}
-use Rattle.kahn_line.specs.declared.parts.PlainNames.{PlainNames}
+use Rattle.kahn_fault.specs.{Work.IsChecked, Work.IsUnchecked, declared.work.WorkFault.WorkFault, declared.work.WorkFault.TheVariants.Run as RunWork, declared.work.WorkFault.TheVariants.Write as WriteWork, Status.live_status_of, Reasons.reason_line, Telling.WasWritten, Telling.pointer_text, Telling.told_text, declared.fault.Fault.Fault, declared.fault.Fault.TheVariants.Work}
+use Rattle.kahn_line.specs.{declared.live.LiveOptions.LiveOptions, declared.parts.PlainNames.PlainNames}
 use Rattle.kahn_hints.specs.Inputs.{names_of_channels, unknown_channel}
-use Rattle.kahn_session.specs.Refusals.{unknown_text, path_line}
-use Rattle.kahn_session.specs.Live.{HasOpened, IsFaulty, IsLastText, IsRinged, IsUnopened, Live, has_left}
+use Rattle.kahn_session.specs.{Refusals.unknown_text, Refusals.path_line, Live.HasOpened, Live.IsFaulty, Live.IsLastText, Live.IsRinged, Live.IsUnopened, Live.Live, Live.has_left}
 use Rattle.kahn_live.specs.Course.{AreCausesOf, HasSent, HasWaited, IsMoreTold, IsWriteFault, Point, LiveTelling, WasTold, no_memory, telling_of}
-use Rattle.kahn_live.specs.LinesMet.{AreAllMet, LinesGiven}
-use Rattle.kahn_live.specs.Rows.{AreNumbered}
-use Rattle.kahn_live.specs.declared.running.Requested.{Requested}
-use Rattle.kahn_live.specs.declared.running.Returned.{Returned}
-use Rattle.kahn_live.specs.declared.serving.Amiss.{Amiss}
-use Rattle.kahn_live.specs.declared.serving.Amiss.TheVariants.{Faulted, Ringed}
-use Rattle.kahn_live.specs.declared.serving.RunEnding.{RunEnding}
-use Rattle.kahn_live.specs.declared.serving.RunEnding.TheVariants.{Reached, Gone, Refused}
-use Rattle.kahn_live.specs.declared.telling.Teller.{Teller}
+use Rattle.kahn_live.specs.{LinesMet.AreAllMet, LinesMet.LinesGiven, Rows.AreNumbered, declared.running.Requested.Requested, declared.serving.Amiss.Amiss, declared.serving.Amiss.TheVariants.Faulted, declared.serving.Amiss.TheVariants.Ringed, declared.serving.RunEnding.RunEnding, declared.serving.RunEnding.TheVariants.Reached, declared.serving.RunEnding.TheVariants.Gone, declared.serving.RunEnding.TheVariants.Refused, declared.telling.Teller.Teller}
 
 -- ---- the start
 
@@ -175,9 +149,9 @@ abbrev pub Tells : {X E : Type 0} → (E → Option (List ℕ)) → Teller E →
 Tells said old done holds = holds (telling_of said old) (telling_of said done.1) done.0
 
 -- the same, and of what went out
-abbrev pub Gives : {W E : Type 0} → (W → Option (List ℕ)) → (E → Option (List ℕ)) → Teller E → Returned W E
+abbrev pub Gives : {W E : Type 0} → (W → Option (List ℕ)) → (E → Option (List ℕ)) → Teller E → Result RunEnding Fault × W × Teller E
     → (Option (List ℕ) → LiveTelling → LiveTelling → Result RunEnding Fault → Type 0) → Type 0
-Gives written said old done holds = holds (written done.output) (telling_of said old) (telling_of said done.teller) done.ending
+Gives written said old done holds = holds (written done.1) (telling_of said old) (telling_of said done.2) done.0
 
 -- the lines were served from a session on; this went out in all, and this was told
 abbrev pub HasRunSession : Bool → LinesGiven → Live → Option (List ℕ) → Option (List ℕ) → Option (List ℕ) → LiveTelling → LiveTelling → Result RunEnding Fault → Type 0

@@ -1,10 +1,8 @@
 //! The lines of standard input, one at a time.
 
 ghost use Rattle.std.specs.Prelude.{◌≡◌, ◌≢◌, ◌==◌, ◌<◌, ◌≤◌, ◌++◌, All, IfOk, length, option_copied, slice_index, take, vec_len};
-ghost use Rattle.std.specs.List.{list_any};
-ghost use Rattle.std.specs.Io.Buffered.{reader_buffer, reader_remaining};
-ghost use Rattle.kahn_live.specs.Lines.{IsNextLine, IsReadyToRead, fed_text, is_bare_line, most_kept, unmarked};
-ghost use Rattle.kahn_live.specs.inner.Parts.{IsLastRead, IsLinePart, IsPassed};
+ghost use Rattle.std.specs.{List.list_any, Io.Buffered.reader_buffer, Io.Buffered.reader_remaining};
+ghost use Rattle.kahn_live.specs.{Lines.IsNextLine, Lines.IsReadyToRead, Lines.fed_text, Lines.is_bare_line, Lines.most_kept, Lines.unmarked, inner.Parts.IsLastRead, inner.Parts.IsLinePart, inner.Parts.IsPassed};
 
 use crate::outlet::DeferredWriter;
 use kahn_texts::MOST_BYTES;

@@ -1,8 +1,7 @@
 //! The writer of what is new: it goes out before the next wait, and not line by line.
 
 ghost use Rattle.std.specs.Prelude.{◌≡◌, ◌⊎◌, ◌↔◌, false, true, IfErr, IsErr, IsTrue};
-ghost use Rattle.std.specs.Io.{WritesAtMost};
-ghost use Rattle.std.specs.Io.KnownBytes.{Keeps, WriteAppends};
+ghost use Rattle.std.specs.{Io.WritesAtMost, Io.KnownBytes.Keeps, Io.KnownBytes.WriteAppends};
 ghost use Rattle.kahn_live.specs.Course.{IsGone, IsWriteFault};
 
 use kahn_fault::{Fault, WorkFault};

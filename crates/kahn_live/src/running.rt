@@ -1,9 +1,8 @@
 //! A run on lines, from the program text to the status.
 
 ghost use Rattle.std.specs.Prelude.{◌≡◌, IfOk, false, is_some, option_copied, option_map, string_bytes};
-ghost use Rattle.kahn_live.specs.Course.{telling_of};
-ghost use Rattle.kahn_live.specs.Running.{EndsAs, Gives, HasRunAs, HasRunNetwork, HasRunText, ArePlainStreams, IsChannelWords, IsFirstStream, IsInForm, IsSetUp, Tells, Watches, first_name, first_shown, name_watched, names_shown};
-ghost use Rattle.kahn_live.specs.Running.{IsEndingTold, IsUnstartedTold, ending_status, input_of, named_input, request_of, unknown_shown};
+ghost use Rattle.kahn_live.specs.{Course.telling_of, Running.IsEndingTold, Running.IsUnstartedTold, Running.ending_status, Running.input_of, Running.named_input, Running.request_of, Running.unknown_shown};
+ghost use Rattle.kahn_live.specs.Running.{EndsAs, Gives, HasRunAs, HasRunNetwork, HasRunText, ArePlainStreams, IsChannelWords, IsFirstStream, IsInForm, IsSetUp, Tells, Watches, first_shown, name_watched, names_shown};
 
 use crate::outlet::DeferredWriter;
 use crate::rows::stream_numbers;
@@ -13,7 +12,7 @@ use crate::taking::{Fed, wants_memory};
 use crate::telling::Teller;
 use kahn_fault::{Fault, WorkFault, checked};
 use kahn_hints::add_unknown_channel;
-use kahn_line::{LiveOptions, PlainNames};
+use kahn_line::{LiveOptions, PlainNames, parted};
 use kahn_session::Session;
 use kahn_streams::{Config, Network, RunFault, Verdict};
 use std::alloc::{AllocError, Global};
@@ -21,14 +20,6 @@ use std::io::{Read, Write};
 
 /// The status where what `--plain` or `--at-end` names is refused.
 const REFUSED: u8 = 6;
-
-/// What a run gives back: how it ended, and its writers.
-#[derive(Drop)]
-struct Returned<W: Write, E: Write> {
-    ending: Result<RunEnding, Fault>,
-    output: W,
-    teller: Teller<E>,
-}
 
 /// A name, where there is one.
 fn named(name: &Option<String>) -> Option<&str>
@@ -40,22 +31,12 @@ fn named(name: &Option<String>) -> Option<&str>
     }
 }
 
-/// The first of several names, with commas between.
-fn first_name(names: &str) -> &str
-    ensures { result.now ≡ first_name names.now }
-{
-    match names.split_once(',') {
-        Some((first, _)) => first,
-        None => names,
-    }
-}
-
 /// The first of the names of the channels whose values are shown, where they stand alone and there are names.
 fn first_shown(plain: &PlainNames) -> Option<&str>
     ensures { option_copied result ≡ first_shown plain.now }
 {
     match &plain.output {
-        Some(output) => Some(first_name(output.as_str())),
+        Some(output) => Some(parted(output.as_str(), ',').0),
         None => None,
     }
 }
@@ -233,18 +214,14 @@ fn run_network<I: Read + Drop, W: Write + Drop, E: Write + Drop>(
     input: I,
     output: W,
     teller: Teller<E>,
-) -> Returned<W, E>
+) -> (Result<RunEnding, Fault>, W, Teller<E>)
     ensures { Gives W.contents E.contents teller result (HasRunNetwork (request_of asked.entry) network.now config (I.remaining input) (W.contents output)) }
 {
     let session = match started(alloc, network, config, asked.plain) {
         Ok(session) => session,
         Err(fault) => {
             let (ending, teller) = unstarted(network, fault, asked, teller);
-            return Returned {
-                ending,
-                output,
-                teller,
-            };
+            return (ending, output, teller);
         }
     };
     let mut stage = LiveStage {
@@ -260,11 +237,7 @@ fn run_network<I: Read + Drop, W: Write + Drop, E: Write + Drop>(
     let ending = sent(&mut stage.outlet, ending);
     let LiveStage { outlet, teller, .. } = stage;
     let output = outlet.writer;
-    Returned {
-        ending,
-        output,
-        teller,
-    }
+    (ending, output, teller)
 }
 
 /// A name, where it isn't empty.
@@ -295,7 +268,7 @@ fn run<I: Read + Drop, W: Write + Drop, E: Write + Drop>(
     input: I,
     output: W,
     teller: Teller<E>,
-) -> Returned<W, E>
+) -> (Result<RunEnding, Fault>, W, Teller<E>)
     ensures { Gives W.contents E.contents teller result (HasRunText program.now options (I.remaining input) (W.contents output)) }
 {
     let LiveOptions {
@@ -314,25 +287,13 @@ fn run<I: Read + Drop, W: Write + Drop, E: Write + Drop>(
         strict,
     };
     let Ok(config) = watching(alloc, &config, watch) else {
-        let ending = Err(wants_memory());
-        return Returned {
-            ending,
-            output,
-            teller,
-        };
+        return (Err(wants_memory()), output, teller);
     };
     match checked(alloc, program) {
         Ok(network) => run_network(
             alloc, program, &network, config, asked, input, output, teller,
         ),
-        Err(fault) => {
-            let ending = Err(Fault::Work(fault));
-            Returned {
-                ending,
-                output,
-                teller,
-            }
-        }
+        Err(fault) => (Err(Fault::Work(fault)), output, teller),
     }
 }
 
@@ -367,11 +328,7 @@ pub(crate) fn ran<I: Read + Drop, W: Write + Drop, E: Write + Drop>(
     ensures { EndsAs W.contents E.contents result (HasRunAs program.now (string_bytes path) options (I.remaining input) (W.contents out) (E.contents errors)) }
 {
     let teller = Teller::new(alloc, errors, options.keep_going, path);
-    let Returned {
-        ending,
-        output,
-        mut teller,
-    } = run(alloc, program, options, input, out, teller);
+    let (ending, output, mut teller) = run(alloc, program, options, input, out, teller);
     let status = told(ending, program, &mut teller);
     (status, output, teller)
 }

@@ -3,8 +3,7 @@
 ghost use Rattle.std.specs.Prelude.{◌≡◌, IfErr, false, is_err};
 ghost use Rattle.std.specs.Io.KnownBytes.{Keeps};
 ghost use Rattle.kahn_session.specs.Live.{HasVerdict, has_left};
-ghost use Rattle.kahn_live.specs.Course.{Across, AcrossStage, IsWriteFault, point_of, telling_of};
-ghost use Rattle.kahn_live.specs.LinesMet.{lines_given};
+ghost use Rattle.kahn_live.specs.{Course.Across, Course.AcrossStage, Course.IsWriteFault, Course.point_of, Course.telling_of, LinesMet.lines_given};
 ghost use Rattle.kahn_live.specs.Running.{HasServed, HasServedAll, IsEndWanted, IsEnded, IsJudged, IsLeftTold, IsSent, IsVerdictMet, WasSent, is_unwritten, reached_status};
 
 use crate::outlet::DeferredWriter;
@@ -170,10 +169,7 @@ pub(crate) fn work<I: Read + Drop, W: Write, E: Write>(
 fn is_unwritten(ending: &Result<RunEnding, Fault>) -> bool
     ensures { result ≡ is_unwritten ending.now }
 {
-    match ending {
-        Err(Fault::Work(WorkFault::Write(_))) => true,
-        _ => false,
-    }
+    matches!(ending, Err(Fault::Work(WorkFault::Write(_))))
 }
 
 /// How a run ended whose lines ended so, where what is new was sent so: nobody reads it any more if that is why a write failed.

@@ -2,8 +2,7 @@
 
 ghost use Rattle.std.specs.Prelude.{◌≡◌};
 ghost use Rattle.std.specs.Io.Buffered.{reader_buffer, reader_remaining};
-ghost use Rattle.kahn_live.specs.InputMet.{IsCome, IsDeafNow, IsSource, lacks_memory};
-ghost use Rattle.kahn_live.specs.Lines.{IsReadyToRead};
+ghost use Rattle.kahn_live.specs.{InputMet.IsCome, InputMet.IsDeafNow, InputMet.IsSource, InputMet.lacks_memory, Lines.IsReadyToRead};
 
 use crate::lines::{Next, next_line};
 use crate::outlet::DeferredWriter;
@@ -35,10 +34,7 @@ pub(crate) fn is_over(session: &Session<'_>) -> bool
 fn lacks_memory(session: &Session<'_>) -> bool
     ensures { result ≡ lacks_memory session.now.flow.run.verdict }
 {
-    match session.verdict() {
-        Some(Verdict::Memory) => true,
-        _ => false,
-    }
+    matches!(session.verdict(), Some(Verdict::Memory))
 }
 
 /// Reads the next line, without its line feed; of a program without an input channel it is a blank one, and there is none where memory

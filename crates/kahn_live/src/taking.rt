@@ -2,14 +2,10 @@
 
 ghost use Rattle.std.specs.Prelude.{◌≡◌, ◌&&◌, IfErr, IfOk, IsTrue, None, false, map, option_copied, string_bytes, true};
 ghost use Rattle.std.specs.Io.Buffered.{reader_buffer};
-ghost use Rattle.kahn_session.specs.Live.{HasVerdict, breaks};
-ghost use Rattle.kahn_session.specs.Pace.{MayBeSlow};
+ghost use Rattle.kahn_session.specs.{Live.HasVerdict, Live.breaks, Pace.MayBeSlow};
 ghost use Rattle.kahn_live.specs.Course.{Across, AcrossStage, HasSent, IsAloneMet, IsAnswerTold, IsLineMet, IsRefusalTold, IsPartMet, IsWriteFault, no_memory, point_of, telling_of};
 ghost use Rattle.kahn_live.specs.InputMet.{AreCellsMet, AreLastMet, AreLastTried, IsFirstPart, IsInputMet, IsLastRefused, IsAloneTold, IsNextMet, IsReadMet, IsRowMet, has_finished, is_idle};
-ghost use Rattle.kahn_live.specs.LinesMet.{AreAllMet, AreEachMet, lines_given};
-ghost use Rattle.kahn_live.specs.Histories.{HasHistories};
-ghost use Rattle.kahn_live.specs.Lines.{IsReadyToRead, fed_text};
-ghost use Rattle.kahn_live.specs.Rows.{bytes_in};
+ghost use Rattle.kahn_live.specs.{LinesMet.AreAllMet, LinesMet.AreEachMet, LinesMet.lines_given, Histories.HasHistories, Lines.IsReadyToRead, Lines.fed_text, Rows.bytes_in};
 
 use crate::complaint::tell_refused;
 use crate::lines::{Next, fed_line, has_line, without_mark};
@@ -228,10 +224,7 @@ fn take_row<W: Write, E: Write>(
 fn has_finished(session: &Session<'_>) -> bool
     ensures { result ≡ has_finished session.now.flow.run.verdict }
 {
-    match session.verdict() {
-        Some(Verdict::Finished) => true,
-        _ => false,
-    }
+    matches!(session.verdict(), Some(Verdict::Finished))
 }
 
 /// Whether a line of that number changes nothing: an empty one, where the run has finished.

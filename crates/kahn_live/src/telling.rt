@@ -2,16 +2,14 @@
 
 ghost use Rattle.std.specs.Prelude.{◌≡◌, IfOk, IsTrue, false, option_copied, string_bytes, true};
 ghost use Rattle.std.specs.Option.{is_none};
-ghost use Rattle.kahn_session.specs.Refusals.{unknown_text, path_line};
-ghost use Rattle.kahn_session.specs.Live.{HasVerdict, IsRinged};
-ghost use Rattle.kahn_fault.specs.Status.{live_status_of};
-ghost use Rattle.kahn_fault.specs.Telling.{pointer_text, told_text};
-ghost use Rattle.kahn_live.specs.Course.{AreCausesOf, IsTallied, IsMoreTold, IsNewPut, IsNewTold, IsNextTold, IsFaultPut, IsNewFault, IsStepPut, IsRingPut, IsRingTold, IsVerdictPut, IsVerdictTold, IsWaitPut, WasTold, complaints_of, does_count, first_line, is_again, is_alike, is_hinted, is_next, is_step_new, is_verdict_new, telling_of};
-ghost use Rattle.kahn_live.specs.InputMet.{IsAlonePut};
-ghost use Rattle.kahn_live.specs.Running.{IsEndPut, IsEndTold, IsLastTold, IsLeftTold, IsWhyTold, untold};
+ghost use Rattle.kahn_session.specs.{Refusals.unknown_text, Refusals.path_line, Live.HasVerdict, Live.IsRinged};
+ghost use Rattle.kahn_fault.specs.{Status.live_status_of, Telling.pointer_text, Telling.told_text};
+ghost use Rattle.kahn_live.specs.Course.{AreCausesOf, IsTallied, IsMoreTold, IsNewPut, IsNewTold, IsNextTold, IsFaultPut, IsNewFault, IsStepPut, IsRingPut, IsRingTold, IsVerdictPut, IsVerdictTold, IsWaitPut, WasTold, complaints_of, does_count, is_again, is_alike, is_hinted, is_next, is_step_new, is_verdict_new, telling_of};
+ghost use Rattle.kahn_live.specs.{InputMet.IsAlonePut, Running.IsEndPut, Running.IsEndTold, Running.IsLastTold, Running.IsLeftTold, Running.IsWhyTold, Running.untold};
 
 use kahn_fault::{Fault, live_status, tell, tell_explain};
 use kahn_inputs::RefusedPart;
+use kahn_line::parted;
 use kahn_session::{
     Session, TakeFault, is_want, take_words, write_alone, write_fault, write_more, write_note,
     write_refusal, write_unknown, write_words,
@@ -81,16 +79,6 @@ fn cause_words(
     };
     let network = session.network();
     causes(alloc, path, program, network, verdict, session.ends())
-}
-
-/// The first of several lines.
-fn first_line(lines: &str) -> &str
-    ensures { result.now ≡ first_line lines.now }
-{
-    match lines.split_once('\n') {
-        Some((first, _)) => first,
-        None => lines,
-    }
 }
 
 /// A writer of faults, and what lines were refused.
@@ -350,7 +338,7 @@ impl<E: Write> Teller<E> {
             return;
         }
         match cause_words(self.alloc, "", "", session) {
-            Ok(words) => self.put_ring(number, first_line(words.as_str())),
+            Ok(words) => self.put_ring(number, parted(words.as_str(), '\n').0),
             Err(_) => {}
         }
     }

@@ -1,7 +1,4 @@
-mod Feeds
 mod Fronts
 pub mod Joined
 mod Rows
-mod Shown
-mod Unsaid
 pub mod Common

@@ -1,5 +1,5 @@
 -- The characters of a line, one after another.
-use Rattle.kahn_marks.proofs.Common.{◌≡◌, ℕ, ◌+◌, zero, suc, List, [], ◌∷◌, ◌++◌, length, refl, sym, ap, ◌∙◌, add-one, append_assoc, append-nil, arith, chars, encode_utf8, flat_map, Bor, Option, None, Some, option_map, slice_get, slice_index_or, unwrap_or, chars-nil, Row, piece_of, shown_character, with_places, times_over}
+use Rattle.kahn_marks.proofs.Common.{◌≡◌, ◌==◌, ◌<◌, ◌≤◌, ⊎_elim, ℕ, ◌+◌, zero, suc, List, [], ◌∷◌, ◌++◌, length, refl, sym, ap, ◌∙◌, add-one, append_assoc, append-nil, arith, chars, encode_utf8, flat_map, Bor, Option, None, Some, option_map, slice_get, slice_index_or, unwrap_or, chars-nil, Row, piece_of, shown_character, with_places, times_over, cases_lt, column_of, count_by, line_of, min, not, suffix_len, take, take_all}
 use Rattle.std.proofs.lemmas.Option.{unwrap_or-slice_get}
 
 -- what is written of characters, the first of which begins at `at`
@@ -52,3 +52,19 @@ pub or_empty : (xs : List (List ℕ)) (n : ℕ) (r : Option (Bor (List ℕ))) (d
     → w.now ≡ slice_index_or xs n []
 or_empty xs n None d w at is none = ap (λ (x : Bor (List ℕ)). x.now) is ∙ none ∙ ap (λ o. unwrap_or o []) at ∙ unwrap_or-slice_get xs n []
 or_empty xs n (Some x) d w at is none = ap (λ (x : Bor (List ℕ)). x.now) is ∙ ap (λ o. unwrap_or o []) at ∙ unwrap_or-slice_get xs n []
+
+-- the place of a byte that a text hasn't is that of its end
+same_take : (l : List ℕ) (n m : ℕ) → m ≡ min n (length l) → take m l ≡ take n l
+same_take l n m e = ⊎_elim within past (cases_lt n (length l))
+  where
+    within : n < length l → take m l ≡ take n l
+    within lt = let same : m ≡ n = omega (arith, e, lt) in ap (λ k. take k l) same
+
+    past : length l ≤ n → take m l ≡ take n l
+    past le = let more : length l ≤ m = omega (arith, e, le) in take_all m l more ∙ sym (take_all n l le)
+
+pub same_line : (l : List ℕ) (n m : ℕ) → m ≡ min n (length l) → line_of l m ≡ line_of l n
+same_line l n m e = ap (λ x. count_by (λ b. b == 10) x + 1) (same_take l n m e)
+
+pub same_column : (l : List ℕ) (n m : ℕ) → m ≡ min n (length l) → column_of l m ≡ column_of l n
+same_column l n m e = ap (λ x. suffix_len (λ b. not (b == 10)) x + 1) (same_take l n m e)

@@ -73,26 +73,18 @@ carets_of line from bytes = one_at_least (shown_row Carets line from bytes)
 abbrev pub line_at : List ℕ → ℕ → List ℕ
 line_at text n = slice_index_or (lines text) n []
 
--- blanks and carets below it
-abbrev pub carets_text : List ℕ → ℕ → ℕ → List ℕ
-carets_text line from bytes = concat (shown_row Blanks line from bytes ∷ carets_of line from bytes ∷ codes "\n" ∷ [])
-
--- the source line with its number, and these
+-- the source line with its number; and below it blanks, and carets
 abbrev pub rows_text : List ℕ → List ℕ → ℕ → ℕ → List ℕ
 rows_text line number from bytes =
     concat (codes " " ∷ number ∷ codes " | " ∷ shown_row Source line from bytes ∷ codes "\n " ∷ [])
-    ++ times_over (length number) (codes " ") ++ codes " | " ++ carets_text line from bytes
+    ++ times_over (length number) (codes " ") ++ codes " | " ++ shown_row Blanks line from bytes ++ carets_of line from bytes ++ codes "\n"
 
 -- `PATH:LINE:COLUMN: SORT: WORDS`, where the sort is `error`, `note` or `warning`
-abbrev pub heading : List ℕ → List ℕ → List ℕ → List ℕ → List ℕ → List ℕ
-heading path line column sort words =
-    concat (path ∷ codes ":" ∷ line ∷ codes ":" ∷ column ∷ codes ": " ∷ sort ∷ codes ": " ∷ words ∷ codes "\n" ∷ [])
+abbrev pub heading : List ℕ → List ℕ → List ℕ → ℕ → List ℕ → List ℕ
+heading sort path text from words = concat (path ∷ spot_text (codes ":") text from ∷ codes ": " ∷ sort ∷ codes ": " ∷ shown_text words ∷ codes "\n" ∷ [])
 
--- what is said of a part that begins at byte `from` of the text and has so many bytes; the end of the text is told where it has no such byte
-abbrev pub marked_at : List ℕ → List ℕ → List ℕ → ℕ → ℕ → List ℕ → List ℕ
-marked_at sort path text from bytes words =
-    heading path (decimal (line_of text from)) (decimal (column_of text from)) sort words
-    ++ rows_text (line_at text (line_of text from - 1)) (decimal (line_of text from)) (column_of text from - 1) bytes
-
+-- what is said of a part of a text, and its line; the end of the text is told where it has no byte at which the part begins
 abbrev pub marked_as : List ℕ → List ℕ → List ℕ → Span → List ℕ → List ℕ
-marked_as sort path text span words = marked_at sort path text span.from (span.to - span.from) words
+marked_as sort path text span words =
+    heading sort path text span.from words
+    ++ rows_text (line_at text (line_of text span.from - 1)) (decimal (line_of text span.from)) (column_of text span.from - 1) (span.to - span.from)

@@ -20,7 +20,7 @@ below_text text span sentence = line_below text span (string_bytes sentence)
 
 -- another place, with what is said there
 abbrev pub other_text : List ℕ → List ℕ → Other → List ℕ
-other_text path text o = marked_as (codes "note") path text o.span (shown_text (string_bytes o.words))
+other_text path text o = marked_as (codes "note") path text o.span (string_bytes o.words)
 
 -- one line more tells the change, where there is one
 abbrev pub IsFixShown : List ℕ → Span → Option Fix → List ℕ → List ℕ → Type 0
@@ -30,7 +30,7 @@ IsFixShown text span None old new = new ≡ old
 -- the lines of a note: nothing of a text gets into them but as it is shown
 abbrev pub IsRendered : List ℕ → List ℕ → Note → List ℕ → Type 0
 IsRendered path text n lines = (headed : List ℕ)
-    × IsFixShown text n.span n.fix (marked_as (sort_words n.sort) path text n.span (shown_text (string_bytes n.words))) headed
+    × IsFixShown text n.span n.fix (marked_as (sort_words n.sort) path text n.span (string_bytes n.words)) headed
     × (lines ≡ headed ++ flat_map (below_text text n.span) n.below.items ++ flat_map (other_text path text) n.others.items)
 
 -- one blank, or none

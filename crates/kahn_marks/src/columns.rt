@@ -1,7 +1,7 @@
 //! How the characters of a source line are shown, and what stands below them.
 
-ghost use Rattle.std.specs.Prelude.{◌≡◌, ◌++◌, ◌<◌, ℕ, IfOk, string_bytes};
-ghost use Rattle.kahn_marks.specs.{declared.columns.Row.Row, Marks.columns, Marks.is_format, Marks.is_kept_back, Marks.is_near, Marks.piece_of, Marks.shown_row, Marks.shown_character};
+ghost use Rattle.std.specs.Prelude.{◌≡◌, ◌++◌, IfOk, string_bytes};
+ghost use Rattle.kahn_marks.specs.{Marks.columns, Marks.is_format, Marks.is_kept_back, Marks.is_near, Marks.piece_of, Marks.shown_row, Marks.shown_character};
 
 use crate::pieces::add_repeated;
 use std::alloc::AllocError;
@@ -26,21 +26,6 @@ fn is_near(from: usize, at: usize) -> bool
     ensures { result ≡ is_near from at }
 {
     from.saturating_sub(NEAR) <= at && at.saturating_sub(from) < NEAR
-}
-
-/// The part of a line that is enough for all of its rows, where the part that they mark begins at a byte of the line, and at
-/// which of its own bytes that begins then.
-pub(crate) fn near_part(line: &str, from: usize) -> (&str, usize)
-    ensures { (row : Row) (bytes : ℕ) → shown_row row result.0.now result.1 bytes ≡ shown_row row line.now from bytes }
-{
-    let start = line.floor_char_boundary(from.saturating_sub(NEAR));
-    let (_, behind) = line.split_at(start);
-    let from = from - start;
-    if behind.len().saturating_sub(NEAR) <= from {
-        return (behind, from);
-    }
-    let (near, _) = behind.split_at(behind.ceil_char_boundary(from + NEAR));
-    (near, from)
 }
 
 /// Whether a format character changes how or in which order those beside it are shown, or takes no place.

@@ -1,11 +1,12 @@
 //! A note on a part of a text.
 
 ghost use Rattle.std.specs.Prelude.{◌≡◌, ◌-◌, ◌++◌, IfOk, slice_index_or, string_bytes};
-ghost use Rattle.kahn_marks.specs.Marks.{carets_text, carets_of, heading, line_at, marked_as, rows_text};
+ghost use Rattle.kahn_marks.specs.Marks.{carets_of, heading, line_at, marked_as, rows_text};
 
-use crate::columns::{Row, add_row, near_part};
+use crate::columns::{Row, add_row};
 use crate::pieces::{add, add_repeated};
-use crate::places::place;
+use crate::places::{add_spot, place};
+use crate::sentence::add_shown_text;
 use itoa::Buffer;
 use kahn_streams::Span;
 use std::alloc::{AllocError, Global};
@@ -29,22 +30,7 @@ fn carets(alloc: Global, line: &str, from: usize, bytes: usize) -> Result<String
     Ok(text)
 }
 
-/// Adds blanks below what stands before the part of a line, and carets below the part.
-fn add_carets(
-    note: &mut String,
-    alloc: Global,
-    line: &str,
-    from: usize,
-    bytes: usize,
-) -> Result<(), AllocError>
-    ensures { IfOk result (λ _. string_bytes note.new ≡ string_bytes note.old ++ carets_text line.now from bytes) }
-{
-    add_row(note, line, Row::Blanks, from, bytes)?;
-    let carets = carets(alloc, line, from, bytes)?;
-    add(note, &[carets.as_str(), "\n"])
-}
-
-/// Adds a source line with its number, and carets under the part that begins at a byte of it and has so many bytes.
+/// Adds a source line with its number, and below it blanks, and carets under the part that begins at a byte of it and has so many bytes.
 fn add_rows(
     note: &mut String,
     alloc: Global,
@@ -55,52 +41,52 @@ fn add_rows(
 ) -> Result<(), AllocError>
     ensures { IfOk result (λ _. string_bytes note.new ≡ string_bytes note.old ++ rows_text line.now number.now from bytes) }
 {
-    let (near, from) = near_part(line, from);
     add(note, &[" ", number, " | "])?;
-    add_row(note, near, Row::Source, from, bytes)?;
+    add_row(note, line, Row::Source, from, bytes)?;
     note.push_str("\n ")?;
     add_repeated(note, " ", number.len())?;
     note.push_str(" | ")?;
-    add_carets(note, alloc, near, from, bytes)
+    add_row(note, line, Row::Blanks, from, bytes)?;
+    note.push_str(carets(alloc, line, from, bytes)?.as_str())?;
+    note.push_str("\n")
 }
 
-/// Adds the heading of a note.
-fn add_heading<'a>(
+/// Adds the heading of a note: `PATH:LINE:COLUMN: SORT: WORDS`.
+fn add_heading(
     note: &mut String,
-    path: &'a str,
-    line: &'a str,
-    column: &'a str,
-    sort: &'a str,
-    words: &'a str,
+    sort: &str,
+    path: &str,
+    text: &str,
+    from: usize,
+    words: &str,
 ) -> Result<(), AllocError>
-    ensures { IfOk result (λ _. string_bytes note.new ≡ string_bytes note.old ++ heading path.now line.now column.now sort.now words.now) }
+    ensures { IfOk result (λ _. string_bytes note.new ≡ string_bytes note.old ++ heading sort.now path.now text.now from words.now) }
 {
-    add(
-        note,
-        &[path, ":", line, ":", column, ": ", sort, ": ", words, "\n"],
-    )
+    note.push_str(path)?;
+    add_spot(note, ":", text, from)?;
+    add(note, &[": ", sort, ": "])?;
+    add_shown_text(note, words)?;
+    note.push_str("\n")
 }
 
-/// A note of a sort on a part of the text of a file, in three lines: `PATH:LINE:COLUMN: SORT: WORDS`, the line where the part begins, and
-/// carets under the part. A part that begins beyond the text is told as the text's end. It refuses only where memory was refused.
-pub(crate) fn marked_as(
+/// Adds a note of a sort on a part of the text of a file, in three lines: its heading, the line where the part begins, and carets under the
+/// part. A part that begins beyond the text is told as the text's end. It refuses only where memory was refused.
+pub(crate) fn add_marked(
+    note: &mut String,
     alloc: Global,
     sort: &str,
     path: &str,
     text: &str,
     span: Span,
     words: &str,
-) -> Result<String, AllocError>
-    ensures { IfOk result (λ note. string_bytes note ≡ marked_as sort.now path.now text.now span words.now) }
+) -> Result<(), AllocError>
+    ensures { IfOk result (λ _. string_bytes note.new ≡ string_bytes note.old ++ marked_as sort.now path.now text.now span words.now) }
 {
     let (line, column) = place(text, span.from);
-    let mut first = Buffer::new();
-    let mut second = Buffer::new();
-    let number = first.format(line);
-    let mut note = String::new(alloc);
-    add_heading(&mut note, path, number, second.format(column), sort, words)?;
+    let mut buffer = Buffer::new();
+    let number = buffer.format(line);
+    add_heading(note, sort, path, text, span.from, words)?;
     let bytes = span.to.saturating_sub(span.from);
     let source = line_at(text, line - 1);
-    add_rows(&mut note, alloc, source, number, column - 1, bytes)?;
-    Ok(note)
+    add_rows(note, alloc, source, number, column - 1, bytes)
 }

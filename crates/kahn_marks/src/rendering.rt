@@ -1,9 +1,9 @@
 //! A note as data, and how it is written.
 
 ghost use Rattle.std.specs.Prelude.{◌≡◌, ◌++◌, IfOk, flat_map, string_bytes};
-ghost use Rattle.kahn_marks.specs.{Marks.marked_as, Marks.shown_text, Notes.IsFixShown, Notes.IsRendered, Notes.below_text, Notes.line_below, Notes.other_text, Notes.sort_words};
+ghost use Rattle.kahn_marks.specs.{Notes.IsFixShown, Notes.IsRendered, Notes.below_text, Notes.line_below, Notes.other_text, Notes.sort_words};
 
-use crate::note::marked_as;
+use crate::note::add_marked;
 use crate::pieces::{add, add_repeated};
 use crate::places::{add_spot, place};
 use crate::sentence::add_shown_text;
@@ -76,7 +76,7 @@ pub fn simple(alloc: Global, sort: Sort, span: Span, words: &str) -> Result<Note
 }
 
 /// How a sort is called.
-pub(crate) fn sort_words(sort: Sort) -> &'static str
+fn sort_words(sort: Sort) -> &'static str
     ensures { result.now ≡ sort_words sort }
 {
     match sort {
@@ -94,30 +94,22 @@ pub fn part_of(text: &str, span: Span) -> &str {
     }
 }
 
-/// Adds what is put in behind a lexeme, or before one.
-fn add_insertion(words: &mut String, text: &str, fix: &Fix) -> Result<(), AllocError> {
+/// Adds a change, in one of four forms.
+fn add_change(words: &mut String, text: &str, fix: &Fix) -> Result<(), AllocError> {
+    let (old, put) = (part_of(text, fix.span), fix.put.as_str());
+    if put.is_empty() {
+        return add(words, &["remove `", old, "`"]);
+    }
+    if fix.span.from != fix.span.to {
+        return add(words, &["replace `", old, "` with `", put, "`"]);
+    }
     let side = if fix.beside.to <= fix.span.from {
         "` after `"
     } else {
         "` before `"
     };
     let beside = part_of(text, fix.beside);
-    add(words, &["insert `", fix.put.as_str(), side, beside, "`"])
-}
-
-/// Adds a change, in one of three forms.
-fn add_change(words: &mut String, text: &str, fix: &Fix) -> Result<(), AllocError> {
-    let old = part_of(text, fix.span);
-    if fix.put.is_empty() {
-        return add(words, &["remove `", old, "`"]);
-    }
-    if fix.span.from == fix.span.to {
-        return add_insertion(words, text, fix);
-    }
-    add(
-        words,
-        &["replace `", old, "` with `", fix.put.as_str(), "`"],
-    )
+    add(words, &["insert `", put, side, beside, "`"])
 }
 
 /// A change in words, with its place, if that isn't where the note is.
@@ -173,22 +165,6 @@ fn add_below(lines: &mut String, text: &str, span: Span, below: &[String]) -> Re
     Ok(())
 }
 
-/// A note on a part of a text, with words as they are shown.
-fn headed(
-    alloc: Global,
-    sort: &str,
-    path: &str,
-    text: &str,
-    span: Span,
-    words: &str,
-) -> Result<String, AllocError>
-    ensures { IfOk result (λ lines. string_bytes lines ≡ marked_as sort.now path.now text.now span (shown_text words.now)) }
-{
-    let mut shown = String::new(alloc);
-    add_shown_text(&mut shown, words)?;
-    marked_as(alloc, sort, path, text, span, shown.as_str())
-}
-
 /// Adds other places, with the words on each.
 fn add_others(
     lines: &mut String,
@@ -200,8 +176,8 @@ fn add_others(
     ensures { IfOk result (λ _. string_bytes lines.new ≡ string_bytes lines.old ++ flat_map (other_text path.now text.now) others.now) }
 {
     for other in others {
-        let place = headed(alloc, "note", path, text, other.span, other.words.as_str())?;
-        lines.push_str(place.as_str())?;
+        let words = other.words.as_str();
+        add_marked(lines, alloc, "note", path, text, other.span, words)?;
     }
     Ok(())
 }
@@ -211,8 +187,9 @@ fn add_others(
 pub fn render(alloc: Global, path: &str, text: &str, note: &Note) -> Result<String, AllocError>
     ensures { IfOk result (λ lines. IsRendered path.now text.now note.now (string_bytes lines)) }
 {
-    let words = note.words.as_str();
-    let mut lines = headed(alloc, sort_words(note.sort), path, text, note.span, words)?;
+    let (sort, words) = (sort_words(note.sort), note.words.as_str());
+    let mut lines = String::new(alloc);
+    add_marked(&mut lines, alloc, sort, path, text, note.span, words)?;
     add_fix(&mut lines, alloc, text, note.span, &note.fix)?;
     add_below(&mut lines, text, note.span, &note.below)?;
     add_others(&mut lines, alloc, path, text, &note.others)?;

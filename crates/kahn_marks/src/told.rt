@@ -1,7 +1,7 @@
 //! How many of a list are told, and how many more there are.
 
 ghost use Rattle.std.specs.Prelude.{◌≡◌, ◌++◌, IfOk, drop, string_bytes, take};
-ghost use Rattle.kahn_marks.specs.Told.{counted_text, unsaid_text};
+ghost use Rattle.kahn_marks.specs.Told.{more_ending, unsaid_text};
 
 use crate::pieces::add;
 use itoa::Buffer;
@@ -18,22 +18,14 @@ pub fn first_ones<T>(all: &[T], most: usize) -> (&[T], &[T])
     all.split_at(most.min(all.len()))
 }
 
-/// Adds that there are so many more of something, behind what stands before that.
-fn add_count<'a>(
-    text: &mut String,
-    before: &'a str,
-    what: &'a str,
-    more: usize,
-) -> Result<(), AllocError>
-    ensures { IfOk result (λ _. string_bytes text.new ≡ string_bytes text.old ++ counted_text before.now what.now more) }
+/// The end of a line that tells how many more there are.
+fn more_ending(more: usize) -> &'static str
+    ensures { result.now ≡ more_ending more }
 {
-    let mut digits = Buffer::new();
-    let more = digits.format(more);
-    add(text, &[before, "and ", more, " ", what, "s more\n"])
+    if more == 1 { " more\n" } else { "s more\n" }
 }
 
-/// Adds how many more of something there are than were told, where there are any.
-#[tactic(auto, using(crate::proofs::Unsaid::counted))]
+/// Adds how many more of something there are than were told, behind what stands before that, where there are any.
 pub fn add_more<'a>(
     text: &mut String,
     before: &'a str,
@@ -45,8 +37,8 @@ pub fn add_more<'a>(
     if more == 0 {
         return Ok(());
     }
-    if more == 1 {
-        return add(text, &[before, "and 1 ", what, " more\n"]);
-    }
-    add_count(text, before, what, more)
+    let mut digits = Buffer::new();
+    let count = digits.format(more);
+    add(text, &[before, "and ", count, " ", what])?;
+    text.push_str(more_ending(more))
 }

@@ -1,32 +1,24 @@
 -- What a value needs is what its writer's shortest run to it needs.
-use Rattle.kahn_needs.proofs.Common.{arith, ◌≡◌, ◌↔◌, ℕ, zero, suc, ◌≤◌, ◌<◌, max, List, [], ◌∷◌, length, refl, sym, ap, subst, Some, slice_get, slice_index_or, pos, length-take, le-max_left, le-max_right, slice_get_within, Value, Line, Channel, Number, Network, Actual, Reads, Writes, Hands, instance_at, actual_at, Given, Written, Histories, Inputs, IsPrefix, iterate, tape_of, source, Stands, prefix_get, Cut, held_in, Suffices, IsShortest, IsTakenBy, GoBack}
+use Rattle.kahn_needs.proofs.Common.{arith, ◌≡◌, ◌↔◌, ℕ, zero, suc, ◌≤◌, ◌<◌, max, List, [], ◌∷◌, length, refl, sym, ap, subst, Some, slice_get, slice_index_or, pos, length-take, le-max_left, le-max_right, slice_get_within, Value, Line, Channel, Number, Schema, Actual, Reads, Writes, Hands, instance_at, actual_at, Given, Written, Histories, Inputs, IsPrefix, iterate, tape_of, source, Stands, prefix_get, Cut, held_in, Suffices, IsShortest, IsTakenBy, GoBack}
 use Rattle.kahn_needs.proofs.{Needing.take_length, Needing.held_all, Needing.held_before, Needing.held_given, Needing.held_within, Needing.held_written, Needing.tape_grows, Needing.within_refl, Told.suffices_there, Ways.AllOf, Ways.enough, Ways.get_there, Ways.needed, Ways.taken, Ways.taken_left}
 
 -- ---- an input
 
-given_stands : (N : Network) (I : Inputs) (d k : ℕ) (v : Value) → source N (Channel d) ≡ Given → slice_get (I d) k ≡ Some v → Stands N I (Channel d) k v
-given_stands N I d k v e h = (0, rw e h)
-
-pub given : (N : Network) (I : Inputs) (d k : ℕ) (v : Value) (y : Cut) → source N (Channel d) ≡ Given → slice_get (I d) k ≡ Some v → Suffices N I (Channel d) k v y ↔ (k < y.values d)
+pub given : (N : Schema) (I : Inputs) (d k : ℕ) (v : Value) (y : Cut) → source N (Channel d) ≡ Given → slice_get (I d) k ≡ Some v → Suffices N I (Channel d) k v y ↔ (k < y.values d)
 given N I d k v y e h = (there, back)
   where
     there : Suffices N I (Channel d) k v y → k < y.values d
     there s =
-        let l = slice_get_within (held_in N I y s.0 (Channel d)) k v s.1 in
-        let f = ap length (held_given N I y s.0 (Channel d) e) in
-        let t = take_length (y.values d) (I d) in
-        omega (arith, l, f, t)
+        omega (arith, slice_get_within (held_in N I y s.0 (Channel d)) k v s.1, ap length (held_given N I y s.0 (Channel d) e), take_length (y.values d) (I d))
 
     back : k < y.values d → Suffices N I (Channel d) k v y
     back l =
-        let f = ap length (held_given N I y 0 (Channel d) e) in
-        let t = length-take (y.values d) (I d) in
         let m = slice_get_within (I d) k v h in
-        suffices_there N I (Channel d) k v (given_stands N I d k v e h) y 0 (omega (arith, l, f, t, m))
+        suffices_there N I (Channel d) k v (0, rw e h) y 0 (omega (arith, l, ap length (held_given N I y 0 (Channel d) e), length-take (y.values d) (I d), m))
 
 -- ---- one iterate for all parameters
 
-for_all : (N : Network) (I : Inputs) (y : Cut) (default : Actual) → ((A : Histories) → tape_of A default ≡ []) → (actuals : List Actual) (t : ℕ → ℕ) →
+for_all : (N : Schema) (I : Inputs) (y : Cut) (default : Actual) → ((A : Histories) → tape_of A default ≡ []) → (actuals : List Actual) (t : ℕ → ℕ) →
     ((q : ℕ) → (n : ℕ) × (t q ≤ length (tape_of (held_in N I y n) (slice_index_or actuals q default)))) →
     (n : ℕ) × ((q : ℕ) → t q ≤ length (tape_of (held_in N I y n) (slice_index_or actuals q default)))
 for_all N I y default none [] t h = (0, λ q. let g = (h q).1 in let e = ap length (none (held_in N I y (h q).0)) in let f = ap length (none (held_in N I y 0)) in omega (arith, g, e, f))
@@ -45,7 +37,7 @@ for_all N I y default none (a ∷ rest) t h = by (h 0) (for_all N I y default no
 
 -- ---- a line that an instance writes
 
-module _ (N : Network) (I : Inputs) (c : Line) (p k e : ℕ) (v : Value) (H : Histories) (y : Cut) (src : source N c ≡ Written p)
+module _ (N : Schema) (I : Inputs) (c : Line) (p k e : ℕ) (v : Value) (H : Histories) (y : Cut) (src : source N c ≡ Written p)
     (here : (c : Line) → (m : ℕ) × IsPrefix (H c) (iterate N I m c)) (short : IsShortest N p c k e H) (stands : Stands N I c k v) where
   abbrev Wants : Type 0
   Wants = (q d j : ℕ) (w : Value) → actual_at (instance_at N p) q ≡ Reads d → IsTakenBy N p e H q j → slice_get (H (Channel d)) j ≡ Some w → Suffices N I (Channel d) j w y
@@ -62,18 +54,15 @@ module _ (N : Network) (I : Inputs) (c : Line) (p k e : ℕ) (v : Value) (H : Hi
       let g = needed N I p c k e H stand short (y.events p) (held_in N I y b.0) (held_all N I y b.0) b.2 in (
         g.0,
         λ q d j w a h at.
-            let l = taken_left N I p c k e H stand short q in
-            let f = g.1 q in
             let x = ap (λ a. length (tape_of (held_in N I y b.0) a)) a in
-            suffices_there N I (Channel d) j w (stand (Channel d) j w at) y b.0 (omega (arith, h, l, f, x)),
+            suffices_there N I (Channel d) j w (stand (Channel d) j w at) y b.0 (omega (arith, h, taken_left N I p c k e H stand short q, g.1 q, x)),
       )
 
   one_tape : Wants → (q n : ℕ) (a : Actual) → actual_at (instance_at N p) q ≡ a → n ≡ t q → (m : ℕ) × (n ≤ length (tape_of (held_in N I y m) a))
   one_tape wants q zero a at is = (0, omega arith)
   one_tape wants q (suc j) (Reads d) at is =
       let f = taken_left N I p c k e H stand short q in
-      let x = ap (λ a. length (tape_of H a)) at in
-      let w = get_there (H (Channel d)) j v (omega (arith, f, x, is)) in
+      let w = get_there (H (Channel d)) j v (omega (arith, f, ap (λ a. length (tape_of H a)) at, is)) in
       let s = wants q d j w.0 at (omega (arith, f, is)) w.1 in
       (s.0, let g = slice_get_within (held_in N I y s.0 (Channel d)) j w.0 s.1 in omega (arith, g))
   one_tape wants q (suc j) (Writes d) at is = let f = taken_left N I p c k e H stand short q in let x = ap (λ a. length (tape_of H a)) at in absurd (omega (arith, f, x, is))
@@ -85,7 +74,7 @@ module _ (N : Network) (I : Inputs) (c : Line) (p k e : ℕ) (v : Value) (H : Hi
       suffices_there N I c k v stands y (suc all.0)
       (subst (λ s. k < length s) (sym (held_written N I y all.0 c p src)) (enough N I p c k e H stand short (y.events p) (held_in N I y all.0) (held_all N I y all.0) h.0 all.1))
 
-pub go_back : (N : Network) (I : Inputs) → GoBack N I
+pub go_back : (N : Schema) (I : Inputs) → GoBack N I
 go_back N I =
     record {
       given = given N I;

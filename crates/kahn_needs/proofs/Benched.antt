@@ -1,5 +1,5 @@
 -- Cells that stand where their queues stand.
-use Rattle.kahn_needs.proofs.Common.{arith, ◌≡◌, ℕ, ◌+◌, ◌<◌, ◌≤◌, List, [], ◌∷◌, ◌++◌, length, replicate, refl, sym, ap, ◌∙◌, subst, Option, Some, slice_get, slice_set, slice_index_or, length-set, slice_get_read, writes, is_output, Lists, inputs_of, Store, Network, Writes, actual_at, instance_at, network_of, role_at, play_zero, ScriptOutcome, empty, Line, Token, Inputs, values_at, goes_to, Program, Channel, Print, script_at, kept_none, one_first, given_zero, set_each, taken_zero, AreKeptTokens, StoodBy, View, exec_on, sent_on, AreFirst, AreQueued, Lines, actual_here, next_at, place_at, queue_of, waiting_of, IsAt, IsPause, Paused, CellView, site_of, told_view, LeavesOthers, Site, count, Pause, AreUnmoved, HasActed, IsUnmoved, HaveSeats, HasItsSeat, IsStopped, Seats, seats_of}
+use Rattle.kahn_needs.proofs.Common.{arith, ◌≡◌, ℕ, ◌+◌, ◌<◌, ◌≤◌, List, [], ◌∷◌, ◌++◌, length, replicate, refl, sym, ap, ◌∙◌, subst, Option, Some, slice_get, slice_set, slice_index_or, length-set, slice_get_read, writes, is_output, Lists, inputs_of, Store, Schema, Writes, actual_at, instance_at, network_of, role_at, play_zero, ScriptOutcome, empty, Line, Token, Inputs, values_at, goes_to, Program, Channel, Print, script_at, kept_none, one_first, given_zero, set_each, taken_zero, AreKeptTokens, StoodBy, View, exec_on, sent_on, AreFirst, AreQueued, Lines, actual_here, next_at, place_at, queue_of, waiting_of, IsAt, IsPause, Paused, CellView, site_of, told_view, LeavesOthers, Site, count, Pause, AreUnmoved, HasActed, IsUnmoved, HaveSeats, HasItsSeat, IsStopped, Seats, seats_of}
 use Rattle.kahn_streams.proofs.{Entered.none_of, Dry.dry_reads}
 use Rattle.kahn_streams.specs.Wiring.{IsWellWired}
 use Rattle.kahn_code.specs.declared.progress.Pause.TheVariants as pause
@@ -8,7 +8,7 @@ use Rattle.kahn_code.specs.Progress as code
 -- ---- a cell at its opening
 
 -- what is said of a cell that has done nothing is true
-pub stood_first : (N : Network) (I : Inputs) (watch : Option ℕ) (p : ℕ) (x : View) → x.events ≡ 0 → ((q : ℕ) → x.taken q ≡ 0) → ((q : ℕ) → x.sent q ≡ 0) →
+pub stood_first : (N : Schema) (I : Inputs) (watch : Option ℕ) (p : ℕ) (x : View) → x.events ≡ 0 → ((q : ℕ) → x.taken q ≡ 0) → ((q : ℕ) → x.sent q ≡ 0) →
     ((q : ℕ) → x.kept q ≡ []) → x.printed ≡ [] → StoodBy N I watch p x
 stood_first N I watch p x e taken sent kept printed = record {
   tapes = empty;
@@ -161,9 +161,6 @@ module _ {b : Seats} (laid : HaveSeats b) (p : ℕ) {x : CellView} (at : slice_g
     watch_is : x'.watch ≡ b.watch
     watch_is = same.3 ∙ seated.watch
 
-    lent_to : q'.instance ≡ p
-    lent_to = ap (λ (s : Site). s.instance) site ∙ instance_is
-
     paused_here : code.Paused (network_of b.network) (inputs_of b.input) b.watch p (told_view x')
         (IsPause (network_of b.network) p dry ready (x'.events ≡ x.events + quantum) z)
     paused_here =
@@ -176,7 +173,7 @@ module _ {b : Seats} (laid : HaveSeats b) (p : ℕ) {x : CellView} (at : slice_g
       input = input_is;
       instance = instance_is;
       watch = watch_is;
-      at = subst (λ i. IsAt x' (λ r. next_at q'.queues (actual_at (instance_at (network_of q'.network) i) r))) lent_to stands;
+      at = subst (λ i. IsAt x' (λ r. next_at q'.queues (actual_at (instance_at (network_of q'.network) i) r))) (ap (λ (s : Site). s.instance) site ∙ instance_is) stands;
       stood = paused_here.stood;
     }
 
@@ -219,13 +216,12 @@ module _ {b : Seats} (laid : HaveSeats b) (p : ℕ) {x : CellView} (at : slice_g
     o = (exec_on (network_of b.network) x'.events p paused_here.stood.tapes).outcome
 
     is_stopped : (z : Pause) → IsPause (network_of b.network) p dry ready (x'.events ≡ x.events + quantum) z o → IsStopped now p z o
-    is_stopped pause.Ended h = h
-    is_stopped (pause.Fault k) h = h
     is_stopped pause.Spent h = tt
     is_stopped pause.NoMemory h = tt
     is_stopped (pause.Dry r) h =
         let d = dry_reads b.network laid.wired x'.events p r paused_here.stood.tapes h.0 in
         (d.0, d.1, h.0, subst (λ a. waiting_of (queue_of q'.queues a) ≡ 0) (own_actual r ∙ d.1) (h.1 d.0 d.1))
+    is_stopped z h = h
 
     pub acted : (x.events ≤ x'.events) × (x'.events ≤ x.events + quantum) → quantum ≡ 1 → HasActed b now p z
     acted events one = record {

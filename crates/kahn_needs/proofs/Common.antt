@@ -19,7 +19,7 @@ pub use Rattle.kahn_streams.proofs.Sourced.{outputs, reads, reads_listed, writes
 pub use Rattle.kahn_streams.specs.Answers.{AreRight, is_output, is_watched}
 pub use Rattle.kahn_streams.specs.Inputs.{Lists, inputs_of}
 pub use Rattle.kahn_streams.specs.Meaning.{Store}
-pub use Rattle.kahn_streams.specs.Network.{Actual, Given, Hands, IsServed, IsWriter, Network, Nobody, Reads, Source, Writes, Written, actual_at, channel_source, idle, instance_at, network_of, role_at}
+pub use Rattle.kahn_streams.specs.Network.{Actual, Given, Hands, IsServed, IsWriter, Schema, Nobody, Reads, Source, Writes, Written, actual_at, channel_source, idle, instance_at, network_of, role_at}
 pub use Rattle.kahn_streams.specs.Script.{Dry, Fail, Fault, Give, Got, Port, Reached, Script, ScriptOutcome, Tapes, Waits, play}
 pub use Rattle.kahn_streams.specs.Solution.{AreInputsExtended, Ended, Ending, Faulted, Histories, Inputs, IsExtended, IsPrefix, Stands, Waiting, ending, exec_at, fed, goes_to, input_list, iterate, out, source, tape_of, tapes_of, values_at}
 pub use Rattle.kahn_streams.specs.Steps.{Follows, RanBy, Sent, Step, StoppedAt, Took, Turned, and_then, empty, here, sends_of, sent, since, took, turned, values_taken}

@@ -16,9 +16,7 @@ counted_more f xs all n x h e is =
 value_of_tokens : (b : Seats) (c : Line) (p : ℕ) (x : CellView) (s : Stood b p x) (vs : List Value) (ts : List Token) (k n : ℕ) → map token_value ts ≡ vs → length vs ≡ n → k < n → (v : Value) →
     ((t : Token) → slice_get ts k ≡ Some t → v ≡ t.value) → slice_get vs k ≡ Some v
 value_of_tokens b c p x s vs ts k n e l less v told =
-    let a = ap length e in
-    let m = length-map ts token_value in
-    let t = there ts k (omega (arith, a, m, l, less)) in
+    let t = there ts k (omega (arith, ap length e, length-map ts token_value, l, less)) in
     subst (λ us. slice_get us k ≡ Some v) e (mapped token_value ts k t.0 t.1 ∙ ap Some (sym (told t.0 t.1)))
 
 same_writer : {p r : ℕ} → Written p ≡ Written r → p ≡ r
@@ -31,15 +29,12 @@ or_true false y e = e
 module _ (b : Seats) (laid : HaveSeats b) (c : ℕ) (s : Side) (writer : IsWriter (network_of b.network) c s) (x : CellView) (at : slice_get b.cells s.instance ≡ Some x)
     (src : channel_source (network_of b.network) c ≡ Written s.instance) (watch : b.watch ≡ Some c) (k : ℕ) (v : Value)
     (told : (t : Token) → slice_get (tokens x.kept s.parameter) k ≡ Some t → v ≡ t.value) where
-  streamed : is_streamed (network_of b.network) b.watch c ≡ true
-  streamed = or_true (is_output (role_at (network_of b.network) c)) (is_watched b.watch c) (ap (λ w. is_watched w c) watch ∙ eqb_refl c)
-
   value_here : HasCome b (Channel c) k → HasValue b (Channel c) k v
   value_here come p is x' at' stood =
       let same : s.instance ≡ p = same_writer (sym src ∙ is) in
       let e : x ≡ x' = same_Some x x' (sym at ∙ subst (λ i. slice_get b.cells i ≡ Some x') (sym same) at') in
       let w : actual_at (instance_at (network_of b.network) p) s.parameter ≡ Writes c = subst (λ i. actual_at (instance_at (network_of b.network) i) s.parameter ≡ Writes c) same writer.1 in
-      let kept = stood.kept s.parameter c w streamed in
+      let kept = stood.kept s.parameter c w (or_true (is_output (role_at (network_of b.network) c)) (is_watched b.watch c) (ap (λ w. is_watched w c) watch ∙ eqb_refl c)) in
       value_of_tokens b (Channel c) p x' stood (sent_on (network_of b.network) x'.events p stood.tapes (Channel c)) (tokens x'.kept s.parameter) k come.3.0
       kept.values (come.3.1 p is x' at' stood) come.3.2 v (subst (λ (y : CellView). (t : Token) → slice_get (tokens y.kept s.parameter) k ≡ Some t → v ≡ t.value) e told)
 

@@ -1,5 +1,5 @@
 -- For each value of the solution there is a least cut in which it stands.
-use Rattle.kahn_needs.proofs.Common.{arith, ◌≡◌, ℕ, zero, suc, ◌≤◌, ◌<◌, ◌==◌, max, Bool, true, false, List, [], ◌∷◌, ◌++◌, length, take, refl, sym, ap, subst, eqb-true, le_of_suc-le-suc, not-suc-le-zero, le_refl, pos, slice_index_or, if◌then◌else◌, length-append, length-take, le-max_left, le-max_right, Value, Line, Channel, Print, Number, Network, Actual, Reads, Writes, Hands, instance_at, actual_at, Source, Given, Written, Nobody, Histories, Inputs, tape_of, tapes_of, out, source, fed, input_list, iterate, IsExtended, IsPrefix, prefix_refl, prefix_get, feeds, out_grows, sent_stands, stand_in, AllStand, Cut, first_values, held_in, IsCutWithin, IsMadeIn, IsShortest}
+use Rattle.kahn_needs.proofs.Common.{arith, ◌≡◌, ℕ, zero, suc, ◌≤◌, ◌<◌, ◌==◌, max, Bool, true, false, List, [], ◌∷◌, ◌++◌, length, take, refl, sym, ap, subst, eqb-true, le_of_suc-le-suc, not-suc-le-zero, le_refl, pos, slice_index_or, if◌then◌else◌, length-append, length-take, le-max_left, le-max_right, Value, Line, Channel, Print, Number, Schema, Actual, Reads, Writes, Hands, instance_at, actual_at, Source, Given, Written, Nobody, Histories, Inputs, tape_of, tapes_of, out, source, fed, input_list, iterate, IsExtended, IsPrefix, prefix_refl, prefix_get, feeds, out_grows, sent_stands, stand_in, AllStand, Cut, first_values, held_in, IsCutWithin, IsMadeIn, IsShortest}
 use Rattle.kahn_needs.proofs.Ways.{AllOf, are_tapes, enough, eqb_refl, fewest, needed, taken, taken_left}
 
 -- ---- lists and numbers
@@ -7,8 +7,7 @@ use Rattle.kahn_needs.proofs.Ways.{AllOf, are_tapes, enough, eqb_refl, fewest, n
 pub prefix_length : (xs ys : List Value) → IsPrefix xs ys → length xs ≤ length ys
 prefix_length xs ys h =
     let e : length ys ≡ length (xs ++ h.0) = ap length h.1 in
-    let f = length-append xs h.0 in
-    omega (arith, e, f)
+    omega (arith, e, length-append xs h.0)
 
 pub take_grows : (a b : ℕ) (xs : List Value) → a ≤ b → IsPrefix (take a xs) (take b xs)
 take_grows zero b xs le = (take b xs, refl)
@@ -51,9 +50,6 @@ join x y = record { values = λ c. max (x.values c) (y.values c); events = λ p.
 join_left : (x y : Cut) → IsCutWithin x (join x y)
 join_left x y = (λ c. le-max_left (x.values c) (y.values c), λ p. le-max_left (x.events p) (y.events p))
 
-join_right : (x y : Cut) → IsCutWithin y (join x y)
-join_right x y = (λ c. le-max_right (x.values c) (y.values c), λ p. le-max_right (x.events p) (y.events p))
-
 join_below : (x y z : Cut) → IsCutWithin x z → IsCutWithin y z → IsCutWithin (join x y) z
 join_below x y z h g = (λ c. both (h.0 c) (g.0 c), λ p. both (h.1 p) (g.1 p))
   where
@@ -62,7 +58,7 @@ join_below x y z h g = (λ c. both (h.0 c) (g.0 c), λ p. both (h.1 p) (g.1 p))
 
 -- ---- what is held
 
-fed_both : (N : Network) (I J : Inputs) → ((d : ℕ) → IsPrefix (I d) (J d)) → (src : Source) (f g : ℕ → List Value) (c : Line) →
+fed_both : (N : Schema) (I J : Inputs) → ((d : ℕ) → IsPrefix (I d) (J d)) → (src : Source) (f g : ℕ → List Value) (c : Line) →
     ((p : ℕ) → IsPrefix (f p) (g p)) → IsPrefix (fed src I f c) (fed src J g c)
 fed_both N I J h Given f g (Channel d) k = h d
 fed_both N I J h Given f g (Print p) k = prefix_refl []
@@ -70,7 +66,7 @@ fed_both N I J h (Written p) f g c k = k p
 fed_both N I J h Nobody f g c k = prefix_refl []
 
 -- a larger cut of longer inputs holds longer histories, and later ones too
-pub held_more : (N : Network) (I J : Inputs) (x y : Cut) → ((d : ℕ) → IsPrefix (first_values x.values I d) (first_values y.values J d)) → ((p : ℕ) → x.events p ≤ y.events p) →
+pub held_more : (N : Schema) (I J : Inputs) (x y : Cut) → ((d : ℕ) → IsPrefix (first_values x.values I d) (first_values y.values J d)) → ((p : ℕ) → x.events p ≤ y.events p) →
     (n m : ℕ) → n ≤ m → IsExtended (held_in N I x n) (held_in N J y m)
 held_more N I J x y h e zero zero le c = fed_both N (first_values x.values I) (first_values y.values J) h (source N c) _ _ c (λ p. prefix_refl [])
 held_more N I J x y h e zero (suc m) le c = fed_both N (first_values x.values I) (first_values y.values J) h (source N c) _ _ c (λ p. (_, refl))
@@ -80,18 +76,17 @@ held_more N I J x y h e (suc n) (suc m) le c =
     out_grows N (x.events p) (y.events p) p (held_in N I x n) (held_in N J y m) c (e p)
     (feeds (instance_at N p) (held_in N I x n) (held_in N J y m) (held_more N I J x y h e n m (le_of_suc-le-suc le))))
 
-pub held_within : (N : Network) (I : Inputs) (x y : Cut) → IsCutWithin x y → (n m : ℕ) → n ≤ m → IsExtended (held_in N I x n) (held_in N I y m)
+pub held_within : (N : Schema) (I : Inputs) (x y : Cut) → IsCutWithin x y → (n m : ℕ) → n ≤ m → IsExtended (held_in N I x n) (held_in N I y m)
 held_within N I x y h = held_more N I I x y (λ d. take_grows (x.values d) (y.values d) (I d) (h.0 d)) h.1
 
 -- what is fed stands, if what is sent does
-pub fed_stands : (N : Network) (I J : Inputs) (c : Line) (f : ℕ → List Value) → ((d : ℕ) → IsPrefix (I d) (J d)) → ((p : ℕ) → source N c ≡ Written p → AllStand N J c (f p)) →
+pub fed_stands : (N : Schema) (I J : Inputs) (c : Line) (f : ℕ → List Value) → ((d : ℕ) → IsPrefix (I d) (J d)) → ((p : ℕ) → source N c ≡ Written p → AllStand N J c (f p)) →
     (src : Source) → source N c ≡ src → AllStand N J c (fed src I f c)
 fed_stands N I J (Channel d) f longer sent Given e k v at = (0, rw e (prefix_get (I d) (J d) (longer d) k v at))
-fed_stands N I J (Print p) f longer sent Given e k v at = absurd cc
 fed_stands N I J c f longer sent (Written p) e k v at = sent p e k v at
-fed_stands N I J c f longer sent Nobody e k v at = absurd cc
+fed_stands N I J c f longer sent s e k v at = absurd cc
 
-module _ (N : Network) (I : Inputs) (x : Cut) where
+module _ (N : Schema) (I : Inputs) (x : Cut) where
   -- in all inputs that begin with the values of the cut
   pub held_stands : (J : Inputs) → ((d : ℕ) → IsPrefix (first_values x.values I d) (J d)) → (n : ℕ) → AllOf N J (held_in N I x n)
   held_stands J longer zero c = fed_stands N (first_values x.values I) J c (λ p. []) longer (λ p e k v at. absurd cc) (source N c) refl
@@ -133,7 +128,7 @@ module _ (N : Network) (I : Inputs) (x : Cut) where
 
 -- ---- the least cut that holds what is wanted
 
-pub record Least (N : Network) (I : Inputs) (P : Histories → Type 0) : Type 0 where
+pub record Least (N : Schema) (I : Inputs) (P : Histories → Type 0) : Type 0 where
   pub cut : Cut
   pub enough : (n : ℕ) × P (held_in N I cut n)
   pub least : (y : Cut) (A : Histories) → IsMadeIn N I y A → P A → IsCutWithin cut y
@@ -146,7 +141,7 @@ tape_grows t (Reads d) H G h l = let m = prefix_length (H (Channel d)) (G (Chann
 tape_grows t (Writes d) H G h l = l
 tape_grows t (Hands v) H G h l = l
 
-module _ (N : Network) (I : Inputs) where
+module _ (N : Schema) (I : Inputs) where
   abbrev nothing : Cut
   nothing = record { values = λ c. 0; events = λ p. 0 }
 
@@ -162,7 +157,7 @@ module _ (N : Network) (I : Inputs) where
         enough = (
           n,
           there (held_in N I z n) (p _ _ (held_within N I x.cut z (join_left x.cut y.cut) x.enough.0 n (le-max_left x.enough.0 y.enough.0)) x.enough.1)
-              (q _ _ (held_within N I y.cut z (join_right x.cut y.cut) y.enough.0 n (le-max_right x.enough.0 y.enough.0)) y.enough.1),
+              (q _ _ (held_within N I y.cut z (λ c. le-max_right (x.cut.values c) (y.cut.values c), λ p. le-max_right (x.cut.events p) (y.cut.events p)) y.enough.0 n (le-max_right x.enough.0 y.enough.0)) y.enough.1),
         );
         least = λ w A made h. join_below x.cut y.cut w (x.least w A made (back A h).0) (y.least w A made (back A h).1);
       }
@@ -175,12 +170,10 @@ module _ (N : Network) (I : Inputs) where
   found_given (Print p) k e h = absurd (omega (arith, h))
   found_given (Channel d) k e h =
       let x : Cut = record { values = only d (suc k); events = λ p. 0 } in
-      let f = ap length (held_given N I x 0 (Channel d) e) in
       let g = length-take (only d (suc k) d) (I d) in
-      let t = only_there d (suc k) in
       record {
         cut = x;
-        enough = (0, omega (arith, f, g, t, h));
+        enough = (0, omega (arith, ap length (held_given N I x 0 (Channel d) e), g, only_there d (suc k), h));
         least = λ y A made g. (only_below d (suc k) y.values (let l = made.given d e in omega (arith, g, l)), λ p. omega arith);
       }
 
@@ -221,14 +214,13 @@ module _ (N : Network) (I : Inputs) where
         found_by all =
             let x = join all.cut (record { values = λ d. 0; events = only p e }) in
             let m = all.enough.0 in
-            let o = only_there p e in
             let l = le-max_right (all.cut.events p) (only p e p) in
             record {
               cut = x;
               enough = (
                 suc m,
                 subst (λ l. k < length l) (sym (held_written N I x m c p src))
-                    (enough N I p c k e H stand short (x.events p) (held_in N I x m) (held_all N I x m) (omega (arith, o, l))
+                    (enough N I p c k e H stand short (x.events p) (held_in N I x m) (held_all N I x m) (omega (arith, only_there p e, l))
                     (λ q. tape_grows (t q) (actual_at (instance_at N p) q) _ _ (held_within N I all.cut x (join_left all.cut _) m m (le_refl m)) (all.enough.1 q))),
               );
               least = λ y A made h.

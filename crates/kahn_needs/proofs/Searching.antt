@@ -1,5 +1,5 @@
 -- One turn of a search: what is forced stays so, and what a process waits for is wanted.
-use Rattle.kahn_needs.proofs.Common.{arith, ◌≡◌, inl, inr, ℕ, zero, suc, le_refl, ◌+◌, ◌≤◌, ◌<◌, length, take, refl, sym, ap, ◌∙◌, subst, Option, Some, slice_get, slice_index_or, same_Some, there, within, reads, reads_listed, Lists, inputs_of, IsWriter, Network, Reads, Writes, Given, Written, actual_at, channel_source, instance_at, network_of, role_at, Dry, Inputs, Ending, Ended, Faulted, Waiting as Waits_for, ending, input_list, out, source, tape_of, Side, Program, Input, Failure, Line, Channel, Print, IsFed, set_each, set_here, StoodBy, exec_on, sent_on, next_at, taken_of, waiting_of, AreCounts, CellView, told_view, count, Pause, Cut, held_in, IsNetworkLine, HasActed, HaveSeats, AreSeatsOf, Stood, Seats, AreForced, HasSentSoMany, HoldsIn, HoldsAt, IsWaitChain, IsDemand, IsNoLater, IsPausedAt, IsSooner, IsWanted}
+use Rattle.kahn_needs.proofs.Common.{arith, ◌≡◌, inl, inr, ℕ, zero, suc, le_refl, ◌+◌, ◌≤◌, ◌<◌, length, take, refl, sym, ap, ◌∙◌, subst, Option, Some, slice_get, slice_index_or, same_Some, there, within, reads, reads_listed, Lists, inputs_of, IsWriter, Schema, Reads, Writes, Given, Written, actual_at, channel_source, instance_at, network_of, role_at, Dry, Inputs, Ending, Ended, Faulted, Waiting as Waits_for, ending, input_list, out, source, tape_of, Side, Program, Input, Failure, Line, Channel, Print, IsFed, set_each, set_here, StoodBy, exec_on, sent_on, next_at, taken_of, waiting_of, AreCounts, CellView, told_view, count, Pause, Cut, held_in, IsNetworkLine, HasActed, HaveSeats, AreSeatsOf, Stood, Seats, AreForced, HasSentSoMany, HoldsIn, HoldsAt, IsWaitChain, IsDemand, IsNoLater, IsPausedAt, IsSooner, IsWanted}
 use Rattle.kahn_code.specs.Lines.{Waiting}
 use Rattle.kahn_code.specs.declared.progress.Pause.TheVariants as pause
 use Rattle.kahn_needs.specs.declared.search.Chain.{Chain}
@@ -7,12 +7,9 @@ use Rattle.kahn_needs.proofs.{Benched.found, Needing.held_all, Needing.held_befo
 use Rattle.kahn_needs.proofs.Ways as way
 
 -- of an input a cut has no more than its list
-pub given_within : (N : Network) (I : Inputs) (y : Cut) (d : Line) (j : ℕ) → source N d ≡ Given → HoldsAt N I y d j → j < length (input_list I d)
+pub given_within : (N : Schema) (I : Inputs) (y : Cut) (d : Line) (j : ℕ) → source N d ≡ Given → HoldsAt N I y d j → j < length (input_list I d)
 given_within N I y (Channel d) j e h =
-    let f = ap length (held_given N I y h.0 (Channel d) e) in
-    let l = prefix_length (take (y.values d) (I d)) (I d) (take_below (y.values d) (I d)) in
-    let g = h.1 in
-    omega (arith, f, l, g)
+    omega (arith, ap length (held_given N I y h.0 (Channel d) e), prefix_length (take (y.values d) (I d)) (I d) (take_below (y.values d) (I d)), h.1)
 given_within N I y (Print p) j e h = absurd cc
 
 -- a cut has the events of a cell, and the values that it took
@@ -22,7 +19,7 @@ Needs_all t lists y o x =
     × ((q e i : ℕ) → actual_at (instance_at (network_of t) o) q ≡ Reads e → i < count x.taken q → HoldsAt (network_of t) (inputs_of lists) y (Channel e) i)
 
 module _ (b : Seats) (laid : HaveSeats b) where
-  abbrev N : Network
+  abbrev N : Schema
   N = network_of b.network
 
   abbrev I : Inputs
@@ -35,9 +32,6 @@ module _ (b : Seats) (laid : HaveSeats b) where
       let own : actual_at (instance_at (network_of x.network) x.instance) q ≡ actual_at (instance_at N p) q =
       ap (λ t. actual_at (instance_at (network_of t) x.instance) q) s.network ∙ ap (λ i. actual_at (instance_at N i) q) s.instance in
       sym (ap (next_at b.queues.queues) e) ∙ sym (ap (λ t. next_at b.queues.queues (actual_at (instance_at (network_of t) p) q)) laid.network) ∙ s.at.reads q d (own ∙ e)
-
-  queue_there : (d : ℕ) → d < length N.channels → (w : Waiting) × (slice_get b.queues.queues d ≡ Some w)
-  queue_there d l = there b.queues.queues d (subst (λ n. d < n) (sym (laid.queued.count ∙ ap (λ t. length (network_of t).channels) laid.network)) l)
 
   -- what was put on an input is its list
   pub given_there : (d : ℕ) (w : Waiting) → slice_get b.queues.queues d ≡ Some w → role_at N d ≡ Input → w.taken + w.waiting ≡ length (I d)
@@ -76,23 +70,16 @@ module _ (b : Seats) (laid : HaveSeats b) where
         sooner y there =
             let m = before y there in
             let l = way.waits_there N I b.watch p (told_view h.0) h.2.stood d j (less h.0 h.1 h.2.stood) (y.events p) (held_in N I y m.0) (held_all N I y m.0) m.2 q dry in
-            let f = ap (λ a. length (tape_of (held_in N I y m.0) a)) r in
-            let t = taken_there p q e h.0 h.1 r in
-            ((m.0, omega (arith, l, f, t)), m.1)
+            ((m.0, omega (arith, l, ap (λ a. length (tape_of (held_in N I y m.0) a)) r, taken_there p q e h.0 h.1 r)), m.1)
 
         same : {x y : ℕ} → Reads x ≡ Reads y → x ≡ y
         same f = cc
 
-        empty_there : waiting_of (slice_get b.queues.queues e) ≡ 0
-        empty_there = subst (λ f. waiting_of (slice_get b.queues.queues f) ≡ 0) (same (sym h.2.is.1 ∙ r)) h.2.is.3
-
         by : IsFed N e → source N (Channel e) ≡ Given → length (I e) ≤ taken_of (slice_get b.queues.queues e)
         by (inl (f, role)) s =
-            let w = queue_there e listed in
-            let sum = given_there e w.0 w.1 role in
-            let a = ap taken_of w.1 in
-            let z = sym (ap waiting_of w.1) ∙ empty_there in
-            omega (arith, sum, a, z)
+            let w = there b.queues.queues e (subst (λ n. e < n) (sym (laid.queued.count ∙ ap (λ t. length (network_of t).channels) laid.network)) listed) in
+            let z = sym (ap waiting_of w.1) ∙ subst (λ f. waiting_of (slice_get b.queues.queues f) ≡ 0) (same (sym h.2.is.1 ∙ r)) h.2.is.3 in
+            omega (arith, given_there e w.0 w.1 role, ap taken_of w.1, z)
         by (inr w) s = let f : Given ≡ Written w.0 = sym s ∙ w.2 in absurd cc
 
     -- it is at an end, so there is none
@@ -124,13 +111,11 @@ module _ (b : Seats) (laid : HaveSeats b) where
           let m = before y (demand.wanted y there) in
           let A = held_in N I y m.0 in
           let less' = less a.old a.was stood in
-          let g = way.goes_further N I b.watch p (told_view a.old) stood d j less' (y.events p) A (held_all N I y m.0) m.2 in
           let one_more = a.events.1 in (
-            omega (arith, g, one_more),
+            omega (arith, way.goes_further N I b.watch p (told_view a.old) stood d j less' (y.events p) A (held_all N I y m.0) m.2, one_more),
             λ q e i r l.
                 let t = way.taken_there N I b.watch p (told_view a.old) stood d j less' (y.events p) A (held_all N I y m.0) m.2 (told_view a.new) after one_more q in
-                let f = ap (λ a. length (tape_of A a)) r in
-                (m.0, omega (arith, t, f, l)),
+                (m.0, omega (arith, t, ap (λ a. length (tape_of A a)) r, l)),
           )
 
       on : (y : Cut) → HoldsAt N I y c k → (o : ℕ) (x : CellView) → slice_get b'.cells o ≡ Some x → Needs_all b.network b.input y o x
@@ -145,7 +130,7 @@ module _ (b : Seats) (laid : HaveSeats b) where
 -- ---- the same demand later
 
 module _ (b b' : Seats) (names : AreSeatsOf b.network b.input b.watch b') (c : Line) (k : ℕ) where
-  still : (P : Network → Inputs → Type 0) → P (network_of b.network) (inputs_of b.input) → P (network_of b'.network) (inputs_of b'.input)
+  still : (P : Schema → Inputs → Type 0) → P (network_of b.network) (inputs_of b.input) → P (network_of b'.network) (inputs_of b'.input)
   still P = subst (λ (t : Program × Lists). P (network_of t.0) (inputs_of t.1)) (λ i. (sym names.0 i, sym names.1 i))
 
   pub demand_on : (d : Line) (j : ℕ) → IsDemand b c k d j → IsDemand b' c k d j
@@ -172,9 +157,7 @@ pub chain_longer : (b : Seats) (m : Line) (i : ℕ) (d : Line) (j : ℕ) (e : Li
 chain_longer b m i d j e l later sooner y h =
     let f = later y h in
     let g = sooner y f.0 in
-    let a = f.1 in
-    let n = g.1 in
-    (g.0, omega (arith, a, n))
+    (g.0, omega (arith, f.1, g.1))
 
 pub no_later : (b : Seats) (m : Line) (i : ℕ) (e : Line) (l : ℕ) → IsSooner b m i e l → IsNoLater b m i e l
 no_later b m i e l sooner y h = let g = sooner y h in let n = g.1 in (g.0, omega (arith, n))
@@ -194,9 +177,7 @@ ring_never b c k m i d j e l wanted later sooner same at y h =
 -- no cut has what an input hasn't
 pub none_given : (b : Seats) (c : Line) (k : ℕ) (d : Line) (j : ℕ) → IsDemand b c k d j → source (network_of b.network) d ≡ Given → (y : Cut) → HoldsIn b y c k → ⊥
 none_given b c k d j h s y there =
-    let l = given_within (network_of b.network) (inputs_of b.input) y d j s (h.wanted y there) in
-    let m = h.given s in
-    omega (arith, l, m)
+    omega (arith, given_within (network_of b.network) (inputs_of b.input) y d j s (h.wanted y there), h.given s)
 
 -- the pause after an event, or none
 pub paused_at : (b b' : Seats) (p : ℕ) (z : Pause) → HaveSeats b → HasActed b b' p z → IsPausedAt b' p z
@@ -215,11 +196,9 @@ module _ {b n : Seats} (is : b ≡ n) (laid : HaveSeats b) (c : ℕ) (s : Side) 
   pub parameter_there : AreCounts x → s.parameter < length x.sent
   parameter_there counts =
       let seat = laid.each s.instance x cell_at in
-      let a = counts.sent_size in
       let e : length (instance_at (network_of x.network) x.instance).actuals ≡ length (instance_at (network_of b.network) s.instance).actuals =
       ap (λ t. length (instance_at (network_of t) x.instance).actuals) seat.network ∙ ap (λ i. length (instance_at (network_of b.network) i).actuals) seat.instance in
-      let l = writer.0.1 in
-      omega (arith, a, e, l)
+      omega (arith, counts.sent_size, e, writer.0.1)
 
   sent_here : channel_source (network_of b.network) c ≡ Written s.instance → HasSentSoMany b (Channel c) (count x.sent s.parameter)
   sent_here source_is p src x' at stood =

@@ -1,5 +1,5 @@
 -- What all cells did for a value, and nothing more, is what it needs.
-use Rattle.kahn_needs.proofs.Common.{fun_ext, arith, ◌≡◌, ◌⊎◌, inl, inr, ℕ, zero, suc, ◌≤◌, ◌<◌, List, [], ◌∷◌, length, refl, sym, ap, ◌∙◌, subst, le_refl, Option, Some, None, false, slice_get, slice_index_or, length-take, cases_lt, get_or_past, get_or_from_slice_get, slice_get_within, there, grows_play, values_append, script_at, outputs, reads, reads_listed, is_output, Lists, inputs_of, IsServed, Network, Reads, Writes, Given, Written, Nobody, Source, actual_at, instance_at, network_of, role_at, Tapes, play, Histories, Inputs, fed, goes_to, IsPrefix, out, source, tape_of, tapes_of, values_at, Stands, empty, Program, Inner, Input, Output, Line, Channel, Value, IsFed, sent_stands, stand_in, AllStand, exec_on, sent_on, given_of, next_at, taken_of, CellView, count, AreNeeds, Cut, Suffices, first_values, held_in, IsMadeIn, cut_told, of_input, AreCounted, HaveSeats, Seats, events_in, events_seen, taken_in, AreForced, HasCome, HasValue, HoldsIn, HoldsAt, play_zero}
+use Rattle.kahn_needs.proofs.Common.{fun_ext, arith, ◌≡◌, ◌⊎◌, inl, inr, ℕ, zero, suc, ◌≤◌, ◌<◌, List, [], ◌∷◌, length, refl, sym, ap, ◌∙◌, subst, le_refl, Option, Some, None, false, slice_get, slice_index_or, length-take, cases_lt, get_or_past, get_or_from_slice_get, slice_get_within, there, grows_play, values_append, script_at, outputs, reads, reads_listed, is_output, Lists, inputs_of, IsServed, Schema, Reads, Writes, Given, Written, Nobody, Source, actual_at, instance_at, network_of, role_at, Tapes, play, Histories, Inputs, fed, goes_to, IsPrefix, out, source, tape_of, tapes_of, values_at, Stands, empty, Program, Inner, Input, Output, Line, Channel, Value, IsFed, sent_stands, stand_in, AllStand, exec_on, sent_on, given_of, next_at, taken_of, CellView, count, AreNeeds, Cut, Suffices, first_values, held_in, IsMadeIn, cut_told, of_input, AreCounted, HaveSeats, Seats, events_in, events_seen, taken_in, AreForced, HasCome, HasValue, HoldsIn, HoldsAt, play_zero}
 use Rattle.kahn_streams.proofs.Sided.{channel_served}
 use Rattle.kahn_streams.specs.declared.tree.Role.{Role}
 use Rattle.kahn_code.proofs.Readers.{joins_within}
@@ -34,7 +34,7 @@ record Did (b : Seats) (p : ℕ) : Type 0 where
       length (sent_on (network_of b.network) e p tapes (Channel d)) ≡ given_of (slice_get b.queues.queues d)
 
 module _ (b : Seats) (laid : HaveSeats b) where
-  abbrev N : Network
+  abbrev N : Schema
   N = network_of b.network
 
   abbrev I : Inputs
@@ -107,39 +107,27 @@ module _ (b : Seats) (laid : HaveSeats b) where
     A_is : (c : Line) (src : Source) → source N c ≡ src → A c ≡ fed src (first_values x.values I) (λ p. sent_on N (did p).e p (did p).tapes c) c
     A_is c src s = ap (λ o. fed o (first_values x.values I) (λ p. sent_on N (did p).e p (did p).tapes c) c) s
 
-    queue_of_channel : (d : ℕ) → d < length N.channels → (w : Waiting) × (slice_get b.queues.queues d ≡ Some w)
-    queue_of_channel d l = there b.queues.queues d (let n = laid.queued.count ∙ ap (λ t. length (network_of t).channels) laid.network in omega (arith, l, n))
-
     long : (p q d : ℕ) → actual_at (instance_at N p) q ≡ Reads d → taken_in b d ≤ length (A (Channel d))
     long p q d r = by (reads b.network laid.wired p q d r)
       where
         w : (w : Waiting) × (slice_get b.queues.queues d ≡ Some w)
-        w = queue_of_channel d (reads_listed b.network laid.wired p q d r)
+        w =
+            let l = reads_listed b.network laid.wired p q d r in
+            there b.queues.queues d (let n = laid.queued.count ∙ ap (λ t. length (network_of t).channels) laid.network in omega (arith, l, n))
 
         by : IsFed N d → taken_in b d ≤ length (A (Channel d))
         by (inl (s, role)) =
-            let f = ap length (A_is (Channel d) Given s) in
-            let g = length-take (x.values d) (I d) in
-            let e = given_is d s in
-            let sum = given_there b laid d w.0 w.1 role in
-            let t = ap taken_of w.1 in
-            omega (arith, f, g, e, sum, t)
+            omega (arith, ap length (A_is (Channel d) Given s), length-take (x.values d) (I d), given_is d s, given_there b laid d w.0 w.1 role, ap taken_of w.1)
         by (inr (o, r', s, wr, role)) =
-            let f = ap length (A_is (Channel d) (Written o) s) in
-            let g = (did o).gave r' d wr (ap is_output role) in
-            let t = ap taken_of w.1 in
-            let u = ap given_of w.1 in
-            omega (arith, f, g, t, u)
+            omega (arith, ap length (A_is (Channel d) (Written o) s), (did o).gave r' d wr (ap is_output role), ap taken_of w.1, ap given_of w.1)
 
     begins : (p q : ℕ) → IsPrefix ((did p).tapes q) (tapes_of (instance_at N p) A q)
     begins p q = by (reads_or (actual_at (instance_at N p) q))
       where
         by : ((d : ℕ) × (actual_at (instance_at N p) q ≡ Reads d)) ⊎ ((d : ℕ) → actual_at (instance_at N p) q ≡ Reads d → ⊥) → IsPrefix ((did p).tapes q) (tapes_of (instance_at N p) A q)
         by (inl (d, r)) =
-            let t = (did p).took q d r in
-            let l = long p q d r in
             subst (λ a. IsPrefix ((did p).tapes q) (tape_of A a)) (sym r)
-            (both_stand N I (Channel d) ((did p).tapes q) (A (Channel d)) ((did p).are.stand q d r) (stands (Channel d)) (omega (arith, t, l)))
+            (both_stand N I (Channel d) ((did p).tapes q) (A (Channel d)) ((did p).are.stand q d r) (stands (Channel d)) (omega (arith, (did p).took q d r, long p q d r)))
         by (inr n) = subst (λ l. IsPrefix l (tapes_of (instance_at N p) A q)) (sym ((did p).are.none q n)) (_, refl)
 
     -- on them it sends at least what it sent on its tapes
@@ -150,14 +138,11 @@ module _ (b : Seats) (laid : HaveSeats b) where
         let there = ap (λ U. values_at (goes_to N p c) (play (did p).e (script_at N (did p).e p) U).sent) (fun_ext (λ q. (begins p q).1)) in
         (values_at (goes_to N p c) more.0, there ∙ (ap (values_at (goes_to N p c)) more.1 ∙ values_append (goes_to N p c) (exec_on N (did p).e p T).sent more.0))
 
-    events_same : (p : ℕ) → (did p).e ≡ x.events p
-    events_same p = (did p).same ∙ sym (event_is p)
-
     made : IsMadeIn N I x A
     made = record {
       below = λ c. stand_in N I c (A c) (stands c);
       given = λ d s. subst (λ l. length l ≤ x.values d) (sym (A_is (Channel d) Given s)) (take_length (x.values d) (I d));
-      written = λ c p s. subst (λ n. IsPrefix (A c) (out N n p A c)) (events_same p) (subst (λ l. IsPrefix l (out N (did p).e p A c)) (sym (A_is c (Written p) s)) (sends p c));
+      written = λ c p s. subst (λ n. IsPrefix (A c) (out N n p A c)) ((did p).same ∙ sym (event_is p)) (subst (λ l. IsPrefix l (out N (did p).e p A c)) (sym (A_is c (Written p) s)) (sends p c));
     }
 
     -- ---- it is enough, and the least
@@ -193,12 +178,8 @@ module _ (b : Seats) (laid : HaveSeats b) where
               by' (inl l) =
                   let r = read_of d s l in
                   let z = there b.cells r.0 (let n = laid.count in let m = r.3 in omega (arith, n, m)) in
-                  let t = taken_there b laid r.0 r.1 d z.0 z.1 r.2 in
-                  let held = (forced y h r.0 z.0 z.1).1 r.1 d j r.2 (omega (arith, t, e)) in
-                  let f = ap length (held_given N I y held.0 (Channel d) s) in
-                  let g = take_length (y.values d) (I d) in
-                  let m = held.1 in
-                  omega (arith, f, g, m)
+                  let held = (forced y h r.0 z.0 z.1).1 r.1 d j r.2 (omega (arith, taken_there b laid r.0 r.1 d z.0 z.1 r.2, e)) in
+                  omega (arith, ap length (held_given N I y held.0 (Channel d) s), take_length (y.values d) (I d), held.1)
               by' (inr l) =
                   let z = ap taken_of (past_none b.queues.queues d (let n = laid.queued.count ∙ ap (λ t. length (network_of t).channels) laid.network in omega (arith, l, n))) in
                   absurd (omega (arith, z, e))

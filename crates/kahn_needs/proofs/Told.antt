@@ -1,14 +1,14 @@
 -- The laws of needs, proved.
-use Rattle.kahn_needs.proofs.Common.{fun_ext, arith, ◌≡◌, ◌⊎◌, inl, inr, ℕ, zero, suc, ◌≤◌, ◌<◌, List, [], ◌∷◌, ◌++◌, length, take, refl, sym, ap, ◌∙◌, subst, le_refl, eq-or-lt_of_le, le_trans, Option, Some, None, slice_get, slice_index_or, get_or_past, take-append-le, slice_get_within, Value, Line, Channel, Network, idle, instance_at, Given, Written, Histories, Inputs, out, source, iterate, IsPrefix, Stands, AreInputsExtended, AreRight, prefix_refl, prefix_trans, prefix_get, feeds, out_grows, chain, one_value, inputs_grow, stand_in, Cut, first_values, held_in, Suffices, IsCutWithin, AreNeeds, AreInOrder, AreParts, HaveNeeds, AreOneCut, AreEnough, AreExact, IsMadeIn, AreRunsNeeds, AreDone, AreSameNeeds, IsTight, AreTight}
+use Rattle.kahn_needs.proofs.Common.{fun_ext, arith, ◌≡◌, ◌⊎◌, inl, inr, ℕ, zero, suc, ◌≤◌, ◌<◌, List, [], ◌∷◌, ◌++◌, length, take, refl, sym, ap, ◌∙◌, subst, le_refl, eq-or-lt_of_le, le_trans, Option, Some, None, slice_get, slice_index_or, get_or_past, take-append-le, slice_get_within, Value, Line, Channel, Schema, idle, instance_at, Given, Written, Histories, Inputs, out, source, iterate, IsPrefix, Stands, AreInputsExtended, AreRight, prefix_refl, prefix_trans, prefix_get, feeds, out_grows, chain, one_value, inputs_grow, stand_in, Cut, first_values, held_in, Suffices, IsCutWithin, AreNeeds, AreInOrder, AreParts, HaveNeeds, AreOneCut, AreEnough, AreExact, IsMadeIn, AreRunsNeeds, AreDone, AreSameNeeds, IsTight, AreTight}
 use Rattle.kahn_streams.specs.{declared.answer.End.End, declared.answer.Verdict.Verdict}
 use Rattle.kahn_needs.proofs.{Needing.take_below, Needing.held_all, Needing.held_made, Needing.held_more, Needing.held_stands, Needing.held_within, Needing.Found, Needing.found, Ways.get_there}
 
-pub parts : (N : Network) (I : Inputs) → AreParts N I
+pub parts : (N : Schema) (I : Inputs) → AreParts N I
 parts N I = record { more = λ x y w n. held_within N I x y w n n (le_refl n); begin = λ x n c. stand_in N I c (held_in N I x n c) (held_all N I x n c) }
 
 -- ---- a place that is filled has the value that stands there
 
-module _ (N : Network) (I : Inputs) (c : Line) (k : ℕ) (v : Value) where
+module _ (N : Schema) (I : Inputs) (c : Line) (k : ℕ) (v : Value) where
   stands_below : (x : Cut) → Suffices N I c k v x → Stands N I c k v
   stands_below x s = held_all N I x s.0 c k v s.1
 
@@ -38,7 +38,7 @@ module _ (N : Network) (I : Inputs) (c : Line) (k : ℕ) (v : Value) where
       let b = f.least y A made (slice_get_within (A c) k v e) in
       (λ d. le_trans (a.0 d) (b.0 d), λ p. le_trans (a.1 p) (b.1 p))
 
-pub have_needs : (N : Network) (I : Inputs) → HaveNeeds N I
+pub have_needs : (N : Schema) (I : Inputs) → HaveNeeds N I
 have_needs N I c k v s = ((the_needs N I c k v s).cut, needs_of N I c k v s)
 
 -- ---- one cut
@@ -52,30 +52,30 @@ same_cut x y h g =
     let f : x.events ≡ y.events = fun_ext (λ p. both_ways (x.events p) (y.events p) (h.1 p) (g.1 p)) in
     λ j. record { values = e j; events = f j }
 
-pub one_cut : (N : Network) (I : Inputs) → AreOneCut N I
+pub one_cut : (N : Schema) (I : Inputs) → AreOneCut N I
 one_cut N I c k v w x y h g =
     let e : v ≡ w = one_value N I c k v w (stands_below N I c k v x h.enough) (stands_below N I c k w y g.enough) in
     same_cut x y (h.least y (subst (λ u. Suffices N I c k u y) (sym e) g.enough)) (g.least x (subst (λ u. Suffices N I c k u x) e h.enough))
 
 -- ---- inputs
 
-pub enough : (N : Network) → AreEnough N
+pub enough : (N : Schema) → AreEnough N
 enough N I J c k v x h longer = held_stands N I x J longer h.enough.0 c k v h.enough.1
 
 -- with so many events each, and so many values
 abbrev all_of : Inputs → ℕ → Cut
 all_of J n = record { values = λ d. length (J d); events = λ p. n }
 
-input_length : (N : Network) (J : Inputs) (n d : ℕ) → source N (Channel d) ≡ Given → length (iterate N J n (Channel d)) ≤ length (J d)
+input_length : (N : Schema) (J : Inputs) (n d : ℕ) → source N (Channel d) ≡ Given → length (iterate N J n (Channel d)) ≤ length (J d)
 input_length N J zero d e = rw e (le_refl (length (J d)))
 input_length N J (suc n) d e = rw e (le_refl (length (J d)))
 
-iterate_written : (N : Network) (J : Inputs) (n : ℕ) (c : Line) (p : ℕ) → source N c ≡ Written p → IsPrefix (iterate N J n c) (out N n p (iterate N J n) c)
+iterate_written : (N : Schema) (J : Inputs) (n : ℕ) (c : Line) (p : ℕ) → source N c ≡ Written p → IsPrefix (iterate N J n c) (out N n p (iterate N J n) c)
 iterate_written N J zero c p e = rw e (_, refl)
 iterate_written N J (suc n) c p e =
     rw e (out_grows N n (suc n) p (iterate N J n) (iterate N J (suc n)) c (omega arith) (feeds (instance_at N p) (iterate N J n) (iterate N J (suc n)) (chain N J n)))
 
-iterate_made : (N : Network) (I J : Inputs) → AreInputsExtended J I → (n : ℕ) → IsMadeIn N I (all_of J n) (iterate N J n)
+iterate_made : (N : Schema) (I J : Inputs) → AreInputsExtended J I → (n : ℕ) → IsMadeIn N I (all_of J n) (iterate N J n)
 iterate_made N I J h n =
     record {
       below = λ c. (n, inputs_grow N J I h n c);
@@ -87,7 +87,7 @@ iterate_made N I J h n =
 take_alike : (a : ℕ) (xs ys : List Value) → IsPrefix xs ys → a ≤ length xs → take a ys ≡ take a xs
 take_alike a xs ys (zs, e) l = ap (take a) e ∙ take-append-le a xs zs l
 
-pub exact : (N : Network) → AreExact N
+pub exact : (N : Schema) → AreExact N
 exact N I J c k v x h shorter = (needed, λ l. enough N I J c k v x h (λ d. subst (λ o. IsPrefix o (J d)) (sym (take_alike (x.values d) (J d) (I d) (shorter d) (l d))) (take_below (x.values d) (J d))))
   where
     needed : Stands N J c k v → (d : ℕ) → x.values d ≤ length (J d)
@@ -95,12 +95,12 @@ exact N I J c k v x h shorter = (needed, λ l. enough N I J c k v x h (λ d. sub
 
 -- ---- longer inputs
 
-suffices_alike : (N : Network) (I J : Inputs) (c : Line) (k : ℕ) (v : Value) (x : Cut) → ((d : ℕ) → take (x.values d) (I d) ≡ take (x.values d) (J d)) → Suffices N I c k v x
+suffices_alike : (N : Schema) (I J : Inputs) (c : Line) (k : ℕ) (v : Value) (x : Cut) → ((d : ℕ) → take (x.values d) (I d) ≡ take (x.values d) (J d)) → Suffices N I c k v x
     → Suffices N J c k v x
 suffices_alike N I J c k v x same s =
     (s.0, prefix_get _ _ (held_more N I J x x (λ d. subst (IsPrefix (take (x.values d) (I d))) (same d) (prefix_refl _)) (λ p. le_refl (x.events p)) s.0 s.0 (le_refl s.0) c) k v s.1)
 
-kept : (N : Network) (I J : Inputs) (c : Line) (k : ℕ) (v : Value) (x : Cut) → AreInputsExtended I J → AreNeeds N I c k v x → AreNeeds N J c k v x
+kept : (N : Schema) (I J : Inputs) (c : Line) (k : ℕ) (v : Value) (x : Cut) → AreInputsExtended I J → AreNeeds N I c k v x → AreNeeds N J c k v x
 kept N I J c k v x longer h =
     let sI = stands_below N I c k v x h.enough in
     let sJ = enough N I J c k v x h (λ d. prefix_trans _ _ _ (take_below (x.values d) (I d)) (longer d)) in
@@ -112,7 +112,7 @@ kept N I J c k v x longer h =
     let in_J = suffices_alike N I J c k v x (λ d. sym (take_alike (x.values d) (I d) (J d) (longer d) (all d))) h.enough in
     subst (AreNeeds N J c k v) (same_cut y x (hy.least x in_J) (h.least y in_I)) hy
 
-pub same : (N : Network) → AreSameNeeds N
+pub same : (N : Schema) → AreSameNeeds N
 same N I J c k v x h begins =
     let O = first_values x.values I in
     let s : Stands N O c k v = enough N I O c k v x h (λ d. prefix_refl (O d)) in
@@ -123,7 +123,7 @@ same N I J c k v x h begins =
 
 -- ---- runs
 
-pub runs : (N : Network) (I : Inputs) → AreRunsNeeds N I
+pub runs : (N : Schema) (I : Inputs) → AreRunsNeeds N I
 runs N I y A made c k v e =
     let b = made.below c in
     let s : Stands N I c k v = (b.0, prefix_get _ _ b.1 k v e) in
@@ -144,7 +144,7 @@ abbrev cut_of : Inputs → List End → Cut
 cut_of I ends = record { values = λ d. length (I d); events = λ p. events_in (slice_get ends p) }
 
 -- an instance that there isn't sends nothing
-module _ (N : Network) (I : Inputs) (c : Line) (p : ℕ) (src : source N c ≡ Written p) (out_of : instance_at N p ≡ idle) where
+module _ (N : Schema) (I : Inputs) (c : Line) (p : ℕ) (src : source N c ≡ Written p) (out_of : instance_at N p ≡ idle) where
   nothing_sent : (n : ℕ) (H : Histories) → out N n p H c ≡ []
   nothing_sent n H = rw out_of refl
 
@@ -156,7 +156,7 @@ module _ (N : Network) (I : Inputs) (c : Line) (p : ℕ) (src : source N c ≡ W
   nothing_below_it [] b ys = (ys, refl)
   nothing_below_it (x ∷ xs) b ys = let e : [] ≡ x ∷ (xs ++ b.1.0) = sym (nothing_there b.0) ∙ b.1.1 in absurd cc
 
-module _ (N : Network) (I : Inputs) (bound : ℕ) (verdict : Verdict) (ends : List End) (events : ℕ) (run : AreRight N I bound verdict ends events) where
+module _ (N : Schema) (I : Inputs) (bound : ℕ) (verdict : Verdict) (ends : List End) (events : ℕ) (run : AreRight N I bound verdict ends events) where
   sends_all : (c : Line) (p : ℕ) → source N c ≡ Written p → (x : Option End) → slice_get ends p ≡ x → IsPrefix (run.tapes c) (out N (events_in x) p run.tapes c)
   unfolding events_in
   sends_all c p src (Some x) e = subst (λ l. IsPrefix (run.tapes c) l) (sym (run.sends p x e c src)) (prefix_refl (run.tapes c))
@@ -179,7 +179,7 @@ module _ (N : Network) (I : Inputs) (bound : ℕ) (verdict : Verdict) (ends : Li
         written = λ c p src. sends_all c p src (slice_get ends p) refl;
       }
 
-pub done : (N : Network) (I : Inputs) → AreDone N I
+pub done : (N : Schema) (I : Inputs) → AreDone N I
 unfolding events_in
 done N I c k v x h bound verdict ends events run e p end at =
     let w = within_made N I c k v x h (cut_of I ends) run.tapes (answer_made N I bound verdict ends events run) e in
@@ -197,7 +197,7 @@ no_less a b le h = by (eq-or-lt_of_le le)
     by (inl e) = omega (arith, e)
     by (inr l) = absurd (h l)
 
-pub tight : (N : Network) (I : Inputs) → AreTight N I
+pub tight : (N : Schema) (I : Inputs) → AreTight N I
 tight N I c k v x = (there, back)
   where
     there : AreNeeds N I c k v x → IsTight N I c k v x
@@ -222,7 +222,6 @@ tight N I c k v x = (there, back)
 
 -- ---- the values before it
 
-pub in_order : (N : Network) (I : Inputs) → AreInOrder N I
+pub in_order : (N : Schema) (I : Inputs) → AreInOrder N I
 in_order N I c j k v w x y le h g =
-    let l = slice_get_within (held_in N I y g.enough.0 c) k w g.enough.1 in
-    h.least y (suffices_there N I c j v (stands_below N I c j v x h.enough) y g.enough.0 (omega (arith, l, le)))
+    h.least y (suffices_there N I c j v (stands_below N I c j v x h.enough) y g.enough.0 (omega (arith, slice_get_within (held_in N I y g.enough.0 c) k w g.enough.1, le)))

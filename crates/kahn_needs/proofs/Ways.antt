@@ -1,5 +1,5 @@
 -- What the process of an instance does, step by step: on tapes whose values stand all its runs go the same way.
-use Rattle.kahn_needs.proofs.Common.{fun_ext, arith, ◌≡◌, ◌⊎◌, inl, inr, ℕ, zero, suc, ◌+◌, ◌≤◌, ◌<◌, ◌==◌, max, Bool, true, false, if◌then◌else◌, List, [], ◌∷◌, ◌++◌, length, refl, sym, ap, ◌∙◌, subst, le_refl, Option, Some, get_or, slice_get, length-append, le-max_left, le-max_right, cases_lt, slice_get_within, slice_get-get_or, Failure, Value, Line, Channel, Port, Tapes, Script, Give, Fail, Waits, ScriptOutcome, Got, Dry, Fault, Reached, play, Store, Network, Actual, Reads, Writes, Hands, instance_at, actual_at, Histories, Inputs, IsPrefix, Ending, Waiting, ending, exec_at, goes_to, out, tape_of, tapes_of, values_at, Step, Took, Sent, Turned, Follows, here, took, sent, turned, values_taken, sends_of, and_then, since, RanBy, StoppedAt, and_more, counted, exec_alike, one_value, prefix_get, script_at, play_on, ran, found_in, AllStand, StoodBy, View, exec_on, sent_on, IsShortest}
+use Rattle.kahn_needs.proofs.Common.{fun_ext, arith, ◌≡◌, ◌⊎◌, inl, inr, ℕ, zero, suc, ◌+◌, ◌≤◌, ◌<◌, ◌==◌, max, Bool, true, false, if◌then◌else◌, List, [], ◌∷◌, ◌++◌, length, refl, sym, ap, ◌∙◌, subst, le_refl, Option, Some, get_or, slice_get, length-append, le-max_left, le-max_right, cases_lt, slice_get_within, slice_get-get_or, Failure, Value, Line, Channel, Port, Tapes, Script, Give, Fail, Waits, ScriptOutcome, Got, Dry, Fault, Reached, play, Store, Schema, Actual, Reads, Writes, Hands, instance_at, actual_at, Histories, Inputs, IsPrefix, Ending, Waiting, ending, exec_at, goes_to, out, tape_of, tapes_of, values_at, Step, Took, Sent, Turned, Follows, here, took, sent, turned, values_taken, sends_of, and_then, since, RanBy, StoppedAt, and_more, counted, exec_alike, one_value, prefix_get, script_at, play_on, ran, found_in, AllStand, StoodBy, View, exec_on, sent_on, IsShortest}
 use Rattle.kahn_streams.specs.Script.{Cut as Unended}
 use Rattle.kahn_streams.proofs.Fuel.{play_alike}
 
@@ -8,14 +8,13 @@ use Rattle.kahn_streams.proofs.Fuel.{play_alike}
 pub get_there : (xs : List Value) (k : ℕ) (v : Value) → k < length xs → (w : Value) × (slice_get xs k ≡ Some w)
 get_there xs k v h = (get_or xs k v, slice_get-get_or xs k v h)
 
-pub both_stand : (N : Network) (I : Inputs) (c : Line) (xs ys : List Value) → AllStand N I c xs → AllStand N I c ys → length xs ≤ length ys → IsPrefix xs ys
+pub both_stand : (N : Schema) (I : Inputs) (c : Line) (xs ys : List Value) → AllStand N I c xs → AllStand N I c ys → length xs ≤ length ys → IsPrefix xs ys
 both_stand N I c xs ys h g le = found_in xs ys (λ k v e.
-    let l = slice_get_within xs k v e in
-    let w = get_there ys k v (omega (arith, l, le)) in
+    let w = get_there ys k v (omega (arith, slice_get_within xs k v e, le)) in
     w.1 ∙ ap Some (one_value N I c k w.0 v (g k w.0 w.1) (h k v e)))
 
 -- the values of a tape stand on the channel that is handed over; there are none where none is read
-pub record AreTapes (N : Network) (I : Inputs) (p : ℕ) (T : Tapes) : Type 0 where
+pub record AreTapes (N : Schema) (I : Inputs) (p : ℕ) (T : Tapes) : Type 0 where
   pub stand : (q d : ℕ) → actual_at (instance_at N p) q ≡ Reads d → AllStand N I (Channel d) (T q)
   pub none : (q : ℕ) → ((d : ℕ) → actual_at (instance_at N p) q ≡ Reads d → ⊥) → T q ≡ []
 
@@ -24,7 +23,7 @@ reads_or (Reads d) = inl (d, refl)
 reads_or (Writes d) = inr (λ b e. absurd cc)
 reads_or (Hands v) = inr (λ b e. absurd cc)
 
-module _ (N : Network) (I : Inputs) (p : ℕ) where
+module _ (N : Schema) (I : Inputs) (p : ℕ) where
   pub shorter : (T U : Tapes) → AreTapes N I p T → AreTapes N I p U → (q : ℕ) → length (T q) ≤ length (U q) → IsPrefix (T q) (U q)
   shorter T U t u q le = by (reads_or (actual_at (instance_at N p) q))
     where
@@ -59,8 +58,7 @@ module _ (N : Network) (I : Inputs) (p : ℕ) where
     where
       nothing : (a : Actual) → ((d : ℕ) → a ≡ Reads d → ⊥) → tape_of A a ≡ []
       nothing (Reads d) none = absurd (none d refl)
-      nothing (Writes d) none = refl
-      nothing (Hands v) none = refl
+      nothing a none = refl
 
 -- ---- steps
 
@@ -129,13 +127,10 @@ meets (turned h) (turned g) same = meets_more Turned (meets h g same)
 -- ---- the ways of an instance
 
 -- by the script for so many events or more
-way : (N : Network) (p m n : ℕ) (T : Tapes) → n ≤ m → RanBy (script_at N m p) T (exec_on N n p T)
+way : (N : Schema) (p m n : ℕ) (T : Tapes) → n ≤ m → RanBy (script_at N m p) T (exec_on N n p T)
 way N p m n T le = subst (RanBy (script_at N m p) T) (sym (play_alike (exec_alike N n m p le) T)) (ran n (script_at N m p) T)
 
-no_longer : (a x b : ℕ) → a ≡ x + b → x ≤ a
-no_longer a x b e = omega (arith, e)
-
-module _ (N : Network) (I : Inputs) (p m : ℕ) where
+module _ (N : Schema) (I : Inputs) (p m : ℕ) where
   abbrev S : Script Store
   S = script_at N m p
 
@@ -163,9 +158,7 @@ module _ (N : Network) (I : Inputs) (p m : ℕ) where
     sends_so : (c : Line) → length steps ≤ n → n ≤ m → sends (goes_to N p c) steps ≤ length (sent_on N n p T c)
     sends_so c long le =
         let i = rest steps n long in
-        let e = ap (λ r. length (values_at (goes_to N p c) r.sent)) (there i.0 i.1 le) in
-        let f = more (goes_to N p c) (sends_of steps) (play i.0 to (λ q. (begun q).0)).sent in
-        omega (arith, e, f)
+        omega (arith, ap (λ r. length (values_at (goes_to N p c) r.sent)) (there i.0 i.1 le), more (goes_to N p c) (sends_of steps) (play i.0 to (λ q. (begun q).0)).sent)
       where
         rest : (a : List Step) (k : ℕ) → length a ≤ k → (i : ℕ) × (k ≡ and_then a i)
         rest [] k l = (k, refl)
@@ -196,10 +189,10 @@ fewest f k (suc n) h = by (cases_lt k (f 0)) (fewest (λ i. f (suc i)) k n h)
     by (inl l) r = (0, l, λ j m. absurd (omega (arith, m)))
     by (inr l) r = (suc r.0, r.1, before l r.2)
 
-abbrev pub AllOf : Network → Inputs → Histories → Type 0
+abbrev pub AllOf : Schema → Inputs → Histories → Type 0
 AllOf N I A = (c : Line) → AllStand N I c (A c)
 
-module _ (N : Network) (I : Inputs) (p : ℕ) (c : Line) (k e : ℕ) (H : Histories) (stand : AllOf N I H) (short : IsShortest N p c k e H) where
+module _ (N : Schema) (I : Inputs) (p : ℕ) (c : Line) (k e : ℕ) (H : Histories) (stand : AllOf N I H) (short : IsShortest N p c k e H) where
   abbrev T : Tapes
   T = tapes_of (instance_at N p) H
 
@@ -233,9 +226,7 @@ module _ (N : Network) (I : Inputs) (p : ℕ) (c : Line) (k e : ℕ) (H : Histor
     enough le has =
         let g = sends_so N I p m a.follows (took_tapes N I p m a (are_tapes N I p H stand)) f U (are_tapes N I p A all)
         (λ q. let x = a_taken q in let y = has q in omega (arith, x, y)) c (let x = a_within in omega (arith, x, le)) (le-max_right e f) in
-        let h = a_sends in
-        let l = short.there in
-        omega (arith, g, h, l)
+        omega (arith, g, a_sends, short.there)
 
     -- no way on H to so many is shorter
     full : {steps : List Step} {to : Script Store} → Follows (script_at N m p) steps to → AreTapes N I p (values_taken steps) → ((q : ℕ) → length (values_taken steps q) ≤ length (T q)) →
@@ -244,9 +235,8 @@ module _ (N : Network) (I : Inputs) (p : ℕ) (c : Line) (k e : ℕ) (H : Histor
       where
         by : (length steps < e) ⊎ (e ≤ length steps) → e ≤ length steps
         by (inl l) =
-            let g = short.sooner (length steps) l in
             let h = sends_so N I p m follows are (length steps) T (are_tapes N I p H stand) has c (le_refl (length steps)) le in
-            absurd (omega (arith, g, h, more))
+            absurd (omega (arith, short.sooner (length steps) l, h, more))
         by (inr l) = l
 
     pub needed : k < length (out N f p A c) → (e ≤ f) × ((q : ℕ) → taken q ≤ length (U q))
@@ -268,45 +258,34 @@ module _ (N : Network) (I : Inputs) (p : ℕ) (c : Line) (k e : ℕ) (H : Histor
               (let x = a_within in omega (arith, x)) (let x = a_sends in let y = short.there in omega (arith, x, y)) in
               let x = ap length is ∙ length-append a.steps more' in let y = b_within in omega (arith, g, x, y)),
           λ q.
-              let x = a_taken q in
-              let y = ap (λ l. length (values_taken l q)) is ∙ taken_both a.steps more' q in
-              let z = took_within N I p m b q in
-              omega (arith, x, y, z),
+              omega (arith, a_taken q, ap (λ l. length (values_taken l q)) is ∙ taken_both a.steps more' q, took_within N I p m b q),
         )
         by (inr (l, is, go)) =
             let g = full b.follows (took_tapes N I p m b (are_tapes N I p A all))
             (λ q. let x = ap (λ l. length (values_taken l q)) is ∙ taken_both b.steps l q in let y = took_within N I p m a q in omega (arith, x, y))
             (let x = b_within in omega (arith, x)) (let x = ap (λ l. length (values_at (goes_to N p c) l)) b.sent in omega (arith, x, more)) in
-            let x = ap length is ∙ length-append b.steps l in
-            let y = a_within in
             let z = b_within in (
               omega (arith, g, z),
               λ q.
-                  let u = a_taken q in
-                  let v = ap (λ l. length (values_taken l q)) is ∙ taken_both b.steps l q in
-                  let w = took_within N I p m b q in
-                  let n = nothing l q (omega (arith, g, x, y)) in
-                  omega (arith, u, v, w, n),
+                  let n = nothing l q (omega (arith, g, ap length is ∙ length-append b.steps l, a_within)) in
+                  omega (arith, a_taken q, ap (λ l. length (values_taken l q)) is ∙ taken_both b.steps l q, took_within N I p m b q, n),
             )
 
 -- ---- a cell, beside a run that has sent more than it
 
 ends_there : {A : Type 0} {s t : Script A} {x : Step} {steps : List Step} → Follows s (x ∷ steps) t → (a : A) → s ≡ Give a → ⊥
 ends_there (took h) a e = absurd cc
-ends_there (sent h) a e = absurd cc
-ends_there (turned h) a e = absurd cc
+ends_there h a e = absurd cc
 
 fails_there : {A : Type 0} {s t : Script A} {x : Step} {steps : List Step} → Follows s (x ∷ steps) t → (k : Failure) → s ≡ Fail k → ⊥
 fails_there (took h) k e = absurd cc
-fails_there (sent h) k e = absurd cc
-fails_there (turned h) k e = absurd cc
+fails_there h k e = absurd cc
 
 takes_there : {A : Type 0} {s t : Script A} {x : Step} {steps : List Step} → Follows s (x ∷ steps) t → (q : ℕ) (go : Value → Script A) → s ≡ Waits q go → (v : Value) × (x ≡ Took q v)
 takes_there (took {q = r} {v = v} h) q go e = let f : r ≡ q = cc in (v, ap (λ i. Took i v) f)
-takes_there (sent h) q go e = absurd cc
-takes_there (turned h) q go e = absurd cc
+takes_there h q go e = absurd cc
 
-module _ (N : Network) (I : Inputs) (watch : Option ℕ) (p : ℕ) (x : View) (s : StoodBy N I watch p x) (d : Line) (j : ℕ) (few : length (sent_on N x.events p s.tapes d) ≤ j)
+module _ (N : Schema) (I : Inputs) (watch : Option ℕ) (p : ℕ) (x : View) (s : StoodBy N I watch p x) (d : Line) (j : ℕ) (few : length (sent_on N x.events p s.tapes d) ≤ j)
     (n : ℕ) (A : Histories) (all : AllOf N I A) (sent_more : j < length (out N n p A d)) where
   abbrev G : Tapes
   G = tapes_of (instance_at N p) A
@@ -333,23 +312,14 @@ module _ (N : Network) (I : Inputs) (watch : Option ℕ) (p : ℕ) (x : View) (s
 
         by : Meets c.to b.to c.steps b.steps → (y : Step) × (more : List Step) × (b.steps ≡ c.steps ++ y ∷ more) × Follows c.to (y ∷ more) b.to
         by (inl ([], is, go)) =
-            let e = ap (sends (goes_to N p d)) is ∙ sends_both (goes_to N p d) c.steps [] in
-            let f = of_c in
-            let g = of_b in
-            absurd (omega (arith, e, f, g))
+            absurd (omega (arith, ap (sends (goes_to N p d)) is ∙ sends_both (goes_to N p d) c.steps [], of_c, of_b))
         by (inl (y ∷ more, is, go)) = (y, more, is, go)
         by (inr (more, is, go)) =
-            let e = ap (sends (goes_to N p d)) is ∙ sends_both (goes_to N p d) b.steps more in
-            let f = of_c in
-            let g = of_b in
-            absurd (omega (arith, e, f, g))
+            absurd (omega (arith, ap (sends (goes_to N p d)) is ∙ sends_both (goes_to N p d) b.steps more, of_c, of_b))
 
     longer : x.events < length b.steps
     longer =
-        let e = ap length ahead.2 ∙ length-append c.steps (ahead.0 ∷ ahead.1) in
-        let f = c.events in
-        let g = s.does in
-        omega (arith, e, f, g)
+        omega (arith, ap length ahead.2 ∙ length-append c.steps (ahead.0 ∷ ahead.1), c.events, s.does)
 
     b_within : length b.steps ≤ n
     b_within = let g = b.events in let h = (counted N n p A).within in omega (arith, g, h)
@@ -373,13 +343,10 @@ module _ (N : Network) (I : Inputs) (watch : Option ℕ) (p : ℕ) (x : View) (s
       let at = subst (λ o. StoppedAt o (exec_on N x.events p s.tapes).left (c M le le').to) e (c M le le').stopped in
       let f = ahead M le le' in
       let v = takes_there f.3 q at.0.0 at.0.1 in
-      let a = took_within N I p M (c M le le') q in
       let l = ap (λ l. length (l q)) s.all in
-      let t = s.took q in
-      let g = took_within N I p M (b M le le') q in
       let h = ap (λ l. length (values_taken l q)) f.2 ∙ taken_both (c M le le').steps (f.0 ∷ f.1) q in
       let y = ap (λ z. length (values_taken (z ∷ f.1) q)) v.1 ∙ ap length (took_one q v.0 f.1) in
-      omega (arith, a, l, t, g, h, y)
+      omega (arith, took_within N I p M (c M le le') q, l, s.took q, took_within N I p M (b M le le') q, h, y)
 
   -- it isn't at an end
   pub not_over : (e : Ending) → ending (exec_on N x.events p s.tapes).outcome ≡ Some e → ((q : ℕ) → e ≡ Waiting q → ⊥) → ⊥
@@ -411,18 +378,10 @@ module _ (N : Network) (I : Inputs) (watch : Option ℕ) (p : ℕ) (x : View) (s
       where
         of_both : length (values_taken c'.steps q) ≤ length (values_taken r.steps q) → x'.taken q ≤ length (G q)
         of_both h =
-            let a = took_within N I p L c' q in
-            let l = ap (λ l. length (l q)) s'.all in
-            let t = s'.took q in
-            let g = took_within N I p L r q in
-            omega (arith, h, a, l, t, g)
+            omega (arith, h, took_within N I p L c' q, ap (λ l. length (l q)) s'.all, s'.took q, took_within N I p L r q)
 
         by : Meets c'.to r.to c'.steps r.steps → x'.taken q ≤ length (G q)
         by (inl (more, is, go)) = of_both (let e = ap (λ l. length (values_taken l q)) is ∙ taken_both c'.steps more q in omega (arith, e))
         by (inr ([], is, go)) = of_both (let e = ap (λ l. length (values_taken l q)) is ∙ taken_both r.steps [] q in omega (arith, e))
         by (inr (y ∷ more, is, go)) =
-            let e = ap length is ∙ length-append r.steps (y ∷ more) in
-            let f = c'.events in
-            let g = s'.does in
-            let h = r_longer in
-            absurd (omega (arith, e, f, g, h, near))
+            absurd (omega (arith, ap length is ∙ length-append r.steps (y ∷ more), c'.events, s'.does, r_longer, near))

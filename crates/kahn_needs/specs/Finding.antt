@@ -1,11 +1,11 @@
 -- Believed. What is told of the needs of a value.
 use Rattle.std.specs.Prelude.{◌≡◌, ℕ, ◌<◌, List, length, slice_index_or}
-use Rattle.kahn_streams.specs.{Inputs.Lists, Network.Network, Network.Source, Network.Given, Network.Written, Network.Nobody, Solution.Inputs, Solution.Stands, Solution.source, declared.tree.Program.Program, declared.value.Line.Line, declared.value.Line.TheVariants.Channel, declared.value.Line.TheVariants.Print, declared.value.Value.Value}
+use Rattle.kahn_streams.specs.{Inputs.Lists, Network.Schema, Network.Source, Network.Given, Network.Written, Network.Nobody, Solution.Inputs, Solution.Stands, Solution.source, declared.tree.Program.Program, declared.value.Line.Line, declared.value.Line.TheVariants.Channel, declared.value.Line.TheVariants.Print, declared.value.Value.Value}
 use Rattle.kahn_needs.specs.{Needs.AreNeeds, Needs.Cut, declared.needs.Found.Found}
 use Rattle.kahn_needs.specs.declared.needs.Found.TheVariants as found
 
 -- a channel of the network, or the print stream of one of its instances
-abbrev pub IsNetworkLine : Network → Line → Type 0
+abbrev pub IsNetworkLine : Schema → Line → Type 0
 IsNetworkLine N (Channel c) = c < length N.channels
 IsNetworkLine N (Print p) = p < length N.instances
 
@@ -15,12 +15,12 @@ of_input (Written p) n = 0
 of_input Nobody n = 0
 
 -- so many values of each input, and so many events of each instance
-abbrev pub cut_told : Network → List ℕ → List ℕ → Cut
+abbrev pub cut_told : Schema → List ℕ → List ℕ → Cut
 cut_told N values events = record { values = λ d. of_input (source N (Channel d)) (slice_index_or values d 0); events = λ p. slice_index_or events p 0 }
 
 -- at place k of line c is this value, and it needs just that; or no value ever stands there, in a ring too. Where the bound is used up, nothing
 -- is said.
-abbrev pub AreNeedsFound : Network → Inputs → Line → ℕ → Found → Type 0
+abbrev pub AreNeedsFound : Schema → Inputs → Line → ℕ → Found → Type 0
 AreNeedsFound N I c k (found.Needs x) = AreNeeds N I c k x.value (cut_told N x.values.items x.events.items)
 AreNeedsFound N I c k found.Never = (v : Value) → Stands N I c k v → ⊥
 AreNeedsFound N I c k found.Ring = (v : Value) → Stands N I c k v → ⊥

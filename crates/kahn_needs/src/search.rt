@@ -1,7 +1,7 @@
 //! The search for what a value needs, by demand: the writer of the value acts until it has sent it; where it waits for a value, the writer of
 //! that one acts. So nothing is done that isn't needed.
 
-ghost use Rattle.std.specs.Prelude.{◌≡◌, ◌<◌, true, IfSome, length};
+ghost use Rattle.std.specs.Prelude.{◌≡◌, ◌<◌, true, MatchResult, length};
 ghost use Rattle.kahn_streams.specs.{Network.Written, Network.network_of, Solution.source};
 ghost use Rattle.kahn_needs.specs.{Finding.IsNetworkLine, inner.Bench.AreSeatsOf, declared.search.Turn.TheVariants.Waits, declared.search.Sought.TheVariants.Ring};
 ghost use Rattle.kahn_needs.specs.inner.Finding.{AreForced, HasCome, HasSearched, IsAwaited, IsWaitChain, IsDemand, IsPausedAt, IsEndOfSearch, IsTurnTold};
@@ -145,26 +145,6 @@ fn longer(bench: &Bench<'_>, root: Demand, chain: Chain, demand: Demand) -> Chai
     }
 }
 
-// The chain after a turn: with the value for which the writer waits, or anew, once a value was sent.
-fn next_chain(bench: &Bench<'_>, root: Demand, chain: Chain, turn: Turn) -> Chain
-    requires root { IsDemand bench.now root.line root.place root.line root.place }
-    requires chain { IsWaitChain bench.now root.line root.place chain }
-    requires told { IsTurnTold bench.now root.line root.place chain.demand.line chain.demand.place turn }
-    ensures { IsWaitChain bench.now root.line root.place result }
-{
-    match turn {
-        Turn::Sent => begun(bench, root, root),
-        Turn::Waits(channel) => {
-            let demand = awaited(bench, root, chain, channel);
-            longer(bench, root, chain, demand)
-        }
-        Turn::Acted => chain,
-        Turn::Over => chain,
-        Turn::Bound => chain,
-        Turn::NoMemory => chain,
-    }
-}
-
 // Whether two values are the same one.
 fn is_same(first: Demand, second: Demand) -> bool
     ensures { result ≡ true → first ≡ second }
@@ -182,25 +162,26 @@ fn is_ring(bench: &Bench<'_>, root: Demand, chain: Chain, demand: Demand) -> boo
     is_same(chain.mark, demand)
 }
 
-// Whether the search is over after a turn, and how.
-fn ended_by(bench: &Bench<'_>, root: Demand, chain: Chain, turn: Turn) -> Option<Sought>
+// The chain after a turn: with the value for which the writer waits, or anew, once a value was sent; or how the search ends.
+fn next_chain(bench: &Bench<'_>, root: Demand, chain: Chain, turn: Turn) -> Result<Chain, Sought>
+    requires root { IsDemand bench.now root.line root.place root.line root.place }
     requires chain { IsWaitChain bench.now root.line root.place chain }
     requires told { IsTurnTold bench.now root.line root.place chain.demand.line chain.demand.place turn }
-    ensures { IfSome result (IsEndOfSearch bench.now root.line root.place) }
+    ensures { MatchResult result (IsWaitChain bench.now root.line root.place) (IsEndOfSearch bench.now root.line root.place) }
 {
     match turn {
-        Turn::Sent => None,
-        Turn::Over => Some(Sought::Never),
-        Turn::Bound => Some(Sought::Bound),
-        Turn::NoMemory => Some(Sought::NoMemory),
+        Turn::Sent => Ok(begun(bench, root, root)),
+        Turn::Acted => Ok(chain),
+        Turn::Over => Err(Sought::Never),
+        Turn::Bound => Err(Sought::Bound),
+        Turn::NoMemory => Err(Sought::NoMemory),
         Turn::Waits(channel) => {
             let demand = awaited(bench, root, chain, channel);
             if is_ring(bench, root, chain, demand) {
-                return Some(Sought::Ring);
+                return Err(Sought::Ring);
             }
-            None
+            Ok(longer(bench, root, chain, demand))
         }
-        Turn::Acted => None,
     }
 }
 
@@ -248,11 +229,11 @@ pub(crate) fn search<L: Ledger>(
             return Sought::Bound;
         }
         let turn = act(bench, root, chain.demand, &mut steps);
-        if let Some(end) = ended_by(bench, root, chain, turn) {
-            return end;
-        }
         *left = left_after(turn, *left);
-        chain = next_chain(bench, root, chain, turn);
+        chain = match next_chain(bench, root, chain, turn) {
+            Ok(next) => next,
+            Err(end) => return end,
+        };
     }
     Sought::Bound
 }

@@ -1,19 +1,166 @@
-//! What is said of blocks where a text has more `begin`s than `end`s, or fewer.
+//! What is said of blocks where a text has more `begin`s than `end`s, or fewer, by the indentation of their lines.
 
 ghost use Rattle.std.specs.Prelude.{Contains, IfSome};
 
-use crate::guards::guard_of;
-use crate::indent::{Misfit, first_misfit};
-use crate::layout::{Indented, seats};
+use crate::foreign::closing_word;
 use crate::mending::mending;
-use crate::place::{Place, front};
-use crate::said::{Saying, Words, insertion, joined, replacement};
-use crate::table::finds;
+use crate::place::{Place, front, near};
+use crate::said::{Saying, Words, line_of, put_at, put_behind, sentence, spot_words};
+use crate::table::{finds, has_word};
 use crate::words::class_word;
-use itoa::Buffer;
-use kahn_marks::{add, add_spot};
-use kahn_syntax::{Class, Keyword, Lexeme, Sign, Span};
-use kahn_wanted::{Spot, open_behind};
+use kahn_syntax::{Lexeme, Span};
+use kahn_wanted::{Spot, bytes_between, open_behind};
+use std::alloc::AllocError;
+
+/// How many lexemes before an `end` are looked at.
+const FAR: usize = 256;
+
+/// A lexeme, as its class is written, with the number of its line, how deep that is indented, and whether the lexeme begins it.
+#[derive(Clone, Copy)]
+struct Seat {
+    word: &'static str,
+    span: Span,
+    line: usize,
+    deep: usize,
+    first: bool,
+}
+
+/// The lexemes of a text, each with its line; a tab goes to the next multiple of 8.
+fn seats(place: Place) -> Result<Vec<Seat>, AllocError> {
+    let mut seats = Vec::new(place.alloc);
+    let (mut at, mut line, mut deep, mut first) = (0, 1usize, 0usize, true);
+    for lexeme in place.lexemes {
+        let (word, span) = (class_word(lexeme.what), lexeme.span);
+        for byte in bytes_between(place.text, at, span.from) {
+            match (*byte, first) {
+                (b'\n', _) => {
+                    line = line.saturating_add(1);
+                    deep = 0;
+                    first = true;
+                }
+                (b' ', true) => deep = deep.saturating_add(1),
+                (b'\t', true) => deep = (deep | 7).saturating_add(1),
+                (_, _) => first = false,
+            }
+        }
+        at = span.from;
+        seats.push(Seat {
+            word,
+            span,
+            line,
+            deep,
+            first,
+        })?;
+    }
+    Ok(seats)
+}
+
+/// The number of the lexeme to which the statements before an `end` belong, which has that number: on its line, or on the nearest line
+/// that is as deep. Behind it stands no block, and none that another one leads to.
+fn guard_of(seats: &[Seat], number: usize, end: Seat) -> Option<usize> {
+    let (mut depth, mut found) = (0usize, None);
+    for (number, seat) in front(seats, number).iter().enumerate().rev().take(FAR) {
+        let behind = seats.get(number.saturating_add(1));
+        let next = behind.map_or("", |behind| behind.word);
+        depth = match (seat.word, depth) {
+            ("process", _) | ("begin", 0) => return found,
+            ("begin", _) => depth.saturating_sub(1),
+            ("end", _) => depth.saturating_add(1),
+            (_, _) => depth,
+        };
+        let is_guard = next != "begin" && has_word("do then else repeat", seat.word);
+        let leads = depth == 0 && is_guard && (seat.word != "else" || next != "if");
+        let is_level = end.first && seat.deep == end.deep;
+        if end.first && seat.deep < end.deep {
+            return if leads { Some(number) } else { found };
+        }
+        if !end.first && seat.line != end.line {
+            return found;
+        }
+        if leads && (is_level || !end.first) {
+            found = Some(number);
+        }
+        if is_level && (seat.first || found.is_some()) {
+            return found;
+        }
+    }
+    found
+}
+
+/// Whether a block had to end before a line: before a process, an `end` that is less deep than its `begin`, and what is no deeper than this,
+/// where the first line within is.
+fn is_past(seats: &[Seat], begin: usize, seat: Seat) -> bool {
+    let inside = seats.get(begin.saturating_add(1));
+    let (Some(begin), Some(inside)) = (seats.get(begin), inside) else {
+        return false;
+    };
+    let is_one_line = inside.line == begin.line;
+    let inner = if is_one_line {
+        begin.deep.saturating_add(1)
+    } else {
+        inside.deep
+    };
+    let is_level = seat.deep <= begin.deep && begin.deep < inner;
+    seat.first
+        && seat.line != begin.line
+        && match seat.word {
+            "process" => true,
+            "end" => seat.deep < begin.deep,
+            _ => is_level,
+        }
+}
+
+/// The block that has no `end`, by the number of its `begin`, and that of the lexeme before which it ends, of those up to a place. Where the
+/// indentation says nothing: at what may not stand in a block the innermost one; at the end of the text that of the program may be.
+fn unclosed_at(place: Place, seats: &[Seat]) -> Result<Option<(usize, usize)>, AllocError> {
+    let mut open = Vec::new(place.alloc);
+    let seen = front(seats, place.number.saturating_add(1));
+    for (at, seat) in seen.iter().enumerate() {
+        let is_within = seat.word == "end" || 1 < open.len();
+        match (seat.word, open.last().copied()) {
+            ("begin", _) => open.push(at)?,
+            (_, Some(begin)) if is_within && is_past(seats, begin, *seat) => {
+                return Ok(Some((begin, at)));
+            }
+            ("end", _) => open.truncate(open.len().saturating_sub(1)),
+            (_, _) => {}
+        }
+    }
+    let outer = if near(place, 0).is_some() { 1 } else { 0 };
+    if open.len() > outer && finds("nothing ( process par integer logical", near(place, 0)) {
+        return Ok(open.last().map(|begin| (*begin, place.number)));
+    }
+    Ok(None)
+}
+
+/// The `end` that is one too many, by its number, of those up to a place: deeper than its block, behind statements without a block, or the last.
+fn surplus_at(place: Place, seats: &[Seat]) -> Result<Option<usize>, AllocError> {
+    let (mut open, mut doubt): (Vec<Seat>, Option<usize>) = (Vec::new(place.alloc), None);
+    let seen = front(seats, place.number.saturating_add(1));
+    for (at, seat) in seen.iter().enumerate() {
+        match seat.word {
+            "begin" => open.push(*seat)?,
+            "process" => doubt = None,
+            "end" => {
+                let (begin, guard) = (open.pop(), guard_of(seats, at, *seat));
+                let is_far = begin.is_some_and(|begin| begin.line != seat.line);
+                if seat.first && begin.is_some_and(|begin| begin.deep < seat.deep) {
+                    return Ok(Some(at));
+                }
+                if open.is_empty() || (is_far && !seat.first && guard.is_some()) {
+                    return Ok(doubt.or(Some(at)));
+                }
+                let leader = guard.and_then(|guard| seats.get(guard));
+                let is_repeat = leader.is_some_and(|leader| leader.word == "repeat");
+                if (is_far && !seat.first) || (!is_far && doubt.is_none() && is_repeat) {
+                    doubt = Some(at);
+                }
+            }
+            _ => {}
+        }
+    }
+    Ok(doubt)
+}
 
 /// The `begin` there, if its block is open.
 fn open_there(begins: &[Lexeme], span: Span) -> Option<Lexeme>
@@ -27,41 +174,18 @@ fn open_there(begins: &[Lexeme], span: Span) -> Option<Lexeme>
     None
 }
 
-/// What is said of a block that ends before a lexeme: by its indentation before the line of this, or on that of its `begin`.
-fn ending_words(place: Place, begin: Indented, end: Option<Indented>) -> Words {
-    let mut words = String::from_str(place.alloc, "`begin` has no `end`: ")?;
-    match end {
-        Some(end) if begin.line == end.line => {
-            add_spot(&mut words, "it ends before ", place.text, end.span.from)?;
-        }
-        Some(end) => {
-            let mut buffer = Buffer::new();
-            let line = buffer.format(end.line);
-            add(
-                &mut words,
-                &["by its indentation it ends before line ", line],
-            )?;
-        }
-        None => words.push_str("by its indentation it ends at the end of the text")?,
-    }
-    Ok(words)
-}
-
-/// Whether the lexeme with a number is a `begin`.
-fn is_begin(place: Place, number: Option<usize>) -> bool {
-    matches!(number, Some(number) if finds("begin", place.lexemes.get(number).copied()))
-}
-
-/// What is said of the `begin` with a number, whose block ends before the lexeme with another number, if it is open there; one that
-/// stands beside another one is left out.
-fn unclosed(place: Place, all: &[Indented], number: usize, end: usize) -> Saying {
-    let alloc = place.alloc;
-    let Some(begin) = all.get(number) else {
+/// What is said of the `begin` with a number, whose block ends before the lexeme with another number: by its indentation before the line of
+/// this, or on that of its `begin`; one that stands beside another one is left out.
+fn unclosed(place: Place, seats: &[Seat], number: usize, end: usize) -> Saying {
+    let (alloc, text) = (place.alloc, place.text);
+    let beside = [number.checked_sub(1), number.checked_add(1)];
+    let mut beside = beside.iter().filter_map(|number| seats.get((*number)?));
+    let Some(begin) = seats.get(number) else {
         return Ok(None);
     };
-    if is_begin(place, number.checked_sub(1)) || is_begin(place, number.checked_add(1)) {
-        let fix = replacement(alloc, begin.span, "")?;
-        if let Some(fix) = mending(alloc, place.text, place.span, Some(fix))? {
+    if beside.any(|seat| seat.word == "begin") {
+        let fix = put_at(alloc, text, begin.span, begin.span, "")?;
+        if let Some(fix) = mending(alloc, text, place.span, Some(fix))? {
             let words = String::from_str(alloc, "the second `begin` has no `end`")?;
             return Ok(Some((Some((begin.span, words)), Some(fix), None)));
         }
@@ -70,99 +194,104 @@ fn unclosed(place: Place, all: &[Indented], number: usize, end: usize) -> Saying
     let Some(one) = open_there(&open, begin.span) else {
         return Ok(None);
     };
-    let words = ending_words(place, *begin, all.get(end).copied())?;
+    let (words, from) = match seats.get(end) {
+        Some(end) if begin.line == end.line => ("it ends before #", end.span.from),
+        Some(end) => ("by its indentation it ends before line @", end.span.from),
+        None => ("by its indentation it ends at the end of the text", 0),
+    };
+    let at = spot_words(alloc, text, from)?;
+    let ending = sentence(alloc, words, line_of(at.as_str()), at.as_str())?;
+    let words = sentence(alloc, "`begin` has no `end`: @", ending.as_str(), "")?;
     Ok(Some((Some((one.span, words)), None, None)))
 }
 
 /// The lexeme that leads to several statements, to the `end` with a number.
-fn guard_before(place: Place, all: &[Indented], number: usize) -> Option<Lexeme> {
-    let guard = guard_of(all, number, *all.get(number)?)?;
-    let mut lexemes = place.lexemes.get(guard..number)?.iter();
-    if lexemes.any(|lexeme| lexeme.what == Class::Sign(Sign::Semicolon)) {
-        return place.lexemes.get(guard).copied();
+fn guard_before(seats: &[Seat], number: usize) -> Option<Seat> {
+    let guard = guard_of(seats, number, *seats.get(number)?)?;
+    let mut between = seats.get(guard..number)?.iter();
+    if between.any(|seat| seat.word == ";") {
+        return seats.get(guard).copied();
     }
     None
 }
 
-/// An `end`, with a word behind it that says what it ends, where nothing else stands on that.
-fn with_word(place: Place, number: usize, end: Span) -> Span {
-    let rest = place.lexemes.get(number..).unwrap_or(&[]);
-    match rest {
-        [_, word, behind, ..]
-            if finds("if while repeat process name", Some(*word))
-                && finds("; end else", Some(*behind)) => {
-            let to = word.span.to;
-            Span { to, ..end }
-        }
-        _ => end,
-    }
+/// What is said of the lexeme that leads to several statements, to an `end`.
+fn led_words(place: Place, sentence_of: &str, guard: Seat, at: usize) -> Words {
+    let at = spot_words(place.alloc, place.text, at)?;
+    sentence(place.alloc, sentence_of, guard.word, at.as_str())
 }
 
-/// What is said of the `end` with a number: it is one too many, or closes several statements without a block behind what leads to them.
-fn surplus(place: Place, all: &[Indented], number: usize) -> Saying {
-    let alloc = place.alloc;
-    let Some(end) = all.get(number) else {
+/// What is said of the `end` with a number: it is one too many, with a word behind it that says what it ends, or closes several statements
+/// without a block behind what leads to them.
+fn surplus(place: Place, seats: &[Seat], number: usize) -> Saying {
+    let (alloc, text) = (place.alloc, place.text);
+    let Some(end) = seats.get(number) else {
         return Ok(None);
     };
-    let Some(guard) = guard_before(place, all, number) else {
-        let words =
-            "`end` has no `begin`: an `if`, a `while` or a `repeat` has no `end` of its own";
-        let head = Some((end.span, String::from_str(alloc, words)?));
-        let part = with_word(place, number, end.span);
-        return Ok(Some((head, Some(replacement(alloc, part, "")?), None)));
+    if let Some(guard) = guard_before(seats, number) {
+        let words = "several statements stand behind `@` without `begin`, to the `end` at #";
+        let words = led_words(place, words, guard, end.span.from)?;
+        let fix = put_behind(alloc, text, guard.span, "begin")?;
+        return Ok(Some((Some((guard.span, words)), Some(fix), None)));
+    }
+    let words = "`end` has no `begin`: an `if`, a `while` or a `repeat` has no `end` of its own";
+    let words = String::from_str(alloc, words)?;
+    let part = match seats.get(number..) {
+        Some([_, word, behind, ..])
+            if has_word("if while repeat process name", word.word)
+                && has_word("; end else", behind.word) => {
+            let from = end.span.from;
+            Span { from, ..word.span }
+        }
+        _ => end.span,
     };
-    let word = class_word(guard.what);
-    let mut words = joined(alloc, &["several statements stand behind `", word, "`"])?;
-    words.push_str(" without `begin`")?;
-    add_spot(&mut words, ", to the `end` at ", place.text, end.span.from)?;
-    let fix = insertion(alloc, guard.span.to, guard.span, "begin")?;
-    Ok(Some((Some((guard.span, words)), Some(fix), None)))
+    let fix = put_at(alloc, text, part, part, "")?;
+    Ok(Some((Some((end.span, words)), Some(fix), None)))
 }
 
 /// What is said of a word that ends a block elsewhere, at a place or before it, behind several statements without a block.
-pub(crate) fn closer_said(place: Place, spot: Spot) -> Saying {
-    let number = if spot == Spot::Here {
-        place.number
-    } else {
-        place.number.saturating_sub(1)
+pub(crate) fn closer_said(place: Place) -> Saying {
+    let (alloc, text) = (place.alloc, place.text);
+    let (number, next) = match closing_word(place) {
+        Some(Spot::Here) => (place.number, near(place, 1)),
+        Some(_) => (place.number.saturating_sub(1), near(place, 0)),
+        None => return Ok(None),
     };
     let all = seats(place)?;
-    let (Some(guard), Some(end)) = (guard_before(place, &all, number), all.get(number)) else {
+    let (Some(guard), Some(end)) = (guard_before(&all, number), all.get(number)) else {
         return Ok(None);
     };
-    let next = place.lexemes.get(number.saturating_add(1));
-    let to = match next {
-        Some(next) if finds("false", Some(*next)) => next.span.to,
-        _ => end.span.to,
+    let from = end.span.from;
+    let span = match next {
+        Some(next) if finds("false", Some(next)) => Span { from, ..next.span },
+        _ => end.span,
     };
-    let fix = replacement(place.alloc, Span { to, ..end.span }, "end")?;
-    let fix = mending(place.alloc, place.text, place.span, Some(fix))?;
-    let word = class_word(guard.what);
-    let mut words = joined(place.alloc, &["insert `begin` after `", word, "`"])?;
-    add_spot(&mut words, " at ", place.text, guard.span.from)?;
-    words.push_str(": it makes one statement of several, to its `end`")?;
+    let fix = put_at(alloc, text, span, span, "end")?;
+    let fix = mending(alloc, text, place.span, Some(fix))?;
+    let words = "insert `begin` after `@` at #: it makes one statement of several, to its `end`";
+    let words = led_words(place, words, guard, guard.span.from)?;
     Ok(Some((None, fix, Some(words))))
-}
-
-/// How many lexemes are this keyword.
-fn count_of(place: Place, word: Keyword) -> usize {
-    let lexemes = place.lexemes.iter();
-    lexemes
-        .filter(|lexeme| lexeme.what == Class::Word(word))
-        .count()
 }
 
 /// What is said of blocks at a place, by the indentation of the lines up to it.
 pub(crate) fn blocks_said(place: Place) -> Saying {
-    let begins = count_of(place, Keyword::Begin);
-    let ends = count_of(place, Keyword::End);
+    let count_of = |word| {
+        let lexemes = place.lexemes.iter();
+        lexemes.filter(|one| finds(word, Some(**one))).count()
+    };
+    let (begins, ends) = (count_of("begin"), count_of("end"));
     if begins == ends {
         return Ok(None);
     }
     let all = seats(place)?;
-    match first_misfit(place, &all, ends < begins)? {
-        Some(Misfit::Unclosed(begin, number)) => unclosed(place, &all, begin, number),
-        Some(Misfit::Surplus(number)) => surplus(place, &all, number),
+    if ends < begins {
+        return match unclosed_at(place, &all)? {
+            Some((begin, end)) => unclosed(place, &all, begin, end),
+            None => Ok(None),
+        };
+    }
+    match surplus_at(place, &all)? {
+        Some(number) => surplus(place, &all, number),
         None => Ok(None),
     }
 }

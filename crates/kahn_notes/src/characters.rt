@@ -6,18 +6,17 @@ ghost use Rattle.kahn_notes.specs.Notes.{Mends};
 use crate::foreign::line_help;
 use crate::mending::{Fixed, mending};
 use crate::rewriting::{KINDS, rewritten};
-use crate::said::replacement;
+use crate::said::put_at;
 use crate::table::{cell, has_word, row_of};
 use kahn_marks::Fix;
 use kahn_syntax::{Span, SyntaxFault};
 use std::alloc::Global;
 
-/// What stands there: `0` before it is for a digit, `9` behind it too; `1:` is `:` behind a line's number, `:k` before a kind, `:t` behind `if` or
-/// `while`, and `?:` is `?` before a `:` on its line. Then what is put in its place if the text goes on with it, and what is said. The first
-/// that holds is told.
+/// What stands there, what is put in its place if the text goes on with it, what is said, and a test of its line. The first row that holds is
+/// told.
 const CHARACTERS: &str = "
-0. |  | ; numbers are whole
-0_ |  | ; a number has decimal digits alone
+. |  | ; numbers are whole | digit
+_ |  | ; a number has decimal digits alone | digit
 . | nothing | ; no `.` stands in a name or behind the last `end`
 _ |  | ; a name begins with a letter
 != ~= /= \u{2260} | <> | ; unequal is `<>`
@@ -32,18 +31,18 @@ _ |  | ; a name begins with a letter
 [ |  | ; brackets are `(` and `)`, and there are no arrays; a channel that one process writes and reads is a queue
 { | begin | ; a block goes from `begin` to `end`, a comment from `comment` to `;`
 } | end | ; a block goes from `begin` to `end`, a comment from `comment` to `;`
-1: |  | ; a choice among values is `if X = 0 then S else if X = 1 then T`
-&9 |  | ; a remainder is `X mod 8`, and `and` is of logicals
+: |  | ; a choice among values is `if X = 0 then S else if X = 1 then T` | label
+& |  | ; a remainder is `X mod 8`, and `and` is of logicals | number
 && | and | ; it is the word `and`, and between instances `par`
 & | and par nothing | ; `and` is a word, and of logicals; between instances stands `par`
 ^ |  | ; there is no power and no exclusive or: of logicals it is `<>`
 || | or par | ; it is the word `or`, and between instances `par`
 | | or par | ; it is the word `or`, and between instances `par`
 ~ | not | ; it is the word `not`
-?: |  | ; a choice is `if .. then .. else ..`
+? |  | ; a choice is `if .. then .. else ..` | colon
 ? |  | ; a value is taken by `X := wait(C)`, and a choice is `if .. then .. else ..`
-:k |  | ; a kind stands before its names
-:t | then do | ; behind a test stands `then` or `do`
+: |  | ; a kind stands before its names | kind
+: | then do | ; behind a test stands `then` or `do` | test
 : | ; | ; `:` stands before `=` alone
 \u{FF1A} | : := | ; a colon is `:`
 \u{FF1B} | ; | ; a semicolon is `;`
@@ -69,55 +68,41 @@ $ @ | nothing | ; a name begins with a letter, and has letters, digits and `_`
 \u{FEFF} |  | ; a byte order mark (U+FEFF) isn't a blank here: save the text without one
 ";
 
-/// Whether a text ends with a line that has a number alone.
-fn is_label(before: &str) -> bool {
-    let (_, line) = before.rsplit_once('\n').unwrap_or(("", before));
-    let digits = line.trim();
-    let digits = digits.strip_prefix("-").unwrap_or(digits);
-    !digits.is_empty() && digits.bytes().all(|byte| byte.is_ascii_digit())
-}
-
-/// The first word behind a sign.
-fn next_word(rest: &str) -> &str {
-    let mut words = rest
-        .get(1..)
-        .unwrap_or("")
-        .split(|character: char| !character.is_ascii_alphanumeric());
-    words.find(|word| !word.is_empty()).unwrap_or("")
-}
-
-/// Whether the last line of a text has the word of a test.
-fn is_test(before: &str) -> bool {
-    let (_, line) = before.rsplit_once('\n').unwrap_or(("", before));
+/// Whether a test holds of a line, of which this stands before a sign and that behind it.
+fn holds(test: &str, line: &str, behind: &str) -> bool {
     let mut words = line.split_whitespace();
-    let test = words.find(|word| has_word("if while", word));
-    test.is_some() && !words.any(|word| has_word("then do else", word))
-}
-
-/// Whether a part of a row stands behind a text, before another one.
-fn stands(before: &str, rest: &str, key: &str) -> bool {
-    let bytes = rest.as_bytes();
-    match (key, key.strip_prefix("0")) {
-        (":k", _) => rest.starts_with(":") && row_of(KINDS, next_word(rest)).is_some(),
-        (":t", _) => rest.starts_with(":") && is_test(before),
-        ("1:", _) => is_label(before) && rest.starts_with(":"),
-        ("?:", _) => rest.starts_with("?") && rest.lines().next().unwrap_or("").find(":").is_some(),
-        ("&9", _) => matches!(
-            bytes,
-            [b'&', b'0'..=b'9', ..] | [b'&', b' ', b'0'..=b'9', ..]
-        ),
-        (_, Some(key)) => matches!(before.as_bytes().last(), Some(b'0'..=b'9'))
-            && rest.starts_with(key),
-        (_, None) => rest.starts_with(key),
+    match test {
+        "digit" => line.ends_with(|last: char| last.is_ascii_digit()),
+        "label" => line.trim().parse::<i64>().is_ok(),
+        "number" => behind
+            .trim_start()
+            .starts_with(|first: char| first.is_ascii_digit()),
+        "colon" => behind.find(":").is_some(),
+        "kind" => {
+            let mut names = behind.split(|one: char| !one.is_ascii_alphanumeric());
+            names
+                .find(|name| !name.is_empty())
+                .is_some_and(|name| row_of(KINDS, name).is_some())
+        }
+        "test" => {
+            words.find(|word| has_word("if while", word)).is_some()
+                && !words.any(|word| has_word("then do else", word))
+        }
+        _ => true,
     }
 }
 
 /// The row of the character that begins at a byte, and the part of it that stands there.
 fn row_at(text: &str, at: usize) -> Option<(&'static str, &'static str)> {
     let (before, rest) = text.split_at_checked(at)?;
+    let (_, line) = before.rsplit_once('\n').unwrap_or(("", before));
+    let rest = rest.lines().next().unwrap_or("");
     for row in CHARACTERS.lines() {
-        for key in cell(row, 0).split(" ") {
-            if !key.is_empty() && stands(before, rest, key) {
+        for key in cell(row, 0).split_ascii_whitespace() {
+            if rest
+                .strip_prefix(key)
+                .is_some_and(|behind| holds(cell(row, 3), line, behind))
+            {
                 return Some((row, key));
             }
         }
@@ -158,11 +143,11 @@ pub(crate) fn character_fix(alloc: Global, text: &str, plain: &str, span: Span) 
     let Some((row, key)) = row_at(text, span.from) else {
         return Ok(None);
     };
-    let bytes = if key.starts_with(":") { 1 } else { key.len() };
-    let to = span.from.saturating_add(bytes);
+    let to = span.from.saturating_add(key.len());
+    let part = Span { to, ..span };
     for put in cell(row, 1).split_whitespace() {
         let put = if put == "nothing" { "" } else { put };
-        let fix = replacement(alloc, Span { to, ..span }, put)?;
+        let fix = put_at(alloc, text, part, part, put)?;
         if let Some(fix) = told(alloc, text, plain, span, Some(fix))? {
             return Ok(Some(fix));
         }

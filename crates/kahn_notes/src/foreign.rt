@@ -1,6 +1,6 @@
 //! Words of other languages, and what this one has in their place.
 
-use crate::place::{Place, back, found, is_declared, name_at};
+use crate::place::{Place, is_declared, name_at, near};
 use crate::table::{cell, finds, may_stand, row_of};
 use kahn_wanted::{Spot, is_of_word};
 
@@ -56,13 +56,8 @@ const MOST_OF_LINE: usize = 256;
 pub(crate) type Foreign = (Spot, &'static str);
 
 /// The row of a word of another language.
-fn row_of_foreign(word: &str) -> Option<&'static str> {
+pub(crate) fn row_of_foreign(word: &str) -> Option<&'static str> {
     row_of(FOREIGN, word).or(row_of(ACTING, word))
-}
-
-/// Whether a word is of another language.
-pub(crate) fn is_foreign(word: &str) -> bool {
-    row_of_foreign(word).is_some()
 }
 
 /// What is said, behind a heading, of the first word of another language that stands before a byte on its line, and nowhere on a line before.
@@ -87,30 +82,37 @@ pub(crate) fn line_help(text: &str, at: usize) -> Option<&'static str> {
 /// One of these words there, if the text doesn't declare it; not one that has a value given to it, nor the name of a process.
 fn foreign_in(table: &'static str, place: Place, spot: Spot) -> Option<Foreign> {
     let name = name_at(place, spot)?;
-    let is_here = spot == Spot::Here;
-    let is_given = !is_here && finds("= :=", found(place));
-    let is_head = finds("process", back(place, if is_here { 1 } else { 2 }));
-    if is_given || is_head || is_declared(place, 1, name) {
+    let is_before = spot == Spot::Before;
+    let is_head = finds("process", near(place, if is_before { -2 } else { -1 }));
+    let is_given = is_before && finds("= :=", near(place, 0));
+    if is_given || is_head || is_declared(place, name) {
         return None;
     }
     Some((spot, row_of(table, name)?))
 }
 
-/// A name that begins a statement, or stands before a bracket among values.
-fn acting_word(place: Place) -> Option<Foreign> {
-    if may_stand(":=", place.wanted) {
-        return foreign_in(ACTING, place, Spot::Before);
-    }
-    if finds("(", found(place)) {
-        return foreign_in(GIVING, place, Spot::Before);
-    }
-    None
+/// A word of another language before a place, or at it; or one that begins a statement, or stands before a bracket among values.
+pub(crate) fn foreign_word(place: Place) -> Option<Foreign> {
+    let table = if may_stand(":=", place.wanted) {
+        ACTING
+    } else if finds("(", near(place, 0)) {
+        GIVING
+    } else {
+        ""
+    };
+    foreign_in(FOREIGN, place, Spot::Before)
+        .or(foreign_in(FOREIGN, place, Spot::Here))
+        .or(foreign_in(table, place, Spot::Before))
 }
 
-/// A word of another language before a place, or at it.
-pub(crate) fn foreign_word(place: Place) -> Option<Foreign> {
-    let anywhere = foreign_in(FOREIGN, place, Spot::Before);
-    anywhere
-        .or(foreign_in(FOREIGN, place, Spot::Here))
-        .or(acting_word(place))
+/// Where a word of another language stands that ends a block.
+pub(crate) fn closing_word(place: Place) -> Option<Spot> {
+    let (spot, row) = foreign_word(place)?;
+    let is_here = spot == Spot::Here;
+    let next = near(place, if is_here { 1 } else { 0 });
+    let is_endless = cell(row, 0) == "until" && finds("false", next);
+    if is_endless || cell(row, 1) == "end" {
+        return Some(spot);
+    }
+    None
 }

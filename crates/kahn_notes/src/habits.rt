@@ -1,6 +1,12 @@
 //! What is said of what stands as in another language, or without what belongs to it, and where each is said. A row has what stands before
 //! the place, what stands there, the tests, and the words; the first row that fits is told.
 
+/// Lines that other programs made.
+pub(crate) const MARKS: &str = "
+any | < = | first | a merge left its marks: keep one of the two parts, and leave out the lines that begin with `<<<<<<<`, `=======` and `>>>>>>>`
+any | > | first | lines that are quoted in a mail begin with `>`: leave it out of all of them
+";
+
 /// These are told before a change of one lexeme, which would mislead.
 pub(crate) const EARLY: &str = "
 - | > | joined | there is no arrow: `send E on C` sends, `X := wait(C)` takes, and `;` stands between statements
@@ -75,23 +81,19 @@ name | ( | +operator | a body calls nothing: there are no functions, `wait(C)` t
 any | and div mod or not false true if then else while do repeat begin end wait send on print | +name -declaration | a keyword is no name, in any letter case: take another one
 ";
 
-/// These where nothing else is.
+/// These where nothing else is, and then what a part of a program looks like that is open there: names of the text stand for `@` to `%`.
 pub(crate) const LAST: &str = "
 any | else | +end | an `else` stands behind `if E then S`, where S is one statement; `begin` and `end` make one of several
 any | , | +on | `send` sends one value: `send E on C; send F on C`
 any | ) | always | this `)` has no `(`: insert `(` before it, or leave it out
-";
-
-/// What a part of a program looks like, where it is open: names of the text stand for `@X`, `@U` and `@W`.
-pub(crate) const FORMS: &str = "
 nothing | any | always | a program is like `begin integer output channel B; process p(integer out W); begin send 1 on W end; p(B) end`
-any | any | +:= | a statement begins with `send`, `print`, `if`, `while`, `repeat` or `begin`, or assigns to a name: `@X := @X + 1`, `@X := wait(@U)`
+any | any | +:= | a statement begins with `send`, `print`, `if`, `while`, `repeat` or `begin`, or assigns to a name: `@ := @ + 1`, `@ := wait(#)`
 any | any | +declaration | here stand channels, `integer channel C;`, and processes, `process P(integer in U; integer out W); begin .. end;`; then instances, `P(A, B)`
-any | any | +statement | a statement is like `@X := wait(@U)`, `send @X on @W`, `print @X`, `if @X > 0 then S`, `while @X > 0 do S`, `repeat S` or `begin S; T end`
-any | any | +value | a value is like `@X`, `12`, `wait(@U)`, `-@X`, `(@X + 1)` or `if @X > 0 then 1 else 0`
-any | any | +do | a loop is like `while @X > 0 do S`, or `repeat S`, where S is one statement
-any | any | +then | a choice is like `if @X > 0 then S else T`, where S and T are one statement each
-any | any | +on | a value is sent as by `send @X + 1 on @W`
+any | any | +statement | a statement is like `@ := wait(#)`, `send @ on %`, `print @`, `if @ > 0 then S`, `while @ > 0 do S`, `repeat S` or `begin S; T end`
+any | any | +value | a value is like `@`, `12`, `wait(#)`, `-@`, `(@ + 1)` or `if @ > 0 then 1 else 0`
+any | any | +do | a loop is like `while @ > 0 do S`, or `repeat S`, where S is one statement
+any | any | +then | a choice is like `if @ > 0 then S else T`, where S and T are one statement each
+any | any | +on | a value is sent as by `send @ + 1 on %`
 any | any | +operator | a value goes on with `+`, `-`, `*`, `div`, `mod`, `=`, `<>`, `<`, `<=`, `>`, `>=`, `and` or `or`; a statement behind another one stands behind `;`
 any | any | +integer | parameters are like `integer in U; integer out W; integer N`
 ";

@@ -93,6 +93,10 @@ integer D A | D A
 begin | A main ( ) { | begin {
 if E then begin | if E {
 while E do begin | while E {
+A := 0; while A < F do begin A := A + 1; | for A : = 1 to F do begin | for A = 1 to F do begin
+A := E - 1; while A < F do begin A := A + 1; | for A : = E to F do begin
+A := E; while A <= F do begin G; A := A + 1 end | for A : = E to F do G | for A = E to F do G
+A := -1; while A < F - 1 do begin A := A + 1; | for ( A = 0 ; B < F ; C + + ) { | for ( K A = 0 ; B < F ; C + + ) {
 repeat begin | for|loop {
  | package|program A ; | import|program|module A | # define T
 then | then :

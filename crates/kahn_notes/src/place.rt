@@ -1,12 +1,12 @@
 //! The place where a text goes wrong, with the lexemes round it.
 
-use crate::choice::Offers;
-use crate::said::Words;
-use crate::table::finds;
+use crate::changes::Offers;
+use crate::said::{Words, filled};
+use crate::table::has_word;
 use kahn_marks::part_of;
-use kahn_syntax::{Class, Lexeme, Sign, Span};
-use kahn_wanted::{Spot, Wanted};
-use std::alloc::Global;
+use kahn_syntax::{Class, Keyword, Lexeme, Span};
+use kahn_wanted::{Spot, Wanted, is_of_word};
+use std::alloc::{AllocError, Global};
 
 /// The place where a text goes wrong.
 #[derive(Clone, Copy)]
@@ -25,34 +25,24 @@ pub(crate) struct Place<'p> {
     pub(crate) wanted: &'p Wanted,
     /// The changes that are offered.
     pub(crate) offers: &'p Offers,
+    /// The lexemes before the last one before the place.
+    pub(crate) earlier: &'p [Span],
+    /// The names that these declare.
+    pub(crate) declared: &'p [&'p str],
 }
 
-/// The lexeme so many before a place.
-pub(crate) fn back(place: Place, count: usize) -> Option<Lexeme> {
-    place.lexemes.get(place.number.checked_sub(count)?).copied()
-}
-
-/// The lexeme at a place.
-pub(crate) fn found(place: Place) -> Option<Lexeme> {
-    back(place, 0)
-}
-
-/// The lexeme before a place.
-pub(crate) fn before(place: Place) -> Option<Lexeme> {
-    back(place, 1)
-}
-
-/// The lexeme behind the one at a place.
-pub(crate) fn behind(place: Place) -> Option<Lexeme> {
-    place.lexemes.get(place.number.saturating_add(1)).copied()
+/// The lexeme so many behind the one at a place, or before it.
+pub(crate) fn near(place: Place, count: isize) -> Option<Lexeme> {
+    let number = place.number.checked_add_signed(count)?;
+    place.lexemes.get(number).copied()
 }
 
 /// The lexeme in the place of which a change puts another one.
 pub(crate) fn lexeme_at(place: Place, spot: Spot) -> Option<Lexeme> {
     match spot {
         Spot::Between => None,
-        Spot::Here => found(place),
-        Spot::Before => before(place),
+        Spot::Here => near(place, 0),
+        Spot::Before => near(place, -1),
     }
 }
 
@@ -69,59 +59,57 @@ pub(crate) fn name_at<'p>(place: Place<'p>, spot: Spot) -> Option<&'p str> {
     }
 }
 
-/// Whether a lexeme is this name.
-fn is_named(text: &str, lexeme: Lexeme, name: &str) -> bool {
-    lexeme.what == Class::Name && part_of(text, lexeme.span) == name
+/// Whether the lexemes before a place declare a name.
+pub(crate) fn is_declared(place: Place, name: &str) -> bool {
+    place.declared.iter().any(|one| *one == name)
 }
 
-/// Whether the lexemes before a place, without so many of the last, declare a name.
-pub(crate) fn is_declared(place: Place, less: usize, name: &str) -> bool {
-    let mut naming = false;
-    for lexeme in front(place.lexemes, place.number.saturating_sub(less)) {
-        if naming && is_named(place.text, *lexeme, name) {
-            return true;
+/// Whether a text is a name.
+pub(crate) fn is_name(word: &str) -> bool {
+    let first = word.as_bytes().first().copied().unwrap_or(b' ');
+    first.is_ascii_alphabetic()
+        && word.bytes().all(is_of_word)
+        && Keyword::named(word.as_bytes()).is_none()
+}
+
+/// Names of a text.
+pub(crate) type Names<'t> = Result<Vec<&'t str>, AllocError>;
+
+/// The names among parts of a text that stand behind one of these words, alone or in a list.
+pub(crate) fn names_behind<'t>(
+    alloc: Global,
+    text: &'t str,
+    parts: &[Span],
+    words: &str,
+) -> Names<'t> {
+    let (mut names, mut naming) = (Vec::new(alloc), false);
+    for part in parts {
+        let word = part_of(text, *part);
+        if naming && is_name(word) {
+            names.push(word)?;
         }
-        let goes_on = matches!(lexeme.what, Class::Name | Class::Sign(Sign::Comma));
-        let begins = finds("integer logical in out channel process", Some(*lexeme));
-        naming = begins || (naming && goes_on);
+        naming = has_word(words, word) || (naming && (word == "," || is_name(word)));
     }
-    false
+    Ok(names)
 }
 
-/// The last name before a place that stands behind one of these lexemes, or else a letter.
-fn own_name<'p>(place: Place<'p>, words: &str, letter: &'static str) -> &'p str {
-    let (mut found, mut naming) = (letter, false);
-    for lexeme in front(place.lexemes, place.number) {
-        if naming && lexeme.what == Class::Name {
-            found = part_of(place.text, lexeme.span);
-        }
-        naming = finds(words, Some(*lexeme));
-    }
-    found
+/// The last name before a place that stands behind one of these words, or else a letter.
+fn own_name<'p>(
+    place: Place<'p>,
+    words: &str,
+    letter: &'static str,
+) -> Result<&'p str, AllocError> {
+    let names = names_behind(place.alloc, place.text, place.earlier, words)?;
+    Ok(names.last().copied().unwrap_or(letter))
 }
 
-/// A sentence with names of the text: for `@X` that of a number or a truth value, for `@U` one of a channel that is read, and for `@W` one of a
+/// A sentence with names of the text: for `@` that of a number or a truth value, for `#` one of a channel that is read, and for `%` one of a
 /// channel that is written.
 pub(crate) fn exemplified(place: Place, sentence: &'static str) -> Words {
-    let mut words = String::new(place.alloc);
-    for (number, part) in sentence.split("@").enumerate() {
-        let (name, rest) = match (number, part.split_at_checked(1)) {
-            (1.., Some(("X", rest))) => (own_name(place, "integer logical", "X"), rest),
-            (1.., Some(("U", rest))) => (own_name(place, "in", "U"), rest),
-            (1.., Some(("W", rest))) => (own_name(place, "out", "W"), rest),
-            (_, _) => ("", part),
-        };
-        words.push_str(name)?;
-        words.push_str(rest)?;
-    }
-    Ok(words)
-}
-
-/// Whether a name stands once in a text.
-pub(crate) fn stands_once(place: Place, name: &str) -> bool {
-    let lexemes = place.lexemes.iter();
-    lexemes
-        .filter(|lexeme| is_named(place.text, **lexeme, name))
-        .count()
-        == 1
+    let names = [
+        (b'@', own_name(place, "integer logical", "X")?),
+        (b'#', own_name(place, "in", "U")?),
+        (b'%', own_name(place, "out", "W")?),
+    ];
+    filled(place.alloc, sentence, false, &names)
 }

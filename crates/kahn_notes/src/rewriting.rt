@@ -2,10 +2,11 @@
 
 use crate::mending::{Fixed, mending};
 use crate::patterns::PATTERNS;
-use crate::said::{Words, joined, replacement};
+use crate::place::{is_name, names_behind};
+use crate::said::{Meaning, filled, is_capital, sentence};
 use crate::table::{cell, has_word, row_of};
 use kahn_marks::{Fix, part_of};
-use kahn_syntax::{Keyword, Span};
+use kahn_syntax::Span;
 use kahn_wanted::is_of_word;
 use std::alloc::{AllocError, Global};
 
@@ -29,23 +30,17 @@ S | send put emit write push give output
 P | go call spawn start run launch new exec doco
 D | in out
 R | input output
+K | int integer i32 i64 number logical bool boolean
 ";
 
 /// Where no expression goes on.
 const ENDS: &str = "; ) ] } begin end else";
 
-/// The kinds, by what they are called elsewhere.
+/// The kinds, by what they are called elsewhere, and as they are written.
 pub(crate) const KINDS: &str = "
-int integer i32 i64 number | integer
-logical bool boolean | logical
+int integer i32 i64 number | integer | INTEGER
+logical bool boolean | logical | LOGICAL
 ";
-
-/// What a capital letter of a pattern stands for.
-#[derive(Clone, Copy)]
-struct Binding {
-    letter: u8,
-    span: Span,
-}
 
 /// The words and signs round a place.
 #[derive(Clone, Copy)]
@@ -59,12 +54,15 @@ struct Window<'p> {
     number: usize,
     /// How many stand before the end of its line.
     line: usize,
+    /// The names before the place that stand behind `out`.
+    written: &'p [&'p str],
+    /// Whether keywords are in capitals.
+    capital: bool,
 }
 
 /// The words and signs of a part of a text; each sign has one byte.
 fn pieces_of(alloc: Global, text: &str, start: usize, end: usize) -> Result<Vec<Span>, AllocError> {
-    let mut pieces = Vec::new(alloc);
-    let mut from = start;
+    let (mut pieces, mut from) = (Vec::new(alloc), start);
     for to in start..end.saturating_add(1) {
         let byte = text.as_bytes().get(to).copied().unwrap_or(b' ');
         if to < end && is_of_word(byte) {
@@ -83,30 +81,8 @@ fn pieces_of(alloc: Global, text: &str, start: usize, end: usize) -> Result<Vec<
 
 /// The letters of a word, or a sign; nothing where there is none.
 fn word_of<'p>(window: Window<'p>, number: usize) -> &'p str {
-    match window.pieces.get(number) {
-        Some(span) => part_of(window.text, *span),
-        None => "",
-    }
-}
-
-/// Whether a word is a name.
-fn is_name(word: &str) -> bool {
-    let first = word.as_bytes().first().copied().unwrap_or(b' ');
-    first.is_ascii_alphabetic() && Keyword::named(word.as_bytes()).is_none()
-}
-
-/// Whether a word stands behind `out` somewhere before a place, alone or in a list.
-fn is_written(window: Window, word: &str) -> bool {
-    let mut naming = false;
-    for number in 0..window.number {
-        let found = word_of(window, number);
-        if naming && found == word {
-            return true;
-        }
-        let goes_on = is_name(found) || found == ",";
-        naming = found.eq_ignore_ascii_case("out") || (naming && goes_on);
-    }
-    false
+    let piece = window.pieces.get(number);
+    piece.map_or("", |span| part_of(window.text, *span))
 }
 
 /// The capital letter that a piece of a pattern is.
@@ -120,19 +96,16 @@ fn letter_of(piece: &str) -> Option<u8> {
 /// Whether a piece of a pattern fits at a word, one for several words aside.
 fn fits(window: Window, piece: &str, word: &str) -> bool {
     match piece {
-        "K" => row_of(KINDS, word).is_some(),
-        "O" => is_written(window, word),
-        _ if letter_of(piece).is_some() => match row_of(LETTERS, piece) {
-            Some(row) => has_word(cell(row, 1), word),
-            None => is_name(word),
-        },
+        "O" => window.written.iter().any(|name| *name == word),
+        _ if letter_of(piece).is_some() => {
+            row_of(LETTERS, piece).map_or(is_name(word), |row| has_word(cell(row, 1), word))
+        }
         _ => piece.split("|").any(|one| word.eq_ignore_ascii_case(one)),
     }
 }
 
-/// Whether a run of words ends before a number: at the end of the line, at what is next in the pattern, or where no expression goes on.
-fn is_ended(window: Window, number: usize, piece: &str, next: &str) -> bool {
-    let word = word_of(window, number);
+/// Whether a run of words ends before one: at what is next in the pattern, or where no expression goes on.
+fn is_ended(window: Window, word: &str, piece: &str, next: &str) -> bool {
     let is_next = !next.is_empty() && fits(window, next, word);
     is_next
         || match piece {
@@ -143,29 +116,26 @@ fn is_ended(window: Window, number: usize, piece: &str, next: &str) -> bool {
         }
 }
 
-/// Where a run of words ends that a number begins, on the line of the place.
-fn end_of_run(window: Window, from: usize, piece: &str, next: &str) -> usize {
-    let mut depth = 0usize;
-    for number in from..window.line {
-        if depth == 0 && is_ended(window, number, piece, next) {
-            return number;
-        }
-        depth = match word_of(window, number) {
-            "(" | "[" => depth.saturating_add(1),
-            ")" | "]" => depth.saturating_sub(1),
-            _ => depth,
-        };
-    }
-    window.line
-}
-
-/// How many words and signs stand before what is behind a piece of a pattern, where that fits at a number of them.
+/// How many words and signs stand before what is behind a piece of a pattern, where that fits at a number of them: one of them, or a run on
+/// the line of the place.
 fn end_of(window: Window, from: usize, piece: &str, next: &str) -> Option<usize> {
-    let end = match piece {
-        "E" | "F" | "G" | "T" | "N" | "L" => end_of_run(window, from, piece, next),
-        _ if fits(window, piece, word_of(window, from)) => from.saturating_add(1),
-        _ => from,
-    };
+    let (mut depth, mut end) = (0usize, from);
+    if has_word("E F G T N L", piece) {
+        for number in from..window.line {
+            let word = word_of(window, number);
+            if depth == 0 && is_ended(window, word, piece, next) {
+                break;
+            }
+            depth = match word {
+                "(" | "[" => depth.saturating_add(1),
+                ")" | "]" => depth.saturating_sub(1),
+                _ => depth,
+            };
+            end = number.saturating_add(1);
+        }
+    } else if fits(window, piece, word_of(window, from)) {
+        end = from.saturating_add(1);
+    }
     if from < end { Some(end) } else { None }
 }
 
@@ -178,66 +148,36 @@ fn part_between(window: Window, from: usize, to: usize) -> Option<Span> {
     if is_shown { Some(part) } else { None }
 }
 
-/// The number of what stands behind a pattern that fits from a number on, with what its letters stand for.
-fn matched(
-    window: Window,
-    start: usize,
-    pattern: &[&str],
-    bindings: &mut Vec<Binding>,
-) -> Result<Option<usize>, AllocError> {
-    let mut from = start;
+/// Where a pattern ends, and what its letters stand for.
+type Match<'p> = Result<Option<(usize, Vec<Meaning<'p>>)>, AllocError>;
+
+/// The number of what stands behind a pattern that fits from a number on, with what its letters stand for: a kind as the language calls it.
+fn matched<'p>(window: Window<'p>, start: usize, pattern: &[&str]) -> Match<'p> {
+    let (mut from, mut meant) = (start, Vec::new(window.alloc));
     for (number, piece) in pattern.iter().enumerate() {
         let next = pattern.get(number.saturating_add(1)).copied().unwrap_or("");
         let Some(end) = end_of(window, from, piece, next) else {
             return Ok(None);
         };
         if let (Some(letter), Some(span)) = (letter_of(piece), part_between(window, from, end)) {
-            bindings.push(Binding { letter, span })?;
+            let found = part_of(window.text, span);
+            let kind = if window.capital { 2 } else { 1 };
+            match row_of(KINDS, found) {
+                Some(row) if letter == b'K' => meant.push((letter, cell(row, kind)))?,
+                _ => meant.push((letter, found))?,
+            }
         }
         from = end;
     }
-    Ok(Some(from))
-}
-
-/// What is put there, with what the letters stand for: a kind as the language calls it.
-fn filled(window: Window, template: &str, bindings: &[Binding]) -> Words {
-    let mut put = String::new(window.alloc);
-    for character in template.chars() {
-        let bound = bindings
-            .iter()
-            .find(|binding| char::from(binding.letter) == character);
-        let Some(binding) = bound else {
-            put.push(character)?;
-            continue;
-        };
-        let found = part_of(window.text, binding.span);
-        match row_of(KINDS, found) {
-            Some(row) if binding.letter == b'K' => put.push_str(cell(row, 1))?,
-            _ => put.push_str(found)?,
-        }
-    }
-    Ok(put)
+    Ok(Some((from, meant)))
 }
 
 /// Whether what a letter stands for has a `wait` that would be done twice.
-fn waits_twice(window: Window, template: &str, bindings: &[Binding]) -> bool {
-    for binding in bindings {
-        let letter = char::from(binding.letter);
-        let count = template.chars().filter(|one| *one == letter).count();
-        if count > 1 && part_of(window.text, binding.span).find("wait").is_some() {
-            return true;
-        }
-    }
-    false
-}
-
-/// What is put there, at the end of a line with a `;` behind it, or before a comment.
-fn ended(alloc: Global, put: &str, is_last: bool) -> Words {
-    match (is_last, put.starts_with("comment ")) {
-        (false, _) => String::from_str(alloc, put),
-        (true, true) => joined(alloc, &["; ", put]),
-        (true, false) => joined(alloc, &[put, ";"]),
-    }
+fn waits_twice(template: &str, meant: &[Meaning]) -> bool {
+    meant.iter().any(|(letter, words)| {
+        let count = template.bytes().filter(|one| *one == *letter).count();
+        count > 1 && words.find("wait").is_some()
+    })
 }
 
 /// The change of a pattern that fits from a number on, if the text is read past it then; at the end of a line also with a `;` behind it, or
@@ -249,24 +189,28 @@ fn change_at(
     put: &str,
     tries: &mut usize,
 ) -> Fixed {
-    let mut bindings = Vec::new(window.alloc);
-    let end = match matched(window, start, pattern, &mut bindings)? {
-        Some(end) if window.number <= end && !waits_twice(window, put, &bindings) => end,
-        _ => return Ok(None),
+    let Some((end, meant)) = matched(window, start, pattern)? else {
+        return Ok(None);
     };
-    let (Some(part), Some(rest)) = (part_between(window, start, end), tries.checked_sub(1)) else {
+    if end < window.number || waits_twice(put, &meant) {
+        return Ok(None);
+    }
+    let (Some(span), Some(rest)) = (part_between(window, start, end), tries.checked_sub(1)) else {
         return Ok(None);
     };
     *tries = rest;
-    let from = match window.pieces.get(end) {
-        Some(behind) => behind.from,
-        None => window.text.len(),
+    let behind = window.pieces.get(end);
+    let from = behind.map_or(window.text.len(), |behind| behind.from);
+    let new = filled(window.alloc, put, window.capital, &meant)?;
+    let last = if put.starts_with("comment ") {
+        "; @"
+    } else {
+        "@;"
     };
-    let put = filled(window, put, &bindings)?;
-    for is_last in [false, true] {
-        let put = ended(window.alloc, put.as_str(), is_last)?;
-        let fix = replacement(window.alloc, part, put.as_str())?;
-        let place = Span { from, to: from };
+    for form in ["@", last] {
+        let put = sentence(window.alloc, form, new.as_str(), "")?;
+        let beside = span;
+        let (fix, place) = (Fix { span, put, beside }, Span { from, to: from });
         let fix = mending(window.alloc, window.plain, place, Some(fix))?;
         if fix.is_some() || end < window.line {
             return Ok(fix);
@@ -281,21 +225,25 @@ pub(crate) fn rewritten(alloc: Global, text: &str, plain: &str, at: usize) -> Fi
     let line_end = at.saturating_add(rest.find("\n").unwrap_or(rest.len()).min(BEHIND));
     let to = text.len().min(line_end.saturating_add(BEHIND));
     let pieces = pieces_of(alloc, text, at.saturating_sub(NEAR), to)?;
+    let number = pieces.partition_point(|piece| piece.from < at);
+    let written = names_behind(alloc, text, pieces.get(..number).unwrap_or(&[]), "out")?;
     let window = Window {
         alloc,
         text,
         plain,
         pieces: &pieces,
-        number: pieces.partition_point(|piece| piece.from < at),
+        number,
         line: pieces.partition_point(|piece| piece.from < line_end),
+        written: &written,
+        capital: is_capital(text),
     };
-    let first = window.number.saturating_sub(BEFORE);
+    let first = number.saturating_sub(BEFORE);
     let mut tries = TRIES.min(MOST_READ.checked_div(text.len()).unwrap_or(0));
     for row in PATTERNS.lines() {
         let (template, patterns) = row.split_once(" | ").unwrap_or(("", ""));
         for pattern in patterns.split(" | ") {
             let words = pattern.split_whitespace().collect::<Vec<&str>>(alloc)?;
-            for start in first..window.number.saturating_add(1) {
+            for start in first..number.saturating_add(1) {
                 if let Some(fix) = change_at(window, start, &words, template, &mut tries)? {
                     return Ok(Some(fix));
                 }

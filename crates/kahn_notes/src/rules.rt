@@ -1,61 +1,63 @@
 //! What is said of a place where a text goes wrong, beside what was expected there: the first that answers.
 
 use crate::blocks::{blocks_said, closer_said};
-use crate::choice::{LACKING, LIKELY, TWICE, first_of};
-use crate::foreign::{Foreign, foreign_word};
-use crate::habits::{EARLY, FORMS, HABITS, LAST};
-use crate::lines::{decimal, line_words};
-use crate::mending::mending;
-use crate::place::{Place, before, behind, exemplified, found};
+use crate::changes::{LACKING, LIKELY, TWICE, first_of, is_slip, slip, split_said};
+use crate::foreign::{closing_word, foreign_word};
+use crate::habits::{EARLY, HABITS, LAST, MARKS};
+use crate::place::{Place, exemplified, lexeme_at, name_at, near};
 use crate::rewriting::rewritten;
-use crate::said::{Saying, change_said, fix_of, joined, meant, replacement, rewriting_said};
-use crate::spelling::{remark_slip, slip};
-use crate::split::split_words;
-use crate::table::{advice, cell, class_of, finds};
-use kahn_marks::part_of;
-use kahn_syntax::{Class, Keyword};
+use crate::said::{Saying, fix_of, put_at, sentence, told};
+use crate::table::{advice, are_joined, cell, finds, has_word};
+use itoa::Buffer;
+use kahn_marks::{Fix, part_of};
+use kahn_syntax::{Class, Keyword, Sign, Span};
 use kahn_wanted::{Change, Spot};
+use std::alloc::AllocError;
 
 /// What is said of a change, if it can be made in the text and mends the place.
 fn told_change(place: Place, change: Option<Change>) -> Saying {
-    let Some(change) = change else {
-        return Ok(None);
-    };
-    let fix = fix_of(place, change)?;
-    match mending(place.alloc, place.text, place.span, fix)? {
-        Some(fix) => Ok(Some(change_said(place, change, fix)?)),
+    match change {
+        Some(change) => told(place, fix_of(place, change)?),
         None => Ok(None),
     }
 }
 
-/// What is said of a name that is a slip away from a keyword, or from `comment`.
-fn spelling_said(place: Place) -> Saying {
-    if let Some(said) = told_change(place, slip(place))? {
-        return Ok(Some(said));
-    }
-    let Some(name) = remark_slip(place, Spot::Here).or(remark_slip(place, Spot::Before)) else {
+/// A number of another language before a place and at it, as it is written here.
+fn decimal(place: Place) -> Result<Option<Fix>, AllocError> {
+    let (Some(first), Some(name)) = (near(place, -1), name_at(place, Spot::Here)) else {
         return Ok(None);
     };
-    let words = meant(place.alloc, part_of(place.text, name.span), "comment")?;
-    let fix = replacement(place.alloc, name.span, "comment")?;
-    let fix = mending(place.alloc, place.text, place.span, Some(fix))?;
-    Ok(Some((Some((name.span, words)), fix, None)))
+    let (digits, mut buffer) = (part_of(place.text, first.span), Buffer::new());
+    let (sort, rest) = name.split_at_checked(1).unwrap_or(("", ""));
+    let number = match (digits, sort) {
+        ("0", "x" | "X") => i64::from_str_radix(rest, 16),
+        ("0", "o" | "O") => i64::from_str_radix(rest, 8),
+        ("0", "b" | "B") => i64::from_str_radix(rest, 2),
+        (_, "e" | "E") => rest.parse::<i64>(),
+        (_, _) => return Ok(None),
+    };
+    let (Ok(number), true) = (number, are_joined(place)) else {
+        return Ok(None);
+    };
+    let count = usize::try_from(number).unwrap_or(usize::MAX);
+    let put = match ("000000000000000000".get(..count), has_word("e", sort)) {
+        (Some(zeros), true) => sentence(place.alloc, "@#", digits, zeros)?,
+        (None, true) => return Ok(None),
+        (_, false) => String::from_str(place.alloc, buffer.format(number))?,
+    };
+    let to = place.span.to;
+    let span = Span { to, ..first.span };
+    let beside = span;
+    Ok(Some(Fix { span, put, beside }))
 }
 
-/// What is said of the changes that are most often meant.
-fn likely_said(place: Place) -> Saying {
-    if let Some(said) = told_change(place, first_of(place, LIKELY))? {
-        return Ok(Some(said));
-    }
-    if let Some(words) = split_words(place)? {
-        return Ok(Some((None, None, Some(words))));
-    }
-    if let Some(said) = told_change(place, first_of(place, LACKING))? {
-        return Ok(Some(said));
-    }
-    if finds(",", before(place)) && finds("integer logical", found(place)) {
-        let (spot, put) = (Spot::Before, class_of(";"));
-        return told_change(place, Some(Change { spot, put }));
+/// A name that is a slip away from `comment`, and this in its place.
+fn remark_slip(place: Place) -> Result<Option<Fix>, AllocError> {
+    for spot in [Spot::Here, Spot::Before] {
+        if let (Some(name), true) = (lexeme_at(place, spot), is_slip(place, spot, "comment")) {
+            let fix = put_at(place.alloc, place.text, name.span, name.span, "comment")?;
+            return Ok(Some(fix));
+        }
     }
     Ok(None)
 }
@@ -68,103 +70,93 @@ fn advised(table: &'static str, place: Place) -> Saying {
     }
 }
 
-/// What is said of the one change that there is, or that one statement or one value alone stands there; or else an example.
-fn last_said(place: Place) -> Saying {
-    let offers = place.offers;
-    if offers.whole && offers.best.len() == 1 && !finds("else", found(place)) {
-        if let Some(said) = told_change(place, offers.best.first().copied())? {
-            return Ok(Some(said));
-        }
-    }
-    match advised(LAST, place)? {
-        None => advised(FORMS, place),
-        said => Ok(said),
+/// The one change that there is, with which the text is a program.
+fn only_change(place: Place) -> Option<Change> {
+    match place.offers.best.as_slice() {
+        [one] if place.offers.whole => Some(*one),
+        _ => None,
     }
 }
 
 /// A change, if it is offered.
-fn offered(place: Place, change: Change) -> Option<Change> {
-    let is_offered = place.offers.best.contains(&change);
-    if is_offered { Some(change) } else { None }
+fn offered(place: Place, spot: Spot, put: Option<Class>) -> Option<Change> {
+    let change = Change { spot, put };
+    let mut best = place.offers.best.iter();
+    best.find(|one| **one == change).copied()
 }
 
 /// The change that puts a keyword in the place of a word of another language, if it is the one that mends the text, or the one of the table.
-fn meant_change(place: Place, spot: Spot, keyword: Option<Keyword>) -> Option<Change> {
-    let best = &place.offers.best;
-    if let (true, 1, Some(one)) = (place.offers.whole, best.len(), best.first()) {
-        if one.spot != Spot::Between && matches!(one.put, Some(Class::Word(_))) {
-            return Some(*one);
-        }
+fn meant_change(place: Place) -> Option<Change> {
+    let (spot, row) = foreign_word(place)?;
+    let only = only_change(place).filter(|one| one.spot != Spot::Between);
+    if only.is_some_and(|one| matches!(one.put, Some(Class::Word(_)))) {
+        return only;
     }
-    let put = Some(Class::Word(keyword?));
-    offered(place, Change { spot, put })
+    let keyword = Keyword::named(cell(row, 1).as_bytes())?;
+    offered(place, spot, Some(Class::Word(keyword)))
 }
 
-/// What is said of a word of another language: the keyword in its place, or else its words; and one that ends a block there is left out.
-fn foreign_said(place: Place, foreign: Foreign) -> Saying {
-    let (spot, row) = foreign;
-    let keyword = Keyword::named(cell(row, 1).as_bytes());
-    if let Some(said) = told_change(place, meant_change(place, spot, keyword))? {
-        return Ok(Some(said));
-    }
-    let head = match (spot, before(place)) {
+/// What is said of a word of another language; and one that ends a block there is left out.
+fn foreign_said(place: Place) -> Saying {
+    let Some((spot, row)) = foreign_word(place) else {
+        return Ok(None);
+    };
+    let (alloc, text) = (place.alloc, place.text);
+    let fix = match offered(place, spot, None) {
+        Some(change) if closing_word(place).is_some() => fix_of(place, change)?,
+        _ => None,
+    };
+    let head = match (spot, near(place, -1)) {
         (Spot::Before, Some(name)) => {
-            let word = part_of(place.text, name.span);
-            let words = joined(place.alloc, &["`", word, "` is no word of the language"])?;
-            Some((name.span, words))
+            let (words, word) = ("`@` is no word of the language", part_of(text, name.span));
+            Some((name.span, sentence(alloc, words, word, "")?))
         }
         (_, _) => None,
     };
-    let sentence = cell(row, 2).strip_prefix("; ").unwrap_or("");
-    let below = String::from_str(place.alloc, sentence)?;
-    let next = if spot == Spot::Here {
-        behind(place)
-    } else {
-        found(place)
-    };
-    let is_endless = cell(row, 0) == "until" && finds("false", next);
-    if keyword != Some(Keyword::End) && !is_endless {
-        return Ok(Some((head, None, Some(below))));
-    }
-    if let Some(said) = closer_said(place, spot)? {
-        return Ok(Some(said));
-    }
-    let fix = match offered(place, Change { spot, put: None }) {
-        Some(change) => fix_of(place, change)?,
-        None => None,
-    };
-    Ok(Some((head, fix, Some(below))))
+    let below = cell(row, 2).strip_prefix("; ").unwrap_or("");
+    Ok(Some((head, fix, Some(String::from_str(alloc, below)?))))
 }
 
-/// What is said of a place by a rule, of these in turn: a number or a line of others; one of two same words; several words of another
-/// language; a slip; one such word; blocks; what would mislead; changes of one lexeme; habits; and what there is else.
+/// What is said of a place by a rule, of these in turn: lines of others, and a number; one of two same words; several words of another
+/// language; slips; one such word; blocks; what would mislead; changes of one lexeme; habits; and what there is else.
 fn said_by(rule: usize, place: Place) -> Saying {
-    let (alloc, text) = (place.alloc, place.text);
-    let twice = "process repeat while send print wait in out input output channel";
+    let twice = finds(
+        "process repeat while send print wait in out input output channel",
+        near(place, 0),
+    );
+    let is_group = finds(",", near(place, -1)) && finds("integer logical", near(place, 0));
     match rule {
-        0 => match line_words(text, place.span.from) {
-            Some(words) => Ok(Some((None, None, Some(String::from_str(alloc, words)?)))),
-            None => rewriting_said(place, decimal(place)?),
-        },
-        1 if finds(twice, found(place)) => told_change(place, first_of(place, TWICE)),
-        2 => rewriting_said(place, rewritten(alloc, text, text, place.span.from)?),
-        3 => spelling_said(place),
-        4 => match foreign_word(place) {
-            Some(foreign) => foreign_said(place, foreign),
-            None => Ok(None),
-        },
-        5 => blocks_said(place),
-        6 => advised(EARLY, place),
-        7 => likely_said(place),
-        8 => advised(HABITS, place),
-        9 => last_said(place),
+        0 => advised(MARKS, place),
+        1 => told(place, decimal(place)?),
+        2 if twice => told_change(place, first_of(place, TWICE)),
+        3 => told(
+            place,
+            rewritten(place.alloc, place.text, place.text, place.span.from)?,
+        ),
+        4 => told_change(place, slip(place)),
+        5 => told(place, remark_slip(place)?),
+        6 => told_change(place, meant_change(place)),
+        7 => closer_said(place),
+        8 => foreign_said(place),
+        9 => blocks_said(place),
+        10 => advised(EARLY, place),
+        11 => told_change(place, first_of(place, LIKELY)),
+        12 => split_said(place),
+        13 => told_change(place, first_of(place, LACKING)),
+        14 if is_group => {
+            let (spot, put) = (Spot::Before, Some(Class::Sign(Sign::Semicolon)));
+            told_change(place, Some(Change { spot, put }))
+        }
+        15 => advised(HABITS, place),
+        16 if !finds("else", near(place, 0)) => told_change(place, only_change(place)),
+        17 => advised(LAST, place),
         _ => Ok(None),
     }
 }
 
 /// What is said of the lexemes of a place.
 pub(crate) fn grammar_said(place: Place) -> Saying {
-    for rule in 0..10 {
+    for rule in 0..18 {
         let said = said_by(rule, place)?;
         if said.is_some() {
             return Ok(said);

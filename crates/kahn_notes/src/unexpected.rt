@@ -5,13 +5,13 @@ ghost use Rattle.kahn_streams.specs.declared.span.Span.{Span};
 ghost use Rattle.kahn_syntax.specs.{declared.fault.SyntaxFault.TheVariants.Expected, Texts.IsTextFault};
 ghost use Rattle.kahn_notes.specs.Notes.{IsExpected, IsNoteAt, IsThereOrFixed, IsToldAt, Mends};
 
-use crate::choice::offers_of;
+use crate::changes::offers_of;
 use crate::commented::{comment_words, unended_said};
-use crate::listing::add_wanted;
 use crate::mending::mending;
-use crate::place::Place;
+use crate::place::{Place, front, names_behind};
 use crate::rules::grammar_said;
-use crate::said::{Heading, Saying, Words, joined};
+use crate::said::{Heading, Saying, Words, sentence};
+use crate::words::add_wanted;
 use kahn_marks::{Fix, Note, Other, Sort, add, part_of};
 use kahn_streams::NoMemory;
 use kahn_syntax::{Lexeme, Span, What};
@@ -24,7 +24,7 @@ const MOST: usize = 8192;
 /// What stands at a place, in words.
 fn found_words(alloc: Global, text: &str, found: Option<Lexeme>) -> Words {
     match found {
-        Some(lexeme) => joined(alloc, &["`", part_of(text, lexeme.span), "`"]),
+        Some(lexeme) => sentence(alloc, "`@`", part_of(text, lexeme.span), ""),
         None => String::from_str(alloc, "the end of the text"),
     }
 }
@@ -64,6 +64,12 @@ fn said_of(
             return Ok(None);
         }
     }
+    let earlier = front(&at.lexemes, at.number.saturating_sub(1)).iter();
+    let earlier = earlier
+        .map(|lexeme| lexeme.span)
+        .collect::<Vec<Span>>(alloc)?;
+    let declaring = "integer logical in out channel process";
+    let declared = names_behind(alloc, text, &earlier, declaring)?;
     grammar_said(Place {
         alloc,
         text,
@@ -72,6 +78,8 @@ fn said_of(
         span,
         wanted: &at.unexpected.wanted,
         offers: &offers,
+        earlier: &earlier,
+        declared: &declared,
     })
 }
 

@@ -44,7 +44,7 @@ pub use Rattle.kahn_streams.proofs.Sourced.{handed_within, reads, reads_listed, 
 pub use Rattle.kahn_streams.specs.Answers.{IsRight, is_output, stream_lines, IsWatched}
 pub use Rattle.kahn_streams.specs.Inputs.{Lists, inputs_of}
 pub use Rattle.kahn_streams.specs.Meaning.{Store}
-pub use Rattle.kahn_streams.specs.Network.{Actual, Given, IsOnly, IsWriter, Network, Nobody, Reads, Source, Writes, Written, actual_at, channel_source, idle, instance_at, network_of, role_at, IsServed}
+pub use Rattle.kahn_streams.specs.Network.{Actual, Given, IsOnly, IsWriter, Schema, Nobody, Reads, Source, Writes, Written, actual_at, channel_source, idle, instance_at, network_of, role_at, IsServed}
 pub use Rattle.kahn_streams.specs.Solution.{AreInputsExtended, Inputs, fed, iterate, out, source}
 pub use Rattle.kahn_streams.specs.Tokens.{token_value}
 pub use Rattle.kahn_streams.specs.Wiring.{IsWellWired, side_at}

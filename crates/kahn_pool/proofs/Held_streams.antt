@@ -1,11 +1,11 @@
 -- The streams of a held run so far: what is lent of them, and that they are those of a right answer.
-use Rattle.kahn_pool.proofs.Common.{◌≡◌, ℕ, ◌<◌, length, slice_get, Some, true, List, [], map, sym, ap, ◌∙◌, subst, Option, slice_index_or, refl, arith, Program, Line, Network, Given, Written, Writes, channel_source, network_of, instance_at, actual_at, Token, Channel, Print, Inputs, source, AreInputsExtended, prefix_trans, Lists, inputs_of, is_streamed, token_value, AreIdle, cells_of, Work, width_of, Plan, AreAllGiven, AreGiven, run_of, IsWellWired, HeldRun, IsLineOf, given_so_far, so_far, Seen, Verdict, seen_at, seen_of, unseen, at_mapped, slice_get_read, Source, input_role, input_watched, written_once, mapped}
+use Rattle.kahn_pool.proofs.Common.{◌≡◌, ℕ, ◌<◌, length, slice_get, Some, true, List, [], map, sym, ap, ◌∙◌, subst, Option, slice_index_or, refl, arith, Program, Line, Schema, Given, Written, Writes, channel_source, network_of, instance_at, actual_at, Token, Channel, Print, Inputs, source, AreInputsExtended, prefix_trans, Lists, inputs_of, is_streamed, token_value, AreIdle, cells_of, Work, width_of, Plan, AreAllGiven, AreGiven, run_of, IsWellWired, HeldRun, IsLineOf, given_so_far, so_far, Seen, Verdict, seen_at, seen_of, unseen, at_mapped, slice_get_read, Source, input_role, input_watched, written_once, mapped}
 use Rattle.kahn_sequential.proofs.Named.{HasLine, has_line}
 
 -- ---- the list of a watched input channel
 
 -- what was given of it begins a longer one too
-pub given_on : (N : Network) (I J : Inputs) (watch : Option ℕ) (ts : List Token) → AreInputsExtended I J → AreGiven N I watch ts → AreGiven N J watch ts
+pub given_on : (N : Schema) (I J : Inputs) (watch : Option ℕ) (ts : List Token) → AreInputsExtended I J → AreGiven N I watch ts → AreGiven N J watch ts
 given_on N I J watch ts longer given c w =
     let b = given c w in
     record {

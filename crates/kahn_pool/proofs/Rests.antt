@@ -1,5 +1,5 @@
 -- What settled tasks whose ends have met say of the cells.
-use Rattle.kahn_pool.proofs.Common.{arith, ◌≡◌, inl, inr, ℕ, zero, suc, ◌+◌, ◌<◌, ◌≤◌, List, [], length, map, refl, sym, ap, ◌∙◌, subst, Option, Some, slice_get, length-append, same_Some, Program, Role, Value, Inner, Input, Network, Reads, Writes, Given, network_of, instance_at, actual_at, role_at, IsWellWired, reads, writes, Channel, Store, Inputs, fed, iterate, out, source, Lists, inputs_of, dry_reads, AllStand, View, exec_on, is_output, count, told_view, joins_within, driven, IsBehind, IsReady, AreBehindOn, end_in, row_there, Serves, end_at, Tasked, handed_to_task, task_rows, work_of, at_mapped, AreAll, AreTold, IsDryOf, IsEndOf, IsSaid, IsSettledTask, IsToldAs, cell_of, HasEndIn, RunState, TookNoMore, IsGiven, IsOutcomeOf, no_view, view_at, stand_in, StoodBy, IsFed as IsFedBy, End, get_map, got, mapped, same_writer}
+use Rattle.kahn_pool.proofs.Common.{arith, ◌≡◌, inl, inr, ℕ, zero, suc, ◌+◌, ◌<◌, ◌≤◌, List, [], length, map, refl, sym, ap, ◌∙◌, subst, Option, Some, slice_get, length-append, same_Some, Program, Role, Value, Inner, Input, Schema, Reads, Writes, Given, network_of, instance_at, actual_at, role_at, IsWellWired, reads, writes, Channel, Store, Inputs, fed, iterate, out, source, Lists, inputs_of, dry_reads, AllStand, View, exec_on, is_output, count, told_view, joins_within, driven, IsBehind, IsReady, AreBehindOn, end_in, row_there, Serves, end_at, Tasked, handed_to_task, task_rows, work_of, at_mapped, AreAll, AreTold, IsDryOf, IsEndOf, IsSaid, IsSettledTask, IsToldAs, cell_of, HasEndIn, RunState, TookNoMore, IsGiven, IsOutcomeOf, no_view, view_at, stand_in, StoodBy, IsFed as IsFedBy, End, get_map, got, mapped, same_writer}
 use Rattle.kahn_streams.specs.declared.answer.Outcome.{Outcome}
 use Rattle.kahn_pool.proofs.Ended.{handed_to, one_number}
 use Rattle.kahn_streams.specs.Script as script
@@ -8,11 +8,11 @@ use Rattle.kahn_job.specs.declared.standing.TaskStanding.TheVariants as standing
 use Rattle.kahn_streams.specs.declared.answer.Outcome.TheVariants as outcome
 
 -- what stands on an input channel is of its list
-iter_given : (N : Network) (I : Inputs) (d n : ℕ) → source N (Channel d) ≡ Given → iterate N I n (Channel d) ≡ I d
+iter_given : (N : Schema) (I : Inputs) (d n : ℕ) → source N (Channel d) ≡ Given → iterate N I n (Channel d) ≡ I d
 iter_given N I d zero e = ap (λ s. fed s I (λ p. []) (Channel d)) e
 iter_given N I d (suc n) e = ap (λ s. fed s I (λ p. out N n p (iterate N I n) (Channel d)) (Channel d)) e
 
-list_long : (N : Network) (I : Inputs) (d : ℕ) (xs : List Value) → source N (Channel d) ≡ Given → AllStand N I (Channel d) xs → length xs ≤ length (I d)
+list_long : (N : Schema) (I : Inputs) (d : ℕ) (xs : List Value) → source N (Channel d) ≡ Given → AllStand N I (Channel d) xs → length xs ≤ length (I d)
 list_long N I d xs e h =
     let p = stand_in N I (Channel d) xs h in
     let l : length (I d) ≡ length xs + length p.1.0 = ap length (sym (iter_given N I d p.0 e) ∙ p.1.1) ∙ length-append xs p.1.0 in
@@ -46,7 +46,7 @@ pub record AreTasks (t : Program) (lists : Lists) (watch : Option ℕ) (tasks : 
 
 module _ (t : Program) (wired : IsWellWired t) (lists : Lists) (watch : Option ℕ) (tasks : List Tasked) (of : AreTasks t lists watch tasks)
     (settled : (p : ℕ) (x : Tasked) → slice_get tasks p ≡ Some x → IsSettledTask x) where
-  abbrev N : Network
+  abbrev N : Schema
   N = network_of t
 
   abbrev I : Inputs

@@ -1,5 +1,5 @@
 -- The names of the crates below and of this crate's definitions that proofs cite, passed on from one place.
-pub use Rattle.kahn_streams.specs.Network.{Actual, Hands, Network, Reads, Writes, actual_of, actuals_of, channel_names, channels_of, idle, instance_from, network_of, process_of}
+pub use Rattle.kahn_streams.specs.Network.{Actual, Hands, Schema, Reads, Writes, actual_of, actuals_of, channel_names, channels_of, idle, instance_from, network_of, process_of}
 pub use Rattle.kahn_streams.specs.View.{Scope, body_of, bytes_of, expr_of, level_of, names_of, place_of, row_of, stmt_of}
 pub use Rattle.kahn_syntax.proofs.OneList.{same_lexemes}
 pub use Rattle.kahn_syntax.proofs.OneTree.{one_tree}

@@ -1,8 +1,8 @@
 -- One text spells one network: the network and the names are those of the tree without its spans.
-use Rattle.kahn_report.proofs.Common.{◌≡◌, ℕ, pos, Bool, true, false, List, [], ◌∷◌, ◌++◌, map, Some, Option, refl, sym, ap, ◌∙◌, bytes_eq, if◌then◌else◌, Program, Scope, place_of, expr_of, level_of, stmt_of, row_of, body_of, bytes_of, names_of, Actual, Reads, Writes, Hands, Network, idle, channels_of, process_of, actual_of, actuals_of, instance_from, network_of, ExpressionTree, number, truth, variable, wait, negation, denial, bracket, level, conditional, OperandTrees, no_operand, operand, StatementTree, empty, assign, send, print, block, if_then, if_else, while_do, repeat, StatementTrees, no_statement, statement, DeclarationTree, ArgumentTree, InstanceTree, ProgramTree, name_of, form_tree, operands_row, action_tree, statements_row, statement_trees, parameter_of, variable_of, declaration_tree, argument_tree, instance_tree, program_tree}
+use Rattle.kahn_report.proofs.Common.{◌≡◌, ℕ, pos, Bool, true, false, List, [], ◌∷◌, ◌++◌, map, Some, Option, refl, sym, ap, ◌∙◌, bytes_eq, if◌then◌else◌, Program, Scope, place_of, expr_of, level_of, stmt_of, row_of, body_of, bytes_of, names_of, Actual, Reads, Writes, Hands, Schema, idle, channels_of, process_of, actual_of, actuals_of, instance_from, network_of, ExpressionTree, number, truth, variable, wait, negation, denial, bracket, level, conditional, OperandTrees, no_operand, operand, StatementTree, empty, assign, send, print, block, if_then, if_else, while_do, repeat, StatementTrees, no_statement, statement, DeclarationTree, ArgumentTree, InstanceTree, ProgramTree, name_of, form_tree, operands_row, action_tree, statements_row, statement_trees, parameter_of, variable_of, declaration_tree, argument_tree, instance_tree, program_tree}
 use Rattle.kahn_streams.specs.declared.tree.Form.{Form, Number, Logical, Variable, Wait, Negate', Not', Bracket', Level', Conditional', Row_of-Operand, end_of-Operand, more_of-Operand}
 use Rattle.kahn_streams.specs.declared.tree.Action.{Action, Empty, Assign, Send, Print, Block', If', While', Repeat', Row_of-Statement, end_of-Statement, more_of-Statement, None', Some'}
-use Rattle.kahn_streams.specs.{declared.tree.Statement.Statement, declared.tree.Kind.Kind, declared.tree.Role.Role, declared.tree.Taking.Taking, declared.tree.Parameter.Parameter, declared.tree.Process.Process, declared.tree.Declaration.Declaration, declared.tree.Argument.Argument, declared.tree.Instance.Instance as OneInstance, declared.tree.Direction.TheVariants.In, declared.tree.Direction.TheVariants.Out, Network.Instance}
+use Rattle.kahn_streams.specs.{declared.tree.Statement.Statement, declared.tree.Kind.Kind, declared.tree.Role.Role, declared.tree.Taking.Taking, declared.tree.Parameter.Parameter, declared.tree.Process.Process, declared.tree.Declaration.Declaration, declared.tree.Argument.Argument, declared.tree.Instance.Instance as OneInstance, declared.tree.Direction.TheVariants.In, declared.tree.Direction.TheVariants.Out, Network.Node}
 use Rattle.kahn_streams.specs.declared.tree.Taking.TheVariants as taking
 use Rattle.kahn_streams.specs.declared.tree.Declaration.TheVariants as declared
 use Rattle.kahn_streams.specs.declared.tree.Argument.TheVariants as argued
@@ -103,7 +103,7 @@ actuals_in channels [] xs = []
 actuals_in channels (q ∷ qs) [] = []
 actuals_in channels ((t, n) ∷ qs) (x ∷ xs) = actual_in channels t x ∷ actuals_in channels qs xs
 
-abbrev process_in : Scope → List (Taking × List ℕ) → List (Kind × List ℕ) → StatementTrees → List ArgumentTree → Instance
+abbrev process_in : Scope → List (Taking × List ℕ) → List (Kind × List ℕ) → StatementTrees → List ArgumentTree → Node
 process_in channels ps vs ss xs = record {
   actuals = actuals_in channels ps xs;
   variables = map variable_kind vs;
@@ -111,7 +111,7 @@ process_in channels ps vs ss xs = record {
 }
 
 -- the instance of the process of that name
-abbrev instance_in : Scope → List DeclarationTree → List ℕ → List ArgumentTree → Instance
+abbrev instance_in : Scope → List DeclarationTree → List ℕ → List ArgumentTree → Node
 instance_in channels [] x xs = idle
 instance_in channels (whole.channels k r ns ∷ ds) x xs = instance_in channels ds x xs
 instance_in channels (whole.process n ps vs ss ∷ ds) x xs =
@@ -125,10 +125,10 @@ channels_in (whole.process n ps vs ss ∷ ds) = channels_in ds
 abbrev instance_name : InstanceTree → List ℕ
 instance_name (whole.instance n xs) = n
 
-abbrev made_in : Scope → List DeclarationTree → InstanceTree → Instance
+abbrev made_in : Scope → List DeclarationTree → InstanceTree → Node
 made_in channels ds (whole.instance n xs) = instance_in channels ds n xs
 
-abbrev pub network_in : ProgramTree → Network
+abbrev pub network_in : ProgramTree → Schema
 network_in (whole.program ds is) =
     record { channels = map (λ c. c.1) (channels_in ds); instances = map (made_in (map (λ c. c.0) (channels_in ds)) ds) is }
 
@@ -166,7 +166,7 @@ same_process channels p xs =
     ∙ ap (λ (k : List Kind). record { actuals = actuals_in channels (map parameter_of p.parameters.items) (map argument_tree xs); variables = k; body = body_of (names_of p) p.statements.items }) kinds
     ∙ ap (λ (b : S.Stmt). record { actuals = actuals_in channels (map parameter_of p.parameters.items) (map argument_tree xs); variables = map variable_kind (map variable_of p.variables.items); body = b }) body
 
-by_name : (channels : Scope) (b : Bool) (p : Process) (o : Option Process) (xs : List Argument) (this other : Instance) →
+by_name : (channels : Scope) (b : Bool) (p : Process) (o : Option Process) (xs : List Argument) (this other : Node) →
     instance_from channels (Some p) xs ≡ this → instance_from channels o xs ≡ other → instance_from channels (if b then Some p else o) xs ≡ (if b then this else other)
 by_name channels true p o xs this other e f = e
 by_name channels false p o xs this other e f = f
@@ -191,7 +191,7 @@ same_network t =
     λ i. same_instance _ t.declarations.items (name_of i.process) i.arguments.items
     ∙ ap (λ (l : List (List ℕ × (Kind × Role))). instance_in (map (λ c. c.0) l) (map declaration_tree t.declarations.items) (name_of i.process) (map argument_tree i.arguments.items)) cs in
     ap (λ (l : List (List ℕ × (Kind × Role))). record { channels = map (λ c. c.1) l; instances = (network_of t).instances }) cs
-    ∙ ap (λ (l : List Instance). record { channels = map (λ c. c.1) (channels_in (map declaration_tree t.declarations.items)); instances = l })
+    ∙ ap (λ (l : List Node). record { channels = map (λ c. c.1) (channels_in (map declaration_tree t.declarations.items)); instances = l })
     (map_alike _ _ made t.instances.items ∙ map_twice instance_tree (made_in (map (λ c. c.0) (channels_in (map declaration_tree t.declarations.items))) (map declaration_tree t.declarations.items)) t.instances.items)
 
 -- ---- two programs that are one tree

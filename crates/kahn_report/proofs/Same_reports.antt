@@ -1,5 +1,5 @@
 -- Two finished reports of the same texts are the same bytes.
-use Rattle.kahn_report.proofs.Common.{◌≡◌, ℕ, ◌+◌, List, [], ◌∷◌, ◌++◌, length, map, Option, Some, None, flat_map, refl, sym, ap, ◌∙◌, subst, codes, decimal, string_bytes, slice_index_or, Program, Scope, place_of, Network, network_of, channel_names, program_tree, terminals, IsProgram, Spells, one_tree, same_lexemes, program_spelled, text_lines, line_head, stream_text, outcome_word, waited_name, end_words, end_text, ends_text, verdict_text, last_text, report_text}
+use Rattle.kahn_report.proofs.Common.{◌≡◌, ℕ, ◌+◌, List, [], ◌∷◌, ◌++◌, length, map, Option, Some, None, flat_map, refl, sym, ap, ◌∙◌, subst, codes, decimal, string_bytes, slice_index_or, Program, Scope, place_of, Schema, network_of, channel_names, program_tree, terminals, IsProgram, Spells, one_tree, same_lexemes, program_spelled, text_lines, line_head, stream_text, outcome_word, waited_name, end_words, end_text, ends_text, verdict_text, last_text, report_text}
 use Rattle.std.proofs.{lemmas.Bool.eqb-true, lemmas.List.Folds.flat_map-map}
 use Rattle.std.specs.{Io.KnownBytes.Appends, List.concat, declared.string.String.String, declared.alloc.Global.Global}
 use Rattle.kahn_streams.specs.{declared.value.Value.Value, declared.value.Line.Line, declared.config.Config.Config, Wiring.IsWellWired, Solution.Inputs, Inputs.inputs_of, declared.value.Line.TheVariants.Channel, declared.value.Line.TheVariants.Print, Tokens.token_value, declared.answer.Answer.Answer, declared.answer.End.End, declared.answer.Outcome.Outcome, declared.answer.Outcome.TheVariants.Ended, declared.answer.Outcome.TheVariants.Waits, declared.answer.Outcome.TheVariants.Faulted, declared.answer.Outcome.TheVariants.More, declared.answer.Stream.Stream, declared.answer.Verdict.TheVariants.Finished, Answers.AreOne, Answers.IsRight, Answers.stream_line, Answers.values_of, Answers.IsWatched, Written.line_feed, Written.spaced_text}
@@ -100,11 +100,11 @@ appended old x y (Some bs) (Some cs) h g e = ap Some (h ∙ ap (λ l. old ++ l) 
 -- ---- the whole
 
 -- right answers for one network, input and watch, however they are named
-one_answer : (N M : Network) (I J : Inputs) (n m : ℕ) (watch other : Option ℕ) (a b : Answer) → N ≡ M → I ≡ J → watch ≡ other →
+one_answer : (N M : Schema) (I J : Inputs) (n m : ℕ) (watch other : Option ℕ) (a b : Answer) → N ≡ M → I ≡ J → watch ≡ other →
     IsRight N I n watch a → IsRight M J m other b → a.verdict ≡ Finished → b.verdict ≡ Finished → AreOne a b
 one_answer N M I J n m watch other a b network input watched r s f g =
     finished_is_one N I watch n m a b r
-    (subst (λ (K : Network). IsRight K I m watch b) (sym network) (subst (λ (L : Inputs). IsRight M L m watch b) (sym input)
+    (subst (λ (K : Schema). IsRight K I m watch b) (sym network) (subst (λ (L : Inputs). IsRight M L m watch b) (sym input)
     (subst (λ (w : Option ℕ). IsRight M J m w b) (sym watched) s))) f g
 
 pub one_report : (program input : List ℕ) (config other : Config) → IsOneReport program input config other

@@ -12,6 +12,4 @@ mod held;
 #[cfg(test)]
 mod programs;
 #[cfg(test)]
-mod sizes;
-#[cfg(test)]
 mod streams;

@@ -1,5 +1,5 @@
 -- An answer put together from cells at rest is right.
-use Rattle.kahn_sequential.proofs.Common.{⊎_elim, fun_ext, arith, ◌≡◌, ◌⊎◌, inl, inr, ℕ, ◌<◌, ◌≤◌, List, [], length, map, refl, sym, ap, ◌∙◌, subst, true, Option, Some, None, slice_get, pos, sum_by, ◌+◌, ◌∷◌, zero, suc, false, true≢false, Bool, same_Some, Line, Channel, Print, Number, Dry, Cut, Got, Fault, Store, Network, idle, Reads, Writes, Hands, instance_at, actual_at, Source, Given, Written, Nobody, Histories, Inputs, tapes_of, exec_at, out, values_at, goes_to, source, fed, input_list, iterate, IsPrefix, Stands, IsWhole, HasEnd, Ending, ending, IsQuiet, IsSettled, begins_nil, prefix_refl, settled, AllStand, View, AreKeptTokens, is_streamed, token_value, Answer, Stream, Token, Verdict, Finished, Bound, Memory, Ended, Faulted, More, AreRight, IsRight, IsOutcome, IsWaiting, IsDryOn, IsEnd, HasStream, values_of, no_view, view_at, IsFrom, IsGiven, IsOutcomeOf, stand_in, StoodBy, cases_lt, there, none-some, get_or_past, Tapes, sent_on, sent_stands, exec_on, Stays, sum_by-cons, end_events, view_events, stream_lines, AreStreams, IsConcluded, IsVerdict, HasEndIn, RunState, End, Outcome, Waits, and_more, tape_of, length-append}
+use Rattle.kahn_sequential.proofs.Common.{⊎_elim, fun_ext, arith, ◌≡◌, ◌⊎◌, inl, inr, ℕ, ◌<◌, ◌≤◌, List, [], length, map, refl, sym, ap, ◌∙◌, subst, true, Option, Some, None, slice_get, pos, sum_by, ◌+◌, ◌∷◌, zero, suc, false, true≢false, Bool, same_Some, Line, Channel, Print, Number, Dry, Cut, Got, Fault, Store, Schema, idle, Reads, Writes, Hands, instance_at, actual_at, Source, Given, Written, Nobody, Histories, Inputs, tapes_of, exec_at, out, values_at, goes_to, source, fed, input_list, iterate, IsPrefix, Stands, IsWhole, HasEnd, Ending, ending, IsQuiet, IsSettled, begins_nil, prefix_refl, settled, AllStand, View, AreKeptTokens, is_streamed, token_value, Answer, Stream, Token, Verdict, Finished, Bound, Memory, Ended, Faulted, More, AreRight, IsRight, IsOutcome, IsWaiting, IsDryOn, IsEnd, HasStream, values_of, no_view, view_at, IsFrom, IsGiven, IsOutcomeOf, stand_in, StoodBy, cases_lt, there, none-some, get_or_past, Tapes, sent_on, sent_stands, exec_on, Stays, sum_by-cons, end_events, view_events, stream_lines, AreStreams, IsConcluded, IsVerdict, HasEndIn, RunState, End, Outcome, Waits, and_more, tape_of, length-append}
 use Rattle.kahn_sequential.proofs.{Lists.prefix_stands, Lists.both_stand, Lists.reads_or, Lists.nothing_more, Lists.same_writer, Events.more, Events.same_left, Events.same_sends, Events.same_outcome, Events.next_event, Benched.get_map}
 use Rattle.kahn_streams.specs.Script as script
 use Rattle.kahn_streams.specs.Solution as net
@@ -14,7 +14,7 @@ same_sums (c ∷ cs) [] l h = absurd (omega (arith, l))
 same_sums (c ∷ cs) (x ∷ xs) l h = omega (arith, same_sums cs xs (omega (arith, l)) (λ p. h (suc p)), sum_by-cons end_events x xs, sum_by-cons view_events c cs, h zero x refl)
 
 module _ {state : RunState} {bound left : ℕ} {halted : Bool} {said : Verdict} {ends : List End} (done : ℕ) (g : IsConcluded state bound left halted said ends) (count : done + left ≡ bound) where
-  abbrev N : Network
+  abbrev N : Schema
   N = state.network
 
   abbrev I : Inputs
@@ -56,9 +56,8 @@ module _ {state : RunState} {bound left : ℕ} {halted : Bool} {said : Verdict} 
   rests_by p (Some x) h = (x, (g.last.ends p x h).0)
   rests_by p None h =
       let l = past p h in
-      let m = g.last.known in
       let i : instance_at N p ≡ idle = get_or_past N.instances p idle l in
-      let v : view_at state.cells p ≡ no_view = get_or_past state.cells p no_view (omega (arith, l, m)) in (
+      let v : view_at state.cells p ≡ no_view = get_or_past state.cells p no_view (omega (arith, l, g.last.known)) in (
         record { outcome = Ended; events = 0 },
         record {
           stood = idle_stood p (view_at state.cells p) v i;
@@ -135,11 +134,8 @@ module _ {state : RunState} {bound left : ℕ} {halted : Bool} {said : Verdict} 
       let left : (exec_at N (e p) p A).left q ≡ (extended p q).0 =
       ap (λ t. t q) (same_left N p (e p) (T p) (tapes p) (extended p) (stood p).does ∙ ap (λ t. and_more t (λ k. (extended p k).0)) (stood p).all)
       in
-      let rest = ap length left in
-      let long = ap length (extended p q).1 ∙ length-append (T p q) (extended p q).0 in
       let tape : length (tapes p q) ≡ length (A (Channel c)) = ap (λ a. length (tape_of A a)) r in
-      let took = (stood p).took q in
-      omega (arith, rest, long, tape, took)
+      omega (arith, ap length left, ap length (extended p q).1 ∙ length-append (T p q) (extended p q).0, tape, (stood p).took q)
 
   does : (p : ℕ) → (exec_at N (e p) p A).events ≡ e p
   does p = (same p).0 ∙ (stood p).does
@@ -255,9 +251,7 @@ module _ {state : RunState} {bound left : ℕ} {halted : Bool} {said : Verdict} 
 
   total : done ≡ sum_by end_events ends
   total =
-      let known = g.last.known in
-      let size = g.last.size in
-      omega (arith, g.last.total, same_sums state.cells ends (omega (arith, known, size)) (λ p x h. ((g.last.ends p x h).0).count), count)
+      omega (arith, g.last.total, same_sums state.cells ends (omega (arith, g.last.known, g.last.size)) (λ p x h. ((g.last.ends p x h).0).count), count)
 
   pub are_right : AreRight N I bound said ends done
   are_right =

@@ -1,6 +1,6 @@
 -- Cells that stand where their queues stand.
 use Rattle.std.proofs.Common.{length-set}
-use Rattle.kahn_sequential.proofs.Common.{Option, arith, ◌≡◌, inl, inr, ℕ, ◌+◌, ◌<◌, ◌≤◌, List, length, map, refl, sym, ap, ◌∙◌, subst, Some, slice_get, slice_set, slice_index_or, false, ◌⊎◌, Program, Lists, map-set_same, map-set, get_or_from_slice_get, slice_get_read, Network, Reads, Writes, network_of, instance_at, actual_at, role_at, IsFed, reads, reads_listed, Channel, Inputs, source, inputs_of, View, exec_on, is_output, AreQueued, queue_of, actual_here, place_at, next_at, taken_of, given_of, waiting_of, Waiting, Site, LeavesOthers, count, CellView, told_view, site_of, IsAt, IsStill, set_each, set_here, joins_within, IsGiven, TookNoMore, TookAll, view_at, no_view, RunState, PausedAt, Value, Table, IsLaid, IsSeated, sight_of, Pause, IsPause, dry_reads, Store, IsPaused, Cut, Dry, HasRunCell, length-map, ScriptOutcome, Lines as Queues}
+use Rattle.kahn_sequential.proofs.Common.{Option, arith, ◌≡◌, inl, inr, ℕ, ◌+◌, ◌<◌, ◌≤◌, List, length, map, refl, sym, ap, ◌∙◌, subst, Some, slice_get, slice_set, slice_index_or, false, ◌⊎◌, Program, Lists, map-set_same, map-set, get_or_from_slice_get, slice_get_read, Schema, Reads, Writes, network_of, instance_at, actual_at, role_at, IsFed, reads, reads_listed, Channel, Inputs, source, inputs_of, View, exec_on, is_output, AreQueued, queue_of, actual_here, place_at, next_at, taken_of, given_of, waiting_of, Waiting, Site, LeavesOthers, count, CellView, told_view, site_of, IsAt, IsStill, set_each, set_here, joins_within, IsGiven, TookNoMore, TookAll, view_at, no_view, RunState, PausedAt, Value, Table, IsLaid, IsSeated, sight_of, Pause, IsPause, dry_reads, Store, IsPaused, Cut, Dry, HasRunCell, length-map, ScriptOutcome, Lines as Queues}
 pub use Rattle.kahn_streams.proofs.By_number.{there as got, within as within_get, mapped as get_map}
 use Rattle.kahn_code.specs.declared.progress.Pause.TheVariants as pause
 use Rattle.kahn_code.specs.Progress as code
@@ -13,7 +13,7 @@ mapped f xs i x d e = get_or_from_slice_get (map f xs) i (f x) d (get_map f xs i
 -- ---- a cell that is seated
 
 module _ (b : Table) (laid : IsLaid b) where
-  abbrev N : Network
+  abbrev N : Schema
   N = network_of b.network
 
   abbrev I : Inputs
@@ -83,25 +83,20 @@ module _ (b : Table) (laid : IsLaid b) where
     pub within : TookNoMore N I views
     within p q d e =
         let g = given_there p q d e in
-        let t = g.3 in
-        (g.0.taken + g.0.waiting, g.2, omega (arith, t))
+        (g.0.taken + g.0.waiting, g.2, omega (arith, g.3))
 
     -- where none waits all was taken
     pub took_all : (p q d : ℕ) → actual_at (instance_at N p) q ≡ Reads d → waiting_of (slice_get b.queues.queues d) ≡ 0 → TookAll N I views p q d
     took_all p q d e none =
         let g = given_there p q d e in
-        let t = g.3 in
-        let z = sym (ap waiting_of g.1) ∙ none in
-        let sum : g.0.taken + g.0.waiting ≡ (view_at views p).taken q = omega (arith, t, z) in
+        let sum : g.0.taken + g.0.waiting ≡ (view_at views p).taken q = omega (arith, g.3, sym (ap waiting_of g.1) ∙ none) in
         subst (λ n. IsGiven N I views d (source N (Channel d)) n) sum g.2
 
     pub left_some : (p q d : ℕ) → actual_at (instance_at N p) q ≡ Reads d → 0 < waiting_of (slice_get b.queues.queues d) →
         (n : ℕ) × IsGiven N I views d (source N (Channel d)) n × ((view_at views p).taken q < n)
     left_some p q d e some =
         let g = given_there p q d e in
-        let t = g.3 in
-        let z = ap waiting_of g.1 in
-        (g.0.taken + g.0.waiting, g.2, omega (arith, t, z, some))
+        (g.0.taken + g.0.waiting, g.2, omega (arith, g.3, ap waiting_of g.1, some))
 
 -- ---- a cell runs
 
@@ -159,9 +154,6 @@ laid_after b laid p c c' q at same site stands leaves = record {
 
 -- ---- what rounds see of it
 
-view_same : (c c' : CellView) → c'.events ≡ c.events → IsStill c c' → told_view c' ≡ told_view c
-view_same c c' e s = cc
-
 pub views_after : (b : Table) (p : ℕ) (c c' : CellView) (q : Queues) → slice_get b.cells p ≡ Some c →
     (sight_of (ran b p c' q)).cells ≡ slice_set (sight_of b).cells p (view_at (sight_of (ran b p c' q)).cells p)
 views_after b p c c' q at =
@@ -177,7 +169,7 @@ pub still_after : (b : Table) (p : ℕ) (c c' : CellView) (q : Queues) → slice
     sight_of (ran b p c' q) ≡ sight_of b
 still_after b p c c' q at e s =
     ap (λ l. let r : RunState = record { network = network_of b.network; input = inputs_of b.input; watch = b.watch; cells = l } in r)
-    (map-set_same told_view b.cells p c' c (view_same c c' e s ∙ ap told_view (sym (get_or_from_slice_get b.cells p c c at))))
+    (map-set_same told_view b.cells p c' c (let same : told_view c' ≡ told_view c = cc in same ∙ ap told_view (sym (get_or_from_slice_get b.cells p c c at))))
 
 -- ---- what is handed to a parameter
 
@@ -254,8 +246,6 @@ module _ {b : Table} (laid : IsLaid b) (p : ℕ) {c : CellView} (at : slice_get 
 
       -- what a pause says by the queues it says by what was given and taken
       is_paused : (z : Pause) → IsPause (network_of b.network) p dry ready (c'.events ≡ c.events + quantum) z o → IsPaused now p z o
-      is_paused pause.Ended h = h
-      is_paused (pause.Fault k) h = h
       is_paused (pause.Dry q) h =
           let r = dry_reads b.network laid.wired c'.events p q paused_here.stood.tapes h.0 in
           let none = subst (λ a. waiting_of (queue_of q'.queues a) ≡ 0) (own_actual q ∙ r.1) (h.1 r.0 r.1) in
@@ -268,6 +258,7 @@ module _ {b : Table} (laid : IsLaid b) (p : ℕ) {c : CellView} (at : slice_get 
           by (inr (r, d, e, dry, h)) =
               let g = left_some (ran b p c' q') laid_now counted p r d e (subst (λ a. 0 < waiting_of (queue_of q'.queues a)) (own_actual r ∙ e) h) in
               inr (r, d, g.0, e, dry, g.1, g.2)
+      is_paused z h = h
 
       paused_now : PausedAt now p z
       paused_now =
@@ -281,13 +272,12 @@ module _ {b : Table} (laid : IsLaid b) (p : ℕ) {c : CellView} (at : slice_get 
       ran_now events still =
           let x = before in
           let y = after in
-          let l = events.0 in
           let m = events.1 in
           record {
             same = (refl, refl, refl);
             known = length-map (slice_set b.cells p c') told_view ∙ laid_now.count;
             only = views_after b p c c' q' at;
-            events = (omega (arith, x, y, l), omega (arith, x, y, m));
+            events = (omega (arith, x, y, events.0), omega (arith, x, y, m));
             still = λ e. let s = sym after ∙ e ∙ before in still_after b p c c' q' at s (still s);
             paused = paused_now;
             spent = λ e. let s = (paused_as e).0 in omega (arith, s, x, y);

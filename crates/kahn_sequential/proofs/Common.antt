@@ -37,7 +37,7 @@ pub use Rattle.kahn_streams.specs.Feeds.{IsMeant}
 pub use Rattle.kahn_streams.specs.Inputs.{Entry, Lists, channel_of, inputs_of, most_values, Holds}
 pub use Rattle.kahn_streams.specs.Laws.{IsQuiet, IsSettled}
 pub use Rattle.kahn_streams.specs.Meaning.{Store}
-pub use Rattle.kahn_streams.specs.Network.{Actual, Given, Hands, Instance, Network, Nobody, Reads, Source, Writes, Written, actual_at, any_written, channel_names, channel_source, first_writer, idle, instance_at, is_written, network_of, role_at, source_by, IsOnly, IsReader, IsServed, IsWithin, IsWriter}
+pub use Rattle.kahn_streams.specs.Network.{Actual, Given, Hands, Node, Schema, Nobody, Reads, Source, Writes, Written, actual_at, any_written, channel_names, channel_source, first_writer, idle, instance_at, is_written, network_of, role_at, source_by, IsOnly, IsReader, IsServed, IsWithin, IsWriter}
 pub use Rattle.kahn_streams.specs.Prints.{declaration_prints, process_prints}
 pub use Rattle.kahn_streams.specs.Script.{Cut, Dry, Fail, Fault, Give, Got, Reached, Rest, Script, Sends, Tapes, Turns, play, wait_at, ScriptOutcome}
 pub use Rattle.kahn_streams.specs.Solution.{AreInputsExtended, Ending, HasEnd, HasSize, HasSizes, Histories, Inputs, IsPrefix, IsWhole, Stands, ending, exec_at, fed, goes_to, input_list, iterate, none_left, one_more, opening, out, source, tapes_of, values_at, tape_of}

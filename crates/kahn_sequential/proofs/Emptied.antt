@@ -166,9 +166,7 @@ given_all b laid counted c role = by (cases_lt c (length (network_of b.network).
         taken_of (slice_get b.queues.queues c) + waiting_of (slice_get b.queues.queues c) ≡ length (inputs_of b.input c)
     by (inr past) = no_channel (network_of b.network) c past role
     by (inl here) =
-        let n = counted.count ∙ ap (λ t. length (network_of t).channels) laid.network in
-        let w = got b.queues.queues c (omega (arith, n, here)) in
-        let sum = (counted.each c w.0 w.1).given (ap (λ t. role_at (network_of t) c) laid.network ∙ role) ∙ ap (λ (l : Lists). length (inputs_of l c)) laid.input in
+        let w = got b.queues.queues c (omega (arith, counted.count ∙ ap (λ t. length (network_of t).channels) laid.network, here)) in
         let a = ap taken_of w.1 in
         let z = ap waiting_of w.1 in
-        omega (arith, a, z, sum)
+        omega (arith, a, z, (counted.each c w.0 w.1).given (ap (λ t. role_at (network_of t) c) laid.network ∙ role) ∙ ap (λ (l : Lists). length (inputs_of l c)) laid.input)

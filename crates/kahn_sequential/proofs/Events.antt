@@ -1,5 +1,5 @@
 -- What longer tapes and one more event bring.
-use Rattle.kahn_sequential.proofs.Common.{⊎_elim, fun_ext, arith, ◌≡◌, ◌⊎◌, inl, inr, ℕ, suc, ◌+◌, List, [], ◌∷◌, ◌++◌, length, refl, sym, ap, ◌∙◌, subst, append-nil, le_refl, ◌<◌, Option, Channel, Inputs, StoodBy, View, Writes, actual_at, goes_to, sent_on, values_at, Value, Tapes, Script, Give, Fail, Sends, Turns, Rest, Got, Dry, Fault, Cut, Reached, wait_at, play, Step, empty, values_taken, since, and_then, halted, RanBy, Store, Network, instance_at, opening, and_more, play_on, play_taken, ran, cut_is_full, script_at, exec_alike, unrolled, IsPrefix, Stays, exec_on, widened, frame_play, dry_play, ScriptOutcome, sends_of, length-append}
+use Rattle.kahn_sequential.proofs.Common.{⊎_elim, fun_ext, arith, ◌≡◌, ◌⊎◌, inl, inr, ℕ, suc, ◌+◌, List, [], ◌∷◌, ◌++◌, length, refl, sym, ap, ◌∙◌, subst, append-nil, le_refl, ◌<◌, Option, Channel, Inputs, StoodBy, View, Writes, actual_at, goes_to, sent_on, values_at, Value, Tapes, Script, Give, Fail, Sends, Turns, Rest, Got, Dry, Fault, Cut, Reached, wait_at, play, Step, empty, values_taken, since, and_then, halted, RanBy, Store, Schema, instance_at, opening, and_more, play_on, play_taken, ran, cut_is_full, script_at, exec_alike, unrolled, IsPrefix, Stays, exec_on, widened, frame_play, dry_play, ScriptOutcome, sends_of, length-append}
 use Rattle.kahn_streams.specs.Script.{Waits}
 
 -- ---- the same events and sends on longer tapes
@@ -7,7 +7,7 @@ use Rattle.kahn_streams.specs.Script.{Waits}
 abbrev pub SameSends : {A : Type 0} → Reached A → Reached A → Type 0
 SameSends a b = (a.events ≡ b.events) × (a.sent ≡ b.sent)
 
-module _ (N : Network) (p e : ℕ) (T U : Tapes) (x : (q : ℕ) → IsPrefix (T q) (U q)) where
+module _ (N : Schema) (p e : ℕ) (T U : Tapes) (x : (q : ℕ) → IsPrefix (T q) (U q)) where
   abbrev pub more : Tapes
   more q = (x q).0
 
@@ -58,26 +58,20 @@ no_events _ _ = refl
 
 -- a script that isn't at an end does an event, or is cut
 cut_moves : {A : Type 0} (s : Script A) (U : Tapes) → halted s ≡ Cut → ((play 1 s U).events ≡ 1) ⊎ ((play 1 s U).outcome ≡ Cut)
-cut_moves (Give a) U h = absurd cc
-cut_moves (Fail k) U h = absurd cc
-cut_moves (Waits q go) U h = absurd cc
 cut_moves (Sends p v s) U h = inl (ap suc (no_events s U))
 cut_moves (Turns s) U h = inl (ap suc (no_events s U))
 cut_moves Rest U h = inr refl
+cut_moves s U h = absurd cc
 
 dry_moves : {A : Type 0} (s : Script A) (U : Tapes) (q : ℕ) (v : Value) (vs : List Value) → halted s ≡ Dry q → U q ≡ v ∷ vs →
     (play 1 s U).events ≡ 1
-dry_moves (Give a) U q v vs h e = absurd cc
-dry_moves (Fail k) U q v vs h e = absurd cc
 dry_moves {A = A} (Waits r go) U q v vs h e =
     let f : U r ≡ v ∷ vs = ap U same ∙ e in
     rw f (ap suc (no_events (go v) _))
   where
     same : r ≡ q
     same = cc
-dry_moves (Sends p w s) U q v vs h e = absurd cc
-dry_moves (Turns s) U q v vs h e = absurd cc
-dry_moves Rest U q v vs h e = absurd cc
+dry_moves s U q v vs h e = absurd cc
 
 -- with no event nothing is taken, and nothing sent
 at_rest : {A : Type 0} (s : Script A) (U : Tapes) → ((play 0 s U).left ≡ U) × ((play 0 s U).sent ≡ [])
@@ -92,7 +86,7 @@ at_rest (Sends p v s) U = (refl, refl)
 at_rest (Turns s) U = (refl, refl)
 at_rest Rest U = (refl, refl)
 
-pub none_sent : (N : Network) (I : Inputs) (watch : Option ℕ) (p : ℕ) (c : View) (s : StoodBy N I watch p c) → c.events ≡ 0 → (q e : ℕ) → actual_at (instance_at N p) q ≡ Writes e → c.sent q ≡ 0
+pub none_sent : (N : Schema) (I : Inputs) (watch : Option ℕ) (p : ℕ) (c : View) (s : StoodBy N I watch p c) → c.events ≡ 0 → (q e : ℕ) → actual_at (instance_at N p) q ≡ Writes e → c.sent q ≡ 0
 none_sent N I watch p c s none q e w =
     sym (s.gave q e w) ∙ (ap (λ n. length (sent_on N n p s.tapes (Channel e))) none ∙ ap (λ l. length (values_at (goes_to N p (Channel e)) l)) (at_rest (script_at N 0 p) s.tapes).1)
 
@@ -113,7 +107,7 @@ and_then_suc : (steps : List Step) (n : ℕ) → and_then steps n ≡ length ste
 and_then_suc [] n = omega arith
 and_then_suc (x ∷ steps) n = let i : and_then steps n ≡ length steps + n = and_then_suc steps n in omega (arith, i)
 
-module _ (N : Network) (p e : ℕ) (T U : Tapes) (x : (q : ℕ) → IsPrefix (T q) (U q)) (does : (exec_on N e p T).events ≡ e)
+module _ (N : Schema) (p e : ℕ) (T U : Tapes) (x : (q : ℕ) → IsPrefix (T q) (U q)) (does : (exec_on N e p T).events ≡ e)
     (all : (exec_on N e p T).left ≡ empty) where
   abbrev s : Script Store
   s = script_at N (suc e) p

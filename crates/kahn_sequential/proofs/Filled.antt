@@ -1,5 +1,5 @@
 -- Streams filled from the lists of the cells, one by one.
-use Rattle.kahn_sequential.proofs.Common.{Option, arith, ◌≡◌, ℕ, ◌<◌, ◌≤◌, List, [], length, map, Some, refl, sym, ap, ◌∙◌, subst, slice_get, slice_set, slice_index_or, ◌+◌, zero, suc, ◌∷◌, Program, Lists, CellView, AreKeptOf, AreOpen, network_of, inputs_of, told_view, map-set, length-map, get_or-set_other, get_or-map, slice_get-get_or, Line, Channel, Print, Token, source, Network, Writes, Source, Given, Written, Nobody, instance_at, actual_at, Kept, HaveChanged, Stream, RunState, AreStreams, view_at, IsFrom, stream_line, stream_lines, AreNamed, IsDeclared, IsFilled, IsFilledStream, OpensWith, AreLists, KeepsOtherLines, kept_lists, kept_in, printed_list, printed_in, map-set_same, set_each, length-set}
+use Rattle.kahn_sequential.proofs.Common.{Option, arith, ◌≡◌, ℕ, ◌<◌, ◌≤◌, List, [], length, map, Some, refl, sym, ap, ◌∙◌, subst, slice_get, slice_set, slice_index_or, ◌+◌, zero, suc, ◌∷◌, Program, Lists, CellView, AreKeptOf, AreOpen, network_of, inputs_of, told_view, map-set, length-map, get_or-set_other, get_or-map, slice_get-get_or, Line, Channel, Print, Token, source, Schema, Writes, Source, Given, Written, Nobody, instance_at, actual_at, Kept, HaveChanged, Stream, RunState, AreStreams, view_at, IsFrom, stream_line, stream_lines, AreNamed, IsDeclared, IsFilled, IsFilledStream, OpensWith, AreLists, KeepsOtherLines, kept_lists, kept_in, printed_list, printed_in, map-set_same, set_each, length-set}
 use Rattle.kahn_sequential.proofs.{Lists.map_changed, Lists.ChangedTo, Lists.next_old, Lists.one_changed, Lists.old_item, Named.HasLine, Named.has_line, Named.line_at, Named.declared, Named.once}
 
 -- ---- one list of a cell changed
@@ -11,7 +11,7 @@ elsewhere (k ∷ ks) zero q zero s x n = get_or-set_other k q s x [] (λ e. n re
 elsewhere (k ∷ ks) (suc p) q (suc r) s x n = elsewhere ks p q r s x (λ e. n (ap suc e))
 elsewhere _ _ q _ s x n = refl
 
-module _ {A : Type 0} {N : Network} {ls : List (Kept A)} (are : AreLists N ls) {p : ℕ} (within : p < length N.instances) {l : Kept A} (at : l ≡ slice_index_or ls p l) (l' : Kept A) where
+module _ {A : Type 0} {N : Schema} {ls : List (Kept A)} (are : AreLists N ls) {p : ℕ} (within : p < length N.instances) {l : Kept A} (at : l ≡ slice_index_or ls p l) (l' : Kept A) where
   here : p < length ls
   here = let n = are.count in omega (arith, within, n)
 
@@ -68,7 +68,7 @@ module _ {A : Type 0} {N : Network} {ls : List (Kept A)} (are : AreLists N ls) {
 
 -- ---- the first streams are filled
 
-pub record Filling {A : Type 0} (N : Network) (ls : List (Kept A)) (old : List Stream) (ks : List (Kept A)) (now : List Stream) (n : ℕ) : Type 0 where
+pub record Filling {A : Type 0} (N : Schema) (ls : List (Kept A)) (old : List Stream) (ks : List (Kept A)) (now : List Stream) (n : ℕ) : Type 0 where
   pub named : AreNamed N old
   pub lists : AreLists N ks
   pub changed : ChangedTo (IsFilledStream N ls) old now n
@@ -76,7 +76,7 @@ pub record Filling {A : Type 0} (N : Network) (ls : List (Kept A)) (old : List S
   pub held : (j : ℕ) (x : Stream) → n ≤ j → slice_get old j ≡ Some x → (ts us : List Token) →
       IsFilled N ks (source N x.line) x.line ts us → IsFilled N ls (source N x.line) x.line ts us
 
-module _ {A : Type 0} {N : Network} {ls : List (Kept A)} {old : List Stream} {ks : List (Kept A)} {now : List Stream} {n : ℕ} (f : Filling N ls old ks now n)
+module _ {A : Type 0} {N : Schema} {ls : List (Kept A)} {old : List Stream} {ks : List (Kept A)} {now : List Stream} {n : ℕ} (f : Filling N ls old ks now n)
     {x : Stream} (here : n < length now) (value : x ≡ slice_index_or now n x) where
   pub next_declared : IsDeclared N x.line
   next_declared = declared N old n x f.named (next_old f.changed here value)
@@ -123,10 +123,9 @@ module _ {A : Type 0} (t : Program) (lists : Lists) (watch : Option ℕ) (cells 
           (subst (λ o. OpensWith s.network s.input o (Channel c) x.tokens.items) e (subst (λ d. OpensWith s.network s.input (source s.network d) d x.tokens.items) b (begun.given j x a)))
       turn j x y (Channel c) (Written p) a b e l (q, w, h) =
           (q, w, l.1, h ∙ ap (λ xs. slice_index_or (slice_index_or xs p []) q []) kept.sent ∙ (seen cells p).0 q)
-      turn j x y (Channel c) Nobody a b e l h = absurd h
       turn j x y (Print r) Given a b e l h = absurd cc
       turn j x y (Print r) (Written p) a b e l h = h ∙ ap (λ xs. slice_index_or xs p []) kept.printed ∙ (seen cells p).1
-      turn j x y (Print r) Nobody a b e l h = absurd h
+      turn j x y d o a b e l h = absurd h
 
       each : (j : ℕ) (y : Stream) → slice_get new j ≡ Some y → IsFrom s.network s.input s.watch s.cells (source s.network y.line) y.line y.tokens.items
       each j y e =

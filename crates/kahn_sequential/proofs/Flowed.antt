@@ -41,9 +41,7 @@ map_none f (c ∷ lines) h = let a = h 0 c refl in let r = map_none f lines (λ 
 -- the front of a list is all but its last ones
 pub front_of : (vs front : List Value) (ts : List Token) → vs ≡ front ++ map token_value ts → take (length vs - length ts) vs ≡ front
 front_of vs front ts e =
-    let l = ap length e ∙ length-append front (map token_value ts) in
-    let m = length-map ts token_value in
-    let n : length front ≡ length vs - length ts = omega (arith, l, m) in
+    let n : length front ≡ length vs - length ts = omega (arith, ap length e ∙ length-append front (map token_value ts), length-map ts token_value) in
     ap (take (length vs - length ts)) e ∙ take_at front (map token_value ts) (length vs - length ts) n
 
 -- an input channel that has a stream is watched
@@ -65,11 +63,10 @@ module _ (b : Table) (k : ℕ) (whole : AreWhole k b.gone) (ts : List Token) (al
   go_none Given (Channel c) f here =
       let role = input_role (network_of b.network) c f in
       front_of (inputs_of b.input c) [] ts (sym (all c (input_watched (network_of b.network) b.watch c role here.1) role))
-  go_none Given (Print r) f here = refl
   go_none (Written p) (Channel c) f here =
       ap (λ (g : Gone). map token_value (tokens g.kept (writing (instance_at (network_of b.network) p).actuals c))) (gone_none p)
   go_none (Written p) (Print r) f here = ap (λ (g : Gone). map token_value g.printed) (gone_none p)
-  go_none Nobody c f here = refl
+  go_none s c f here = refl
 
   pub none_let_go : let_go_of b (length ts) ≡ replicate (length (stream_lines (network_of b.network) b.watch)) []
   none_let_go =
@@ -88,12 +85,11 @@ module _ (b : Table) (plan : Plan) (said : Option Verdict) (d : Table) (h : HasE
 
   go_all : (s : Source) (c : Line) → let_go_by (record b { gone = d.gone }) 0 s c ≡ given_so_far run s c
   go_all Given (Channel c) = take_all (length (inputs_of b.input c) - 0) (inputs_of b.input c) (omega arith)
-  go_all Given (Print r) = refl
   go_all (Written p) (Channel c) =
       let q = writing (instance_at (network_of b.network) p).actuals c in
       ap (map token_value) ((h.spent p).0 q ∙ ap (λ l. tokens (seen_at l p).kept q) h.seen)
   go_all (Written p) (Print r) = ap (map token_value) ((h.spent p).1 ∙ ap (λ l. (seen_at l p).printed) h.seen)
-  go_all Nobody c = refl
+  go_all s c = refl
 
   pub all_let_go : let_go_of d 0 ≡ map (so_far run) (stream_lines (network_of b.network) b.watch)
   all_let_go =
@@ -136,10 +132,9 @@ module _ (b : Table) (plan : Plan) (said : Option Verdict) (turned : Woken) (num
     (all : HoldNumbers (network_of b.network) (stream_lines (network_of b.network) b.watch) numbers) where
   stale_by : (s : Source) (c : Line) → ((p : ℕ) → s ≡ Written p → IsSpent b p) → given_so_far (run_of_bench b plan said) s c ≡ let_go_by b 0 s c
   stale_by Given (Channel c) h = sym (take_all (length (inputs_of b.input c) - 0) (inputs_of b.input c) (omega arith))
-  stale_by Given (Print r) h = refl
   stale_by (Written p) (Channel c) h = ap (map token_value) (sym ((h p refl).0 (writing (instance_at (network_of b.network) p).actuals c)))
   stale_by (Written p) (Print r) h = ap (map token_value) (sym (h p refl).1)
-  stale_by Nobody c h = refl
+  stale_by s c h = refl
 
   pub stale : (from next : ℕ) → ((p j : ℕ) → IsWoken turned p → IsNumberOf numbers p j → from ≤ j → next ≤ j) → (j : ℕ) → from ≤ j → j < next → IsStale (flow_of b plan said 0) j
   stale from next least j le lt line at =

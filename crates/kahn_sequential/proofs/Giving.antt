@@ -1,9 +1,9 @@
 -- Streams of input channels, which get the whole list of the input.
-use Rattle.kahn_sequential.proofs.Common.{⊎_elim, arith, ◌≡◌, ◌⊎◌, inl, inr, ℕ, suc, ◌-◌, ◌<◌, Bool, true, false, if◌then◌else◌, List, [], ◌∷◌, ◌++◌, length, map, Some, None, refl, sym, ap, ◌∙◌, subst, slice_get, append_assoc, same_Some, length-map, map-append, Role, Value, Inner, Input, Output, Channel, Token, Inputs, source, IsPrefix, Network, Instance, Source, Given, Written, Nobody, any_written, first_writer, source_by, channel_source, role_at, IsOwn, token_value, Stream, IsBegun, IsOpenStream, OpensWith, at_last}
+use Rattle.kahn_sequential.proofs.Common.{⊎_elim, arith, ◌≡◌, ◌⊎◌, inl, inr, ℕ, suc, ◌-◌, ◌<◌, Bool, true, false, if◌then◌else◌, List, [], ◌∷◌, ◌++◌, length, map, Some, None, refl, sym, ap, ◌∙◌, subst, slice_get, append_assoc, same_Some, length-map, map-append, Role, Value, Inner, Input, Output, Channel, Token, Inputs, source, IsPrefix, Schema, Node, Source, Given, Written, Nobody, any_written, first_writer, source_by, channel_source, role_at, IsOwn, token_value, Stream, IsBegun, IsOpenStream, OpensWith, at_last}
 
 -- ---- the list of a channel, token by token
 
-pub begun_none : (N : Network) (I : Inputs) (c : ℕ) (vs : List Value) (ts : List Token) → ts ≡ [] → IsBegun N I c vs ts
+pub begun_none : (N : Schema) (I : Inputs) (c : ℕ) (vs : List Value) (ts : List Token) → ts ≡ [] → IsBegun N I c vs ts
 begun_none N I c vs ts e = subst (IsBegun N I c vs) (sym e) (record { values = (vs, refl); places = λ k t f. absurd cc; own = λ k t f. absurd cc })
 
 seam : (xs ys : List Value) → slice_get (xs ++ ys) (length xs) ≡ slice_get ys 0
@@ -19,7 +19,7 @@ prefix_more xs vs v (zs, e) f = by zs e
         let g : Some z ≡ Some v = sym (seam xs (z ∷ zs)) ∙ (ap (λ l. slice_get l (length xs)) (sym e) ∙ f) in
         (zs, e ∙ (ap (λ y. xs ++ y ∷ zs) (same_Some z v g) ∙ sym (append_assoc xs (v ∷ []) zs)))
 
-pub begun_more : (N : Network) (I : Inputs) (c : ℕ) (vs : List Value) (ts us : List Token) (t : Token) (n : ℕ) → IsBegun N I c vs ts → us ≡ ts ++ t ∷ [] → n ≡ length ts →
+pub begun_more : (N : Schema) (I : Inputs) (c : ℕ) (vs : List Value) (ts us : List Token) (t : Token) (n : ℕ) → IsBegun N I c vs ts → us ≡ ts ++ t ∷ [] → n ≡ length ts →
     t.line ≡ Channel c → t.place ≡ n → slice_get vs n ≡ Some t.value → IsOwn N I t → IsBegun N I c vs us
 begun_more N I c vs ts us t n b u e line place v mine = subst (IsBegun N I c vs) (sym u) (record {
   values = subst (λ l. IsPrefix l vs) (sym (map-append token_value ts (t ∷ []))) (prefix_more (map token_value ts) vs t.value b.values (ap (slice_get vs) (length-map ts token_value ∙ sym e) ∙ v));
@@ -40,7 +40,7 @@ falls a n m l e = omega (arith, l, e)
 
 -- ---- where a channel's values come from
 
-no_given : (is : List Instance) (p c : ℕ) → first_writer is p c ≡ Given → ⊥
+no_given : (is : List Node) (p c : ℕ) → first_writer is p c ≡ Given → ⊥
 no_given [] p c e = cc
 no_given (i ∷ is) p c e = by (no_given is (suc p) c) (any_written i.actuals c) refl
   where
@@ -54,13 +54,13 @@ role_given Inner s n e = absurd (n e)
 role_given Output s n e = absurd (n e)
 
 -- a channel that is given from outside is an input channel
-pub input_role : (N : Network) (c : ℕ) → channel_source N c ≡ Given → role_at N c ≡ Input
+pub input_role : (N : Schema) (c : ℕ) → channel_source N c ≡ Given → role_at N c ≡ Input
 input_role N c e = role_given (role_at N c) (first_writer N.instances 0 c) (no_given N.instances 0 c) e
 
 given_role : (r : Role) (s : Source) → r ≡ Input → source_by r s ≡ Given
 given_role r s e = ap (λ x. source_by x s) e
 
-pub channel_opens : (N : Network) (I : Inputs) (c : ℕ) (ts us : List Token) → ts ≡ [] → IsBegun N I c (I c) us → (role_at N c ≡ Input → map token_value us ≡ I c) →
+pub channel_opens : (N : Schema) (I : Inputs) (c : ℕ) (ts us : List Token) → ts ≡ [] → IsBegun N I c (I c) us → (role_at N c ≡ Input → map token_value us ≡ I c) →
     ((role_at N c ≡ Input → ⊥) → us ≡ ts) → OpensWith N I (source N (Channel c)) (Channel c) us
 channel_opens N I c ts us none b f g = by (source N (Channel c)) refl
   where
@@ -70,6 +70,6 @@ channel_opens N I c ts us none b f g = by (source N (Channel c)) refl
     by Nobody e = g (λ r. absurd (let h : Given ≡ Nobody = sym (given_role (role_at N c) (first_writer N.instances 0 c) r) ∙ e in cc)) ∙ none
 
 -- one stream more
-pub opens_more : (N : Network) (I : Inputs) (streams : List Stream) (x : Stream) → ((j : ℕ) (y : Stream) → slice_get streams j ≡ Some y → IsOpenStream N I y) →
+pub opens_more : (N : Schema) (I : Inputs) (streams : List Stream) (x : Stream) → ((j : ℕ) (y : Stream) → slice_get streams j ≡ Some y → IsOpenStream N I y) →
     IsOpenStream N I x → (j : ℕ) (y : Stream) → slice_get (streams ++ x ∷ []) j ≡ Some y → IsOpenStream N I y
 opens_more N I streams x h mine j y e = ⊎_elim (λ f. h j y f) (λ (f, same). subst (IsOpenStream N I) same mine) (at_last streams x j y e)

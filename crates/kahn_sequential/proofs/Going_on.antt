@@ -23,8 +23,7 @@ seen_grows t watch cells later count old new risen p = by (there_or cells p)
   where
     by : ((c : CellView) × (slice_get cells p ≡ Some c)) ⊎ (seen_at (map seen_of cells) p ≡ unseen) → Grows (seen_at (map seen_of cells) p) (seen_at (map seen_of later) p)
     by (inl (c, e)) =
-        let l = within_get cells p c e in
-        let (d, f) = got later p (omega (arith, l, count)) in
+        let (d, f) = got later p (omega (arith, within_get cells p c e, count)) in
         let x = risen p c d e f in
         let more : Grows (seen_of c) (seen_of d) = record {
           events = x.events;

@@ -1,8 +1,8 @@
 -- What a process sent by some of its events is a prefix of what it sent by more of them, also for longer inputs.
-use Rattle.kahn_sequential.proofs.Common.{fun_ext, refl, Bool, false, true≢false, ◌≡◌, ◌⊎◌, inl, inr, ℕ, suc, ◌≤◌, [], map, sym, ap, subst, Option, true, List, length, arith, ◌<◌, ◌∙◌, ◌++◌, Actual, Hands, Token, begins_nil, Line, Network, Reads, Writes, instance_at, actual_at, Channel, Print, AreInputsExtended, Inputs, IsPrefix, goes_to, values_at, inputs_grow, prefix_refl, prefix_trans, StoodBy, View, is_streamed, token_value, stand_in, Value, cases_lt, AllStand, sent_on, and_more, empty, Tapes, Begins, exec_on, play_alike, exec_alike, grows_play, script_at, values_append, length-append}
+use Rattle.kahn_sequential.proofs.Common.{fun_ext, refl, Bool, false, true≢false, ◌≡◌, ◌⊎◌, inl, inr, ℕ, suc, ◌≤◌, [], map, sym, ap, subst, Option, true, List, length, arith, ◌<◌, ◌∙◌, ◌++◌, Actual, Hands, Token, begins_nil, Line, Schema, Reads, Writes, instance_at, actual_at, Channel, Print, AreInputsExtended, Inputs, IsPrefix, goes_to, values_at, inputs_grow, prefix_refl, prefix_trans, StoodBy, View, is_streamed, token_value, stand_in, Value, cases_lt, AllStand, sent_on, and_more, empty, Tapes, Begins, exec_on, play_alike, exec_alike, grows_play, script_at, values_append, length-append}
 use Rattle.kahn_sequential.proofs.{Events.one_or_other, Events.same_left, Events.same_sends, Lists.reads_or, Lists.prefix_stands, Lists.both_stand}
 
-module _ (N : Network) (I J : Inputs) (grown : AreInputsExtended I J) (watch : Option ℕ) (p : ℕ) (c d : View) (old : StoodBy N I watch p c)
+module _ (N : Schema) (I J : Inputs) (grown : AreInputsExtended I J) (watch : Option ℕ) (p : ℕ) (c d : View) (old : StoodBy N I watch p c)
     (new : StoodBy N J watch p d) (more : c.events ≤ d.events) where
   -- of what the two took of a channel one begins the other
   joint : (q : ℕ) → (vs : List Value) × IsPrefix (old.tapes q) vs × IsPrefix (new.tapes q) vs
@@ -39,10 +39,7 @@ module _ (N : Network) (I J : Inputs) (grown : AreInputsExtended I J) (watch : O
   pub sent_grows : (q e : ℕ) → actual_at (instance_at N p) q ≡ Writes e → c.sent q ≤ d.sent q
   sent_grows q e w =
       let g = sends_grow (Channel e) in
-      let n = ap length g.1 ∙ length-append (sent_on N c.events p old.tapes (Channel e)) g.0 in
-      let a = old.gave q e w in
-      let b = new.gave q e w in
-      omega (arith, n, a, b)
+      omega (arith, ap length g.1 ∙ length-append (sent_on N c.events p old.tapes (Channel e)) g.0, old.gave q e w, new.gave q e w)
 
   abbrev joined : Tapes
   joined q = (joint q).0
@@ -64,11 +61,8 @@ module _ (N : Network) (I J : Inputs) (grown : AreInputsExtended I J) (watch : O
       by (inl h) =
           inl (λ q.
           let same : length (joint q).2.0 ≡ length (joint q).1.0 = ap (λ t. length (t q)) (sym left ∙ h) in
-          let x = ap length (joint q).1.1 ∙ length-append (old.tapes q) (joint q).1.0 in
           let y = ap length (joint q).2.1 ∙ length-append (new.tapes q) (joint q).2.0 in
-          let a = old.took q in
-          let b = new.took q in
-          omega (arith, same, x, y, a, b))
+          omega (arith, same, ap length (joint q).1.1 ∙ length-append (old.tapes q) (joint q).1.0, y, old.took q, new.took q))
       by (inr h) =
           inr (λ q e w. sym (new.gave q e w) ∙ (ap (λ l. length (values_at (goes_to N p (Channel e)) l)) (sym sent ∙ h) ∙ old.gave q e w))
 

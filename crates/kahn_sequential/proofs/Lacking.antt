@@ -1,11 +1,11 @@
 -- An answer that want of memory cut short.
-use Rattle.kahn_sequential.proofs.Common.{fun_ext, arith, ◌≡◌, ◌⊎◌, inl, inr, ℕ, ◌+◌, refl, sym, ap, ◌∙◌, subst, Option, Bool, true, none-some, there, Network, Reads, instance_at, actual_at, Channel, Cut, Store, Inputs, ending, View, Answer, Ended, Faulted, More, IsCutShort, view_at, IsOutcomeOf, RunState, events_at, IsLast, IsVerdict, LacksMemory, PausedAt, HasEndIn, StoodBy, exec_on, Tapes, End, Outcome, Waits}
+use Rattle.kahn_sequential.proofs.Common.{fun_ext, arith, ◌≡◌, ◌⊎◌, inl, inr, ℕ, ◌+◌, refl, sym, ap, ◌∙◌, subst, Option, Bool, true, none-some, there, Schema, Reads, instance_at, actual_at, Channel, Cut, Store, Inputs, ending, View, Answer, Ended, Faulted, More, IsCutShort, view_at, IsOutcomeOf, RunState, events_at, IsLast, IsVerdict, LacksMemory, PausedAt, HasEndIn, StoodBy, exec_on, Tapes, End, Outcome, Waits}
 use Rattle.kahn_sequential.proofs.Lists.{all_of_it, both_stand, reads_or}
 use Rattle.kahn_streams.specs.Script as script
 use Rattle.kahn_code.specs.declared.progress.Pause.TheVariants as pause
 
 -- a cell stands on one family of tapes
-one_tapes : (N : Network) (I : Inputs) (watch : Option ℕ) (p : ℕ) (c : View) (a b : StoodBy N I watch p c) → a.tapes ≡ b.tapes
+one_tapes : (N : Schema) (I : Inputs) (watch : Option ℕ) (p : ℕ) (c : View) (a b : StoodBy N I watch p c) → a.tapes ≡ b.tapes
 one_tapes N I watch p c a b = fun_ext (λ q. by q (reads_or (actual_at (instance_at N p) q)))
   where
     by : (q : ℕ) → ((d : ℕ) × (actual_at (instance_at N p) q ≡ Reads d)) ⊎ ((d : ℕ) → actual_at (instance_at N p) q ≡ Reads d → ⊥) → a.tapes q ≡ b.tapes q
@@ -34,10 +34,6 @@ pub cut_short : (s : RunState) (bound left : ℕ) (memory : Bool) (a : Answer) �
 cut_short s bound left memory a last lacks rule count f =
     let refused : memory ≡ true = subst (IsVerdict memory a.ends.items) f rule in
     let l = lacks refused in
-    let some = l.0 in
     let p = l.1.0 in
-    let here = l.1.1 in
-    let size = last.size in
-    let known = last.known in
-    let x = there a.ends.items p (omega (arith, here, size, known)) in
-    (omega (arith, some, count), (p, x.0, x.1, wants_more s p x.0 l.1.2 (last.ends p x.0 x.1).0))
+    let x = there a.ends.items p (omega (arith, l.1.1, last.size, last.known)) in
+    (omega (arith, l.0, count), (p, x.0, x.1, wants_more s p x.0 l.1.2 (last.ends p x.0 x.1).0))

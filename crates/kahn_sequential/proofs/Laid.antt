@@ -60,7 +60,5 @@ whole_more taps all n x h e is = ap (map gone_in) is ∙ map-append gone_in taps
 pub no_events : (cells : List CellView) → ((p : ℕ) (c : CellView) → slice_get cells p ≡ Some c → c.events ≡ 0) → sum_by view_events (map told_view cells) ≡ 0
 no_events [] h = refl
 no_events (c ∷ cells) h =
-    let a = h zero c refl in
-    let b = no_events cells (λ p x e. h (suc p) x e) in
     let s : sum_by view_events (map told_view (c ∷ cells)) ≡ c.events + sum_by view_events (map told_view cells) = sum_by-cons view_events (told_view c) (map told_view cells) in
-    omega (arith, s, a, b)
+    omega (arith, s, h zero c refl, no_events cells (λ p x e. h (suc p) x e))

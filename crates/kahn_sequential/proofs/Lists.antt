@@ -1,6 +1,6 @@
 -- Lists whose values stand.
 use Rattle.std.proofs.Common.{length-append}
-use Rattle.kahn_sequential.proofs.Common.{⊎_elim, arith, ◌≡◌, ◌⊎◌, inl, inr, subst, slice_set, slice_index_or, sum_by, ℕ, zero, suc, ◌+◌, ◌<◌, ◌≤◌, List, [], ◌∷◌, ◌++◌, length, map, refl, sym, ap, ◌∙◌, Some, slice_get, append-nil, le_of_suc-le-suc, not-suc-le-zero, le_refl, at_last, set_each, cases_lt, get_or_past, fold-map, get_or-le-sum_by, same_Some, slice_get_read, slice_get_within, there, HaveChanged, Value, Line, Network, Inputs, iterate, IsPrefix, prefix_get, one_value, AllStand, Actual, Reads, Writes, Hands, Written, cases_eq, get_or_from_slice_get, length-set}
+use Rattle.kahn_sequential.proofs.Common.{⊎_elim, arith, ◌≡◌, ◌⊎◌, inl, inr, subst, slice_set, slice_index_or, sum_by, ℕ, zero, suc, ◌+◌, ◌<◌, ◌≤◌, List, [], ◌∷◌, ◌++◌, length, map, refl, sym, ap, ◌∙◌, Some, slice_get, append-nil, le_of_suc-le-suc, not-suc-le-zero, le_refl, at_last, set_each, cases_lt, get_or_past, fold-map, get_or-le-sum_by, same_Some, slice_get_read, slice_get_within, there, HaveChanged, Value, Line, Schema, Inputs, iterate, IsPrefix, prefix_get, one_value, AllStand, Actual, Reads, Writes, Hands, Written, cases_eq, get_or_from_slice_get, length-set}
 
 -- a list that agrees with a longer one begins it
 pub agree : (xs ys : List Value) → length xs ≤ length ys →
@@ -11,11 +11,11 @@ agree (x ∷ xs) (y ∷ ys) le h =
     let r = agree xs ys (le_of_suc-le-suc le) (λ k. h (suc k)) in
     (r.0, ap (λ l. y ∷ l) r.1 ∙ ap (λ z. z ∷ (xs ++ r.0)) (sym (h zero x y refl refl)))
 
-pub prefix_stands : (N : Network) (I : Inputs) (c : Line) (xs : List Value) → ((n : ℕ) × IsPrefix xs (iterate N I n c)) → AllStand N I c xs
+pub prefix_stands : (N : Schema) (I : Inputs) (c : Line) (xs : List Value) → ((n : ℕ) × IsPrefix xs (iterate N I n c)) → AllStand N I c xs
 prefix_stands N I c xs h k v e = (h.0, prefix_get xs (iterate N I h.0 c) h.1 k v e)
 
 -- of two lists that stand the shorter begins the longer
-pub both_stand : (N : Network) (I : Inputs) (c : Line) (xs ys : List Value) → AllStand N I c xs → AllStand N I c ys →
+pub both_stand : (N : Schema) (I : Inputs) (c : Line) (xs ys : List Value) → AllStand N I c xs → AllStand N I c ys →
     length xs ≤ length ys → IsPrefix xs ys
 both_stand N I c xs ys h g le = agree xs ys le (λ k v w e f. one_value N I c k v w (h k v e) (g k w f))
 
@@ -98,9 +98,7 @@ changed_more {X} {Y} {R} old new x y h e = record {
 pub old_item : {X Y : Type 0} {R : X → Y → Type 0} {old : List X} {new : List Y} → HaveChanged R old new → (p : ℕ) (y : Y) → slice_get new p ≡ Some y →
     (x : X) × (slice_get old p ≡ Some x) × R x y
 old_item {old = old} {new = new} h p y e =
-    let l = slice_get_within new p y e in
-    let n = h.count in
-    let x = there old p (omega (arith, l, n)) in
+    let x = there old p (omega (arith, slice_get_within new p y e, h.count)) in
     (x.0, x.1, h.each p x.0 y x.1 e)
 
 pub map_map : {X Y Z : Type 0} (f : Y → Z) (g : X → Y) (xs : List X) → map f (map g xs) ≡ map (λ x. f (g x)) xs

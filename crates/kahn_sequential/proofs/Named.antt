@@ -1,7 +1,7 @@
 -- The lines of an answer: each is of the network, and none stands twice.
-use Rattle.kahn_sequential.proofs.Common.{arith, ◌≡◌, ℕ, zero, suc, ◌+◌, ◌<◌, Bool, true, false, if◌then◌else◌, List, [], ◌∷◌, ◌++◌, length, map, Option, Some, refl, sym, ap, ◌∙◌, subst, slice_get, ◌≤◌, drop, drop-cons, append-nil, Line, Integer, Inner, prints_in, Channel, Print, Network, is_streamed, stream_line, channel_lines, print_lines, stream_lines, Stream, AreNamed, IsDeclared, same_Some, idle, instance_at, mapped as get_map, drop_all}
+use Rattle.kahn_sequential.proofs.Common.{arith, ◌≡◌, ℕ, zero, suc, ◌+◌, ◌<◌, Bool, true, false, if◌then◌else◌, List, [], ◌∷◌, ◌++◌, length, map, Option, Some, refl, sym, ap, ◌∙◌, subst, slice_get, ◌≤◌, drop, drop-cons, append-nil, Line, Integer, Inner, prints_in, Channel, Print, Schema, is_streamed, stream_line, channel_lines, print_lines, stream_lines, Stream, AreNamed, IsDeclared, same_Some, idle, instance_at, mapped as get_map, drop_all}
 
-module _ (N : Network) (watch : Option ℕ) where
+module _ (N : Schema) (watch : Option ℕ) where
   -- the network has that channel, which has a stream; or that instance
   abbrev pub HasLine : Line → Type 0
   HasLine (Channel c) = (c < length N.channels) × (is_streamed N watch c ≡ true)
@@ -71,10 +71,10 @@ module _ (N : Network) (watch : Option ℕ) where
 pub line_at : (streams : List Stream) (lines : List Line) (j : ℕ) (x : Stream) → map stream_line streams ≡ lines → slice_get streams j ≡ Some x → slice_get lines j ≡ Some x.line
 line_at streams lines j x e f = subst (λ l. slice_get l j ≡ Some x.line) e (get_map stream_line streams j x f)
 
-pub declared : (N : Network) (streams : List Stream) (j : ℕ) (x : Stream) → AreNamed N streams → slice_get streams j ≡ Some x → IsDeclared N x.line
+pub declared : (N : Schema) (streams : List Stream) (j : ℕ) (x : Stream) → AreNamed N streams → slice_get streams j ≡ Some x → IsDeclared N x.line
 declared N streams j x (watch, e) f = line_declared N watch j x.line (line_at streams (stream_lines N watch) j x e f)
 
-pub once : (N : Network) (streams : List Stream) (j k : ℕ) (x y : Stream) → AreNamed N streams → slice_get streams j ≡ Some x → slice_get streams k ≡ Some y →
+pub once : (N : Schema) (streams : List Stream) (j k : ℕ) (x y : Stream) → AreNamed N streams → slice_get streams j ≡ Some x → slice_get streams k ≡ Some y →
     x.line ≡ y.line → j ≡ k
 once N streams j k x y (watch, e) f g same =
     one_place N watch 0 (stream_lines N watch) j k x.line (rising N watch) (line_at streams (stream_lines N watch) j x e f)

@@ -1,5 +1,5 @@
 -- Ends that were noted, and the instances that were woken since.
-use Rattle.kahn_sequential.proofs.Common.{⊎_elim, nat_tests, arith, ◌≡◌, ◌⊎◌, inl, inr, ℕ, zero, suc, ◌+◌, ◌==◌, ◌<◌, ◌≤◌, Bool, true, false, List, [], ◌∷◌, ◌++◌, length, append-nil, map, refl, sym, ap, ◌∙◌, subst, Option, Some, None, slice_get, slice_index_or, slice_set, eqb-true, if◌then◌else◌, AllStand, AreQueued, AreInputsExtended, Channel, Given, HasEndIn, HasTakenIn, HasVisited, Inputs, IsGiven, IsLaid, IsOutcomeOf, IsPoured, IsVerdict, IsWellWired, Line, Lists, More, Network, Nobody, Program, Reads, Round, RunState, Source, Store, StoodBy, Table, TookAll, Value, View, Writes, Written, actual_at, at_last, cases_eq, cases_lt, exec_on, get_or-set_other, handed_within, inputs_grow, inputs_of, instance_at, kept_grown, network_of, no_view, poured_grown, prefix_get, reads_listed, route_of, same_Some, set_each, sight_of, source, view_at, waiting_of, Gone, Seen, CellView, nothing_gone, seen_at, seen_of, tokens, told_view, length-set, IsOnly, IsReader, End, Outcome, Ended, Faulted, Waits, Finished, Side, PartEnd, Woken, IsPartEnd, AreAtRest, AreNoted, AreNotedBut, HasWoken, IsAtRest, IsOnlyReader, IsReaderOf, IsReadyBehind, IsReadyBy, IsReadyByFirst, IsTakenFrom, IsWoken, AreSpent, IsSpent, IsSpentBy}
+use Rattle.kahn_sequential.proofs.Common.{⊎_elim, nat_tests, arith, ◌≡◌, ◌⊎◌, inl, inr, ℕ, zero, suc, ◌+◌, ◌==◌, ◌<◌, ◌≤◌, Bool, true, false, List, [], ◌∷◌, ◌++◌, length, append-nil, map, refl, sym, ap, ◌∙◌, subst, Option, Some, None, slice_get, slice_index_or, slice_set, eqb-true, if◌then◌else◌, AllStand, AreQueued, AreInputsExtended, Channel, Given, HasEndIn, HasTakenIn, HasVisited, Inputs, IsGiven, IsLaid, IsOutcomeOf, IsPoured, IsVerdict, IsWellWired, Line, Lists, More, Schema, Nobody, Program, Reads, Round, RunState, Source, Store, StoodBy, Table, TookAll, Value, View, Writes, Written, actual_at, at_last, cases_eq, cases_lt, exec_on, get_or-set_other, handed_within, inputs_grow, inputs_of, instance_at, kept_grown, network_of, no_view, poured_grown, prefix_get, reads_listed, route_of, same_Some, set_each, sight_of, source, view_at, waiting_of, Gone, Seen, CellView, nothing_gone, seen_at, seen_of, tokens, told_view, length-set, IsOnly, IsReader, End, Outcome, Ended, Faulted, Waits, Finished, Side, PartEnd, Woken, IsPartEnd, AreAtRest, AreNoted, AreNotedBut, HasWoken, IsAtRest, IsOnlyReader, IsReaderOf, IsReadyBehind, IsReadyBy, IsReadyByFirst, IsTakenFrom, IsWoken, AreSpent, IsSpent, IsSpentBy}
 use Rattle.kahn_streams.specs.Script as script
 use Rattle.kahn_sequential.proofs.Benched.{took_all}
 
@@ -54,18 +54,15 @@ woken_as P R old new h sub known = ((h known).0, by)
 pub none_past : (t : Program) → IsWellWired t → (c : ℕ) → (c < length (network_of t).channels → ⊥) → IsOnlyReader (network_of t) c None
 none_past t wired c past p (q, e) = past (reads_listed t wired p q c e)
 
-pub reads_none : (N : Network) (c : ℕ) → IsOnly (IsReader N c) None → IsOnlyReader N c None
+pub reads_none : (N : Schema) (c : ℕ) → IsOnly (IsReader N c) None → IsOnlyReader N c None
 reads_none N c none p (q, e) = none (record { instance = p; parameter = q }) (handed_within N p q c (rw e refl), e)
 
-pub reads_one : (N : Network) (c : ℕ) (s : Side) → IsOnly (IsReader N c) (Some s) → IsOnlyReader N c (Some s.instance)
+pub reads_one : (N : Schema) (c : ℕ) (s : Side) → IsOnly (IsReader N c) (Some s) → IsOnlyReader N c (Some s.instance)
 reads_one N c s one p (q, e) = ap (λ (u : Side). u.instance) (one.1 (record { instance = p; parameter = q }) (handed_within N p q c (rw e refl), e))
 
 module _ (b : Table) (r q channel : ℕ) (route : route_of (actual_at (instance_at (sight_of b).network r) q) ≡ Some channel) where
   same : (c : ℕ) → actual_at (instance_at (sight_of b).network r) q ≡ Writes c → channel ≡ c
   same c w = same_Some channel c (sym route ∙ ap route_of w)
-
-  pub dry_behind : waiting_of (slice_get b.queues.queues channel) ≡ 0 → (p : ℕ) → IsReadyBy b r q p → ⊥
-  dry_behind none p (c, w, (other, some, reads)) = let e = ap (λ k. waiting_of (slice_get b.queues.queues k)) (same c w) in absurd (omega (arith, none, e, some))
 
   pub reader_is : (s : ℕ) → IsOnlyReader (sight_of b).network channel (Some s) → (p : ℕ) → IsReadyBy b r q p → p ≡ s
   reader_is s one p (c, w, (other, some, reads)) = one p (subst (λ k. IsReaderOf (sight_of b).network k p) (sym (same c w)) reads)
@@ -101,7 +98,7 @@ end_on s later o y same h told =
     record { stood = now.0; count = now.1; told = now.2 }
 
 -- of what another instance wrote all was taken as before, or i wrote it
-module _ (N : Network) (I : Inputs) (cells later : List View) (i : ℕ) (others : (p : ℕ) → (p ≡ i → ⊥) → view_at later p ≡ view_at cells p) where
+module _ (N : Schema) (I : Inputs) (cells later : List View) (i : ℕ) (others : (p : ℕ) → (p ≡ i → ⊥) → view_at later p ≡ view_at cells p) where
   given_on : (c : ℕ) (k : Source) (n : ℕ) → IsGiven N I cells c k n → IsGiven N I later c k n ⊎ ((q : ℕ) × (actual_at (instance_at N i) q ≡ Writes c))
   given_on c Given n h = inl h
   given_on c Nobody n h = absurd h
@@ -116,14 +113,12 @@ module _ (N : Network) (I : Inputs) (cells later : List View) (i : ℕ) (others 
 
 -- what is seen of a cell is what it keeps
 kept_seen : (cells : List CellView) (p q : ℕ) → tokens (seen_at (map seen_of cells) p).kept q ≡ (view_at (map told_view cells) p).kept q
-kept_seen [] p q = refl
-kept_seen (c ∷ cells) zero q = refl
 kept_seen (c ∷ cells) (suc p) q = kept_seen cells p q
+kept_seen cells p q = refl
 
 printed_seen : (cells : List CellView) (p : ℕ) → (seen_at (map seen_of cells) p).printed ≡ (view_at (map told_view cells) p).printed
-printed_seen [] p = refl
-printed_seen (c ∷ cells) zero = refl
 printed_seen (c ∷ cells) (suc p) = printed_seen cells p
+printed_seen cells p = refl
 
 -- a visit of i: the others stay, and what it keeps may be more then
 module _ (b d : Table) (r r' : Round) (i : ℕ) (x : End) (v : HasVisited b d r r' i x) where
@@ -184,7 +179,7 @@ module _ (b d : Table) (r r' : Round) (i : ℕ) (x : End) (laid : IsLaid d) (cou
                 q,
                 reads,
                 dry,
-                subst (λ (k : Network × Inputs). TookAll k.0 k.1 s'.cells o q c) (λ j. (v.turn.ran.same.0 j, v.turn.ran.same.1 j)) (took_all d laid counted o q c (here c q reads) (omega (arith, none))),
+                subst (λ (k : Schema × Inputs). TookAll k.0 k.1 s'.cells o q c) (λ j. (v.turn.ran.same.0 j, v.turn.ran.same.1 j)) (took_all d laid counted o q c (here c q reads) (omega (arith, none))),
               )
 
       by : (k : Outcome) → y.outcome ≡ k → IsAtRest s' o y ⊎ IsReadyBehind d i o
@@ -198,7 +193,7 @@ module _ (b d : Table) (r r' : Round) (i : ℕ) (x : End) (laid : IsLaid d) (cou
   -- its end is noted, and those are woken that read what it wrote
   pub noted_one : (x.outcome ≡ More → ⊥) → (w w' : Woken) (ends : List End) → AreNotedBut (λ p. p ≡ i) s w ends → HasWoken (IsReadyBehind d i) w w' →
       AreNoted s' w' (slice_set ends i x)
-  noted_one never w w' ends noted woken known = (length-set ends i x ∙ h.0 ∙ ap (λ (N : Network). length N.instances) (sym v.turn.ran.same.0), set_each (IsGood s' w') ends i x each (inl (inl (v.rests, never))))
+  noted_one never w w' ends noted woken known = (length-set ends i x ∙ h.0 ∙ ap (λ (N : Schema). length N.instances) (sym v.turn.ran.same.0), set_each (IsGood s' w') ends i x each (inl (inl (v.rests, never))))
     where
       g : (w.known ≡ true) × ((p : ℕ) → IsWoken w p ⊎ IsReadyBehind d i p → IsWoken w' p)
       g = woken known
@@ -251,15 +246,12 @@ noted_after d bound r w c finished known =
 
 -- ---- a longer input
 
-all_stand : (N : Network) (I J : Inputs) → AreInputsExtended I J → (c : Line) (vs : List Value) → AllStand N I c vs → AllStand N J c vs
-all_stand N I J grown c vs h k v e = let s = h k v e in (s.0, prefix_get _ _ (inputs_grow N I J grown s.0 c) k v s.1)
-
-abbrev stood_grown : (N : Network) (I J : Inputs) → AreInputsExtended I J → (watch : Option ℕ) (p : ℕ) (c : View) → StoodBy N I watch p c → StoodBy N J watch p c
+abbrev stood_grown : (N : Schema) (I J : Inputs) → AreInputsExtended I J → (watch : Option ℕ) (p : ℕ) (c : View) → StoodBy N I watch p c → StoodBy N J watch p c
 stood_grown N I J grown watch p c h = record {
   tapes = h.tapes;
   does = h.does;
   all = h.all;
-  stand = λ q d r. all_stand N I J grown (Channel d) (h.tapes q) (h.stand q d r);
+  stand = λ q d r k v e. let s = h.stand q d r k v e in (s.0, prefix_get _ _ (inputs_grow N I J grown s.0 (Channel d)) k v s.1);
   took = h.took;
   none = h.none;
   gave = h.gave;

@@ -1,5 +1,5 @@
 -- The numbers of the streams that each instance writes.
-use Rattle.kahn_sequential.proofs.Common.{⊎_elim, arith, ◌≡◌, ◌⊎◌, inl, inr, ℕ, zero, suc, ◌+◌, ◌<◌, ◌≤◌, List, [], ◌∷◌, ◌++◌, length, refl, sym, ap, ◌∙◌, subst, Some, slice_get, slice_index_or, slice_set, Global, Vec, Line, Network, Written, cases_eq, same_Some, slice_get_read, slice_get_within, source, HoldNumbers, HoldNumbersTo, HasNumber, IsNumberOf}
+use Rattle.kahn_sequential.proofs.Common.{⊎_elim, arith, ◌≡◌, ◌⊎◌, inl, inr, ℕ, zero, suc, ◌+◌, ◌<◌, ◌≤◌, List, [], ◌∷◌, ◌++◌, length, refl, sym, ap, ◌∙◌, subst, Some, slice_get, slice_index_or, slice_set, Global, Vec, Line, Schema, Written, cases_eq, same_Some, slice_get_read, slice_get_within, source, HoldNumbers, HoldNumbersTo, HasNumber, IsNumberOf}
 use Rattle.kahn_sequential.proofs.Noted.{at_end, keep}
 
 -- the numbers of one instance more aren't less
@@ -18,22 +18,18 @@ module _ (n : ℕ) (v w : Vec ℕ Global) (e : w.items ≡ v.items ++ n ∷ []) 
   stays [] p at r j h = absurd cc
   stays (x ∷ lists) zero at zero j (k, f) =
       (k, ap (λ l. slice_get l k) e ∙ keep v.items (n ∷ []) k j (subst (λ (u : Vec ℕ Global). slice_get u.items k ≡ Some j) (same_Some x v at) f))
-  stays (x ∷ lists) zero at (suc r) j h = h
-  stays (x ∷ lists) (suc p) at zero j h = h
   stays (x ∷ lists) (suc p) at (suc r) j h = stays lists p at r j h
+  stays (x ∷ lists) p at r j h = h
 
   is_there : (lists : List (Vec ℕ Global)) (p : ℕ) → p < length lists → IsNumberOf (slice_set lists p w) p n
   is_there [] p l = absurd (omega (arith, l))
   is_there (x ∷ lists) zero l = (length v.items, ap (λ k. slice_get k (length v.items)) e ∙ at_end v.items n)
   is_there (x ∷ lists) (suc p) l = is_there lists p (omega (arith, l))
 
-  pub one_more : (N : Network) (c : Line) (lists : List (Vec ℕ Global)) (p : ℕ) → p < length lists → v ≡ slice_index_or lists p v → source N c ≡ Written p →
+  pub one_more : (N : Schema) (c : Line) (lists : List (Vec ℕ Global)) (p : ℕ) → p < length lists → v ≡ slice_index_or lists p v → source N c ≡ Written p →
       HasNumber N c n lists (slice_set lists p w)
   one_more N c lists p l value is =
       (stays lists p (slice_get_read lists (length lists) p v refl l value), λ r f. subst (λ k. IsNumberOf (slice_set lists p w) k n) (same p r (sym is ∙ f)) (is_there lists p l))
     where
       same : (p r : ℕ) → Written p ≡ Written r → p ≡ r
       same p r e = cc
-
-pub none_more : (N : Network) (c : Line) (n : ℕ) (lists : List (Vec ℕ Global)) → ((p : ℕ) → source N c ≡ Written p → ⊥) → HasNumber N c n lists lists
-none_more N c n lists none = (λ p j h. h, λ p e. absurd (none p e))

@@ -46,15 +46,13 @@ from_there xs n vs e k v f = along xs n (n + k) refl ∙ ap (λ l. slice_get l k
 -- ---- what waits
 
 pub waits_at : (qs : List Waiting) (c : ℕ) → slice_index_or (map (λ w. w.waiting) qs) c 0 ≡ waiting_of (slice_get qs c)
-waits_at [] c = refl
-waits_at (w ∷ qs) zero = refl
 waits_at (w ∷ qs) (suc c) = waits_at qs c
+waits_at qs c = refl
 
 same_waits : (xs ys : List Waiting) → length xs ≡ length ys → ((d : ℕ) → waiting_of (slice_get xs d) ≡ waiting_of (slice_get ys d)) → map (λ w. w.waiting) xs ≡ map (λ w. w.waiting) ys
 same_waits [] [] n h = refl
-same_waits [] (y ∷ ys) n h = absurd (omega (arith, n))
-same_waits (x ∷ xs) [] n h = absurd (omega (arith, n))
 same_waits (x ∷ xs) (y ∷ ys) n h = let a = h 0 in let r = same_waits xs ys (omega (arith, n)) (λ d. h (suc d)) in λ i. a i ∷ r i
+same_waits xs ys n h = absurd (omega (arith, n))
 
 -- ---- nothing was poured
 
@@ -131,10 +129,8 @@ module _ (b d : Table) (c : ℕ) (values : List Value) (input : Lists) (poured :
       let seen = input_watched (network_of b.network) b.watch k role is.1 in
       let last = lent k seen role in
       front_of (inputs_of input k) last.0 us (longer k seen last.0 last.1) ∙ sym (front_of (inputs_of b.input k) last.0 ts last.1)
-  go_same Given (Print r) f is = refl
   go_same (Written p) (Channel k) f is = refl
-  go_same (Written p) (Print r) f is = refl
-  go_same Nobody x f is = refl
+  go_same s x f is = refl
 
   out_same : let_go_of d (length us) ≡ let_go_of b (length ts)
   out_same =
@@ -149,10 +145,7 @@ module _ (b d : Table) (c : ℕ) (values : List Value) (input : Lists) (poured :
     meant = meant;
     lists = subst (λ k. IsPoured b.input k entry.1 d.input) is (subst (λ vs. IsPoured b.input c vs d.input) behind (subst (IsPoured b.input c values) (sym (ap (λ (x : Table). x.input) h.rest)) poured));
     few =
-        let a = waits_at b.queues.queues c in
-        let e = ap (λ k. slice_index_or (map (λ w. w.waiting) b.queues.queues) k 0) (sym is) in
-        let l = ap length behind in
-        omega (arith, a, e, l, few);
+        omega (arith, waits_at b.queues.queues c, ap (λ k. slice_index_or (map (λ w. w.waiting) b.queues.queues) k 0) (sym is), ap length behind, few);
     rest = λ i. record {
       network = (h.rest i).network;
       input = d.input;

@@ -1,5 +1,5 @@
 -- What is kept of the channels after a turn, and in the end.
-use Rattle.kahn_sequential.proofs.Common.{nat_tests, ⊎_elim, arith, ◌≡◌, ◌⊎◌, inl, inr, ℕ, suc, ◌+◌, ◌-◌, ◌<◌, ◌≤◌, ◌==◌, Bool, true, false, cond, min, List, [], ◌∷◌, ◌++◌, length, refl, sym, ap, ◌∙◌, subst, Option, Some, None, slice_get, AllStandBy, AreKeptTokens, AreStreams, Answer, Channel, Finished, Given, HasRunCell, HasWorked, HaveChanged, Inner, Input, Inputs, IsConcluded, IsGiven, IsLaid, IsOpenStream, IsRight, IsWhole, Lists, Network, OpensWith, Output, Pause, Program, Reads, Role, Round, RunState, Side, Source, Stream, Table, View, Waiting, Writes, Written, actual_at, all_events, cases_eq, channel_source, events_at, get_or-set_other, given_of, inputs_of, instance_at, is_output, joins_within, length-map, network_of, no_view, one_first, prefix_refl, role_at, sight_of, slice_get_within, source, stream_lines, taken_of, told_view, token_value, turn_of, values_of, view_at, view_events, AllStand, StoodBy, mapped_at, Lines as Queues, Holds, IsServed, IsWriter, inputs, writes, AreCountsOf, AreOpenChannels, AreRecorded, AreTurnShort, HasGiven, IsCountOf, HasOthers, IsRecorded, AreTokensOf, IsSentOn, IsTurnShort, IsWrittenByOthers, StoodIn, TakesTurns, AreRecordedOf, AreTurnShortOf}
+use Rattle.kahn_sequential.proofs.Common.{nat_tests, ⊎_elim, arith, ◌≡◌, ◌⊎◌, inl, inr, ℕ, suc, ◌+◌, ◌-◌, ◌<◌, ◌≤◌, ◌==◌, Bool, true, false, cond, min, List, [], ◌∷◌, ◌++◌, length, refl, sym, ap, ◌∙◌, subst, Option, Some, None, slice_get, AllStandBy, AreKeptTokens, AreStreams, Answer, Channel, Finished, Given, HasRunCell, HasWorked, HaveChanged, Inner, Input, Inputs, IsConcluded, IsGiven, IsLaid, IsOpenStream, IsRight, IsWhole, Lists, Schema, OpensWith, Output, Pause, Program, Reads, Role, Round, RunState, Side, Source, Stream, Table, View, Waiting, Writes, Written, actual_at, all_events, cases_eq, channel_source, events_at, get_or-set_other, given_of, inputs_of, instance_at, is_output, joins_within, length-map, network_of, no_view, one_first, prefix_refl, role_at, sight_of, slice_get_within, source, stream_lines, taken_of, told_view, token_value, turn_of, values_of, view_at, view_events, AllStand, StoodBy, mapped_at, Lines as Queues, Holds, IsServed, IsWriter, inputs, writes, AreCountsOf, AreOpenChannels, AreRecorded, AreTurnShort, HasGiven, IsCountOf, HasOthers, IsRecorded, AreTokensOf, IsSentOn, IsTurnShort, IsWrittenByOthers, StoodIn, TakesTurns, AreRecordedOf, AreTurnShortOf}
 use Rattle.kahn_streams.proofs.{Finding.found, Sided.channel_served, Token_lists.token_stands}
 use Rattle.kahn_sequential.specs.{Recordings.AreCountsIn, Recordings.AreHistoriesIn, Recordings.IsHistoryIn, declared.counted.Count.Count}
 use Rattle.kahn_sequential.proofs.{Assembling.assembled, Assembling.assembled_long, Assembling.assembled_taken, Assembling.assembled_whole, Benched.seated_at, Benched.sent_there, Benched.taken_there, Benched.viewed, Events.none_sent, Growing.one_event, Growing.sent_grows, Lists.all_of_it, Lists.both_stand, Lists.old_item, Lists.one_of_sum, Lists.prefix_stands}
@@ -90,17 +90,15 @@ module _ (b : Table) (laid : IsLaid b) (stood : AllStandBy b.network b.watch b.c
   opened streams h = record {
     count = h.count;
     each = λ c x at.
-        let l = slice_get_within streams c x at in
-        let n = h.count in
         let o = h.each c x at in
-        opened_one c x (omega (arith, l, n)) o.0 o.1;
+        opened_one c x (omega (arith, slice_get_within streams c x at, h.count)) o.0 o.1;
   }
 
 -- ---- a turn
 
 module _ {b d : Table} (laid : IsLaid b) (after : IsLaid d) {p quantum : ℕ} {z : Pause} (ran : HasRunCell (sight_of b) (sight_of d) p quantum z) (worked : HasWorked b d)
     (stood : StoodIn (sight_of b) p) (turns : TakesTurns (network_of b.network) quantum) where
-  abbrev N : Network
+  abbrev N : Schema
   N = network_of b.network
 
   abbrev I : Inputs
@@ -117,7 +115,7 @@ module _ {b d : Table} (laid : IsLaid b) (after : IsLaid d) {p quantum : ℕ} {z
 
   stands : StoodBy N I b.watch p (new p)
   stands =
-      subst (λ (k : Network × Inputs × Option ℕ). StoodBy k.0 k.1 k.2 p (new p)) (λ i. (ran.same.0 i, ran.same.1 i, ran.same.2 i)) ran.paused.stood
+      subst (λ (k : Schema × Inputs × Option ℕ). StoodBy k.0 k.1 k.2 p (new p)) (λ i. (ran.same.0 i, ran.same.1 i, ran.same.2 i)) ran.paused.stood
 
   -- of a channel between processes: who writes it and who reads it
   module _ (c : ℕ) (listed : c < length N.channels) (inner : role_at N c ≡ Inner) where
@@ -158,12 +156,6 @@ module _ {b d : Table} (laid : IsLaid b) (after : IsLaid d) {p quantum : ℕ} {z
     is_given' =
         sent_seen d after w o c (ap (λ t. actual_at (instance_at (network_of t) w) o) worked.network ∙ written) (ap (λ t. role_at (network_of t) c) worked.network ∙ inner)
 
-    is_taken : taken_of (slice_get b.queues.queues c) ≡ (old r).taken q
-    is_taken = taken_seen b laid r q c read
-
-    is_taken' : taken' ≡ (new r).taken q
-    is_taken' = taken_seen d after r q c (ap (λ t. actual_at (instance_at (network_of t) r) q) worked.network ∙ read)
-
     -- where another process had its turn as many were given
     unless : (w ≡ p → ⊥) → given' ≡ given
     unless n = is_given' ∙ (ap (λ v. v.sent o) (apart w n) ∙ sym is_given)
@@ -174,9 +166,8 @@ module _ {b d : Table} (laid : IsLaid b) (after : IsLaid d) {p quantum : ℕ} {z
         by : (w ≡ p) ⊎ (w ≡ p → ⊥) → given ≤ given'
         by (inl e) =
             let g = sent_grows N I I (λ k. prefix_refl (I k)) b.watch p (old p) (new p) stood stands ran.events.0 o c (subst (λ k. actual_at (instance_at N k) o ≡ Writes c) e written) in
-            let x = is_given ∙ ap (λ k. (old k).sent o) e in
             let y = is_given' ∙ ap (λ k. (new k).sent o) e in
-            omega (arith, g, x, y)
+            omega (arith, g, is_given ∙ ap (λ k. (old k).sent o) e, y)
         by (inr n) = let e = unless n in omega (arith, e)
 
     -- no more is taken than was given before
@@ -190,7 +181,9 @@ module _ {b d : Table} (laid : IsLaid b) (after : IsLaid d) {p quantum : ℕ} {z
         was = taken_few (slice_get b.queues.queues c)
 
         same : (new r).taken q ≡ (old r).taken q → taken' ≤ given
-        same e = let x = is_taken' ∙ (e ∙ sym is_taken) in let y = was in omega (arith, x, y)
+        same e =
+            let x = taken_seen d after r q c (ap (λ t. actual_at (instance_at (network_of t) r) q) worked.network ∙ read) ∙ (e ∙ sym (taken_seen b laid r q c read)) in
+            omega (arith, x, was)
 
         full : given' ≡ given → taken' ≤ given
         full e = let x = few in omega (arith, x, e)
@@ -222,10 +215,8 @@ module _ {b d : Table} (laid : IsLaid b) (after : IsLaid d) {p quantum : ℕ} {z
     is = subst (λ (k : Program × Lists). IsSentOn k.0 k.1 c x) (λ i. (sym worked.network i, (laid.input ∙ (sym worked.input ∙ sym after.input)) i)) h.is;
     within = λ role.
         let inner = was role in
-        let a = not_more c l inner in
-        let e = not_fewer c l inner in
         let n = h.all inner in
-        (omega (arith, a, n), omega (arith, e, n));
+        (omega (arith, not_more c l inner, n), omega (arith, not_fewer c l inner, n));
     others = λ role n.
         let inner = was role in
         h.all inner ∙ sym (elsewhere c l inner (subst (λ t. IsWrittenByOthers (network_of t) p c) worked.network n));
@@ -276,9 +267,6 @@ module _ (b : Table) (laid : IsLaid b) {bound left : ℕ} {halted : Bool} (a : A
       h : IsRecorded b.network b.queues c s
       h = recorded.each c s at
 
-      list_of : length (values_of s) ≡ length s.tokens.items
-      list_of = length-map s.tokens.items token_value
-
       from_input : role_at (network_of b.network) c ≡ Input → values_of s ≡ right.run.tapes (Channel c)
       from_input r =
           (h.is.input r).values ∙ (ap (λ (l : Lists). inputs_of l c) laid.input ∙ sym (right.run.inputs (Channel c) (inputs b.network laid.wired c r)))
@@ -300,7 +288,7 @@ module _ (b : Table) (laid : IsLaid b) {bound left : ℕ} {halted : Bool} (a : A
               (sym (writes b.network laid.wired served.0.0.instance served.0.0.parameter c written).0) (served.0.0.parameter, written, refl))
 
           same : length (values_of s) ≡ length (right.run.tapes (Channel c))
-          same = list_of ∙ (h.all r ∙ (sent_seen b laid served.0.0.instance served.0.0.parameter c written r ∙ sym long))
+          same = length-map s.tokens.items token_value ∙ (h.all r ∙ (sent_seen b laid served.0.0.instance served.0.0.parameter c written r ∙ sym long))
 
           mine : AllStand (network_of b.network) (inputs_of b.input) (Channel c) (values_of s)
           mine k v e =
@@ -328,16 +316,13 @@ module _ (b : Table) (laid : IsLaid b) {bound left : ℕ} {halted : Bool} (a : A
           whole : a.verdict ≡ Finished → IsWhole (network_of b.network) (inputs_of b.input) (Channel c) (values_of s)
           whole f = subst (IsWhole (network_of b.network) (inputs_of b.input) (Channel c)) (sym values) (assembled_whole a g streams total f (Channel c))
 
-    are_histories : AreHistoriesIn right.run xs
-    are_histories = record { count = recorded.count; each = is_history }
-
     pub all_recorded : (counts : List Count) → AreCountsOf (sight_of b) counts (length (network_of b.network).channels) →
         (z : IsRight (network_of b.network) (inputs_of b.input) bound b.watch a) × AreCountsIn z.run counts × AreHistoriesIn z.run xs
-    all_recorded counts h = (right, counts_in counts h, are_histories)
+    all_recorded counts h = (right, counts_in counts h, record { count = recorded.count; each = is_history })
 
 -- ---- turns
 
-pub turns_of : (N : Network) (r : Round) → TakesTurns N r.quantum → TakesTurns N (turn_of r)
+pub turns_of : (N : Schema) (r : Round) → TakesTurns N r.quantum → TakesTurns N (turn_of r)
 turns_of N r (inl l) = inl (grind (arith, nat_tests, l))
 turns_of N r (inr h) = inr h
 
@@ -367,7 +352,7 @@ pub stays_so : (t : Program) (q : Queues) (p c : ℕ) (x : Stream) → IsTurnSho
 stays_so t q p c x h n = record { is = h.is; all = λ r. h.others r (n r) }
 
 -- one channel more that its writer doesn't read
-pub others_more : (N : Network) (n : ℕ) → ((d : ℕ) → d < n → HasOthers N d) → HasOthers N n → (d : ℕ) → d < n + 1 → HasOthers N d
+pub others_more : (N : Schema) (n : ℕ) → ((d : ℕ) → d < n → HasOthers N d) → HasOthers N n → (d : ℕ) → d < n + 1 → HasOthers N d
 others_more N n h k d l = ⊎_elim (λ e. subst (HasOthers N) (sym e) k) (λ m. h d (omega (arith, l, m))) (cases_eq d n)
 
 pub same_number : (n : ℕ) → (n == n) ≡ true

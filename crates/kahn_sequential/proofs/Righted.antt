@@ -1,5 +1,5 @@
 -- A run with these cells is right so far: what its streams have are the tapes of the right answer.
-use Rattle.kahn_sequential.proofs.Common.{arith, ◌≡◌, ℕ, zero, suc, ◌+◌, Bool, List, [], ◌∷◌, map, sum_by, refl, sym, ap, ◌∙◌, subst, Option, slice_index_or, ◌-◌, Program, Line, Network, Source, Given, Written, Nobody, network_of, Channel, Print, Inputs, IsWhole, source, Lists, inputs_of, token_value, CellView, told_view, Settles, AreRight, HeldRun, IsLineOf, IsRightSoFar, given_so_far, so_far, writing, Plan, instance_at, seen_at, seen_events, seen_of, RunState, view_events, IsConcluded, view_at, Verdict, unseen, IsRight, stream_lines, Answer, AreStreams, run_with, End}
+use Rattle.kahn_sequential.proofs.Common.{arith, ◌≡◌, ℕ, zero, suc, ◌+◌, Bool, List, [], ◌∷◌, map, sum_by, refl, sym, ap, ◌∙◌, subst, Option, slice_index_or, ◌-◌, Program, Line, Schema, Source, Given, Written, Nobody, network_of, Channel, Print, Inputs, IsWhole, source, Lists, inputs_of, token_value, CellView, told_view, Settles, AreRight, HeldRun, IsLineOf, IsRightSoFar, given_so_far, so_far, writing, Plan, instance_at, seen_at, seen_events, seen_of, RunState, view_events, IsConcluded, view_at, Verdict, unseen, IsRight, stream_lines, Answer, AreStreams, run_with, End}
 use Rattle.kahn_sequential.proofs.{Assembling.are_right, Assembling.kept_values, Assembling.nobodys_values, Assembling.printed_values, Assembling.whole_tapes, Assembling.assembled, Sizes.settles_ends, Lists.sum_over, Lists.one_of_sum, Lists.same_writer, Named.HasLine, Named.has_line, Once_written.wrote}
 
 -- the verdict of a part goes by the size of the solution
@@ -29,7 +29,7 @@ seen_there (c ∷ cells) zero = (refl, λ q. refl, refl)
 seen_there (c ∷ cells) (suc p) = seen_there cells p
 
 module _ (t : Program) (lists : Lists) (watch : Option ℕ) (plan : Plan) (cells : List CellView) (verdict : Option Verdict) where
-  abbrev N : Network
+  abbrev N : Schema
   N = network_of t
 
   abbrev I : Inputs

@@ -1,5 +1,5 @@
 -- The events of an answer and the size of the solution.
-use Rattle.kahn_sequential.proofs.Common.{fun_ext, arith, ◌≡◌, ◌≢◌, ◌↔◌, ℕ, zero, suc, ◌+◌, ◌≤◌, max, List, [], ◌∷◌, ◌++◌, length, sum_by, refl, sym, subst, le_trans, le_of_suc-le-suc, suc-le-suc, not-suc-le-zero, Option, Some, slice_get, pos, ap, ◌∙◌, slice_set, le-max_left, le-max_right, sum_by-cons, Value, Line, Number, Tapes, Script, Give, Fail, Sends, Turns, Rest, Reached, wait_at, play, Network, Instance, Hands, instance_at, Histories, Inputs, tapes_of, exec_at, iterate, IsPrefix, Ending, HasEnd, HasSizes, none_left, one_more, HasSize, and_more, put_more, play_alike, prefix_trans, Feeds, feeds, script_at, exec_alike, chain, iterates_rise, fits_all, Answer, Verdict, Finished, Bound, Memory, Ended, Faulted, More, AreRight, IsRight, IsOutcome, IsEnd, end_events, IsWithinBound, Settles, AreBegun, sum_by-set, slice_get_within, get_or_from_slice_get, set_each, End, Outcome, Waits}
+use Rattle.kahn_sequential.proofs.Common.{fun_ext, arith, ◌≡◌, ◌≢◌, ◌↔◌, ℕ, zero, suc, ◌+◌, ◌≤◌, max, List, [], ◌∷◌, ◌++◌, length, sum_by, refl, sym, subst, le_trans, le_of_suc-le-suc, suc-le-suc, not-suc-le-zero, Option, Some, slice_get, pos, ap, ◌∙◌, slice_set, le-max_left, le-max_right, sum_by-cons, Value, Line, Number, Tapes, Script, Give, Fail, Sends, Turns, Rest, Reached, wait_at, play, Schema, Node, Hands, instance_at, Histories, Inputs, tapes_of, exec_at, iterate, IsPrefix, Ending, HasEnd, HasSizes, none_left, one_more, HasSize, and_more, put_more, play_alike, prefix_trans, Feeds, feeds, script_at, exec_alike, chain, iterates_rise, fits_all, Answer, Verdict, Finished, Bound, Memory, Ended, Faulted, More, AreRight, IsRight, IsOutcome, IsEnd, end_events, IsWithinBound, Settles, AreBegun, sum_by-set, slice_get_within, get_or_from_slice_get, set_each, End, Outcome, Waits}
 use Rattle.std.proofs.Common.{length-set}
 use Rattle.kahn_streams.specs.Script.{Waits}
 use Rattle.kahn_streams.specs.Solution as net
@@ -28,7 +28,7 @@ more_play (suc n) zero (Turns s) T U le = absurd (not-suc-le-zero le)
 more_play (suc n) (suc m) (Turns s) T U le = suc-le-suc (more_play n m s T U (le_of_suc-le-suc le))
 more_play n m Rest T U le = omega arith
 
-more_done : (N : Network) (n m p : ℕ) (H G : Histories) → n ≤ m → Feeds (instance_at N p) H G →
+more_done : (N : Schema) (n m p : ℕ) (H G : Histories) → n ≤ m → Feeds (instance_at N p) H G →
     (exec_at N n p H).events ≤ (exec_at N m p G).events
 more_done N n m p H G le h =
     rw (longer, play_alike (exec_alike N n m p le) (tapes_of (instance_at N p) H))
@@ -39,7 +39,7 @@ more_done N n m p H G le h =
 
 -- ---- on tapes that begin the solution no instance does more events than in it
 
-module _ (N : Network) (I : Inputs) (A : Histories) (reached : (c : Line) → (n : ℕ) × IsPrefix (A c) (iterate N I n c)) where
+module _ (N : Schema) (I : Inputs) (A : Histories) (reached : (c : Line) → (n : ℕ) × IsPrefix (A c) (iterate N I n c)) where
   pub at_most : (p n e : ℕ) (o : Ending) → (exec_at N n p A).events ≡ n → HasEnd N I p o e → n ≤ e
   at_most p n e o does h =
       let b : (exec_at N m p (iterate N I m)).events ≡ e = (h.1 m (le-max_right (max n all.0) h.0)).1 in
@@ -62,9 +62,9 @@ module _ (N : Network) (I : Inputs) (A : Histories) (reached : (c : Line) → (n
 
 -- ---- sums of events
 
-module _ (N : Network) (I : Inputs) where
+module _ (N : Schema) (I : Inputs) where
   -- the instances from p on
-  all_ends : (p : ℕ) (is : List Instance) (xs : List End) → length xs ≡ length is →
+  all_ends : (p : ℕ) (is : List Node) (xs : List End) → length xs ≡ length is →
       ((k j : ℕ) (x : End) → j ≡ p + k → slice_get xs k ≡ Some x → (o : Ending) × HasEnd N I j o x.events) →
       HasSizes N I p is (sum_by end_events xs)
   all_ends p [] [] l each = none_left
@@ -79,7 +79,7 @@ module _ (N : Network) (I : Inputs) where
   abbrev Below : ℕ → ℕ → Type 0
   Below j n = (e : ℕ) (o : Ending) → HasEnd N I j o e → n ≤ e
 
-  no_more : (p : ℕ) (is : List Instance) (xs : List End) (total : ℕ) → length xs ≡ length is →
+  no_more : (p : ℕ) (is : List Node) (xs : List End) (total : ℕ) → length xs ≡ length is →
       ((k j : ℕ) (x : End) → j ≡ p + k → slice_get xs k ≡ Some x → Below j x.events) → HasSizes N I p is total →
       sum_by end_events xs ≤ total
   no_more p [] [] total l each h = omega arith
@@ -95,7 +95,7 @@ module _ (N : Network) (I : Inputs) where
 
 -- ---- right ends
 
-has_end : (N : Network) (I : Inputs) (p e : ℕ) (o : Outcome) → IsEnd N I p o e → (y : Ending) × HasEnd N I p y e
+has_end : (N : Schema) (I : Inputs) (p e : ℕ) (o : Outcome) → IsEnd N I p o e → (y : Ending) × HasEnd N I p y e
 has_end N I p e Ended h = (net.Ended, h)
 has_end N I p e (Faulted k) h = (net.Faulted k, h)
 has_end N I p e (Waits c) h = (net.Waiting h.0, h.2)
@@ -104,7 +104,7 @@ has_end N I p e More h = absurd h
 by_number : {j k : ℕ} → j ≡ 0 + k → k ≡ j
 by_number e = omega (arith, e)
 
-module _ {N : Network} {I : Inputs} {bound : ℕ} {said : Verdict} {ends : List End} {done : ℕ} (r : AreRight N I bound said ends done) where
+module _ {N : Schema} {I : Inputs} {bound : ℕ} {said : Verdict} {ends : List End} {done : ℕ} (r : AreRight N I bound said ends done) where
   pub counted_ends : said ≡ Finished → HasSize N I done
   counted_ends f =
       rw r.total (all_ends N I 0 N.instances ends r.instances (λ k j x e g.
@@ -143,7 +143,7 @@ module _ {N : Network} {I : Inputs} {bound : ℕ} {said : Verdict} {ends : List 
 
 -- ---- right answers
 
-module _ (N : Network) (I : Inputs) (bound : ℕ) (watch : Option ℕ) (a : Answer) (r : IsRight N I bound watch a) where
+module _ (N : Schema) (I : Inputs) (bound : ℕ) (watch : Option ℕ) (a : Answer) (r : IsRight N I bound watch a) where
   pub counted : a.verdict ≡ Finished → HasSize N I a.events
   counted = counted_ends r.run
 
@@ -155,7 +155,7 @@ module _ (N : Network) (I : Inputs) (bound : ℕ) (watch : Option ℕ) (a : Answ
 
 -- ---- two of them
 
-pub verdict_is_one : (N : Network) (I : Inputs) (bound : ℕ) (v w : Verdict) → Settles N I bound v → Settles N I bound w → v ≢ Memory → w ≢ Memory → v ≡ w
+pub verdict_is_one : (N : Schema) (I : Inputs) (bound : ℕ) (v w : Verdict) → Settles N I bound v → Settles N I bound w → v ≢ Memory → w ≢ Memory → v ≡ w
 verdict_is_one N I bound v w r s m n = by v w (r m) (s n) m n
   where
     by : (v w : Verdict) → (v ≡ Finished) ↔ IsWithinBound N I bound → (w ≡ Finished) ↔ IsWithinBound N I bound → v ≢ Memory → w ≢ Memory → v ≡ w

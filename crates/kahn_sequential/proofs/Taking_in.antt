@@ -27,12 +27,7 @@ module _ {t : Program} {lists : Lists} {watch : Option ℕ} {code : Program} (ta
   next_same : (p r : ℕ) (a : Actual) → actual_at (instance_at (network_of t) p) r ≡ a → next_at q'.queues a ≡ next_at q.queues a
   next_same p r (Reads d) e = poured.taken d
   next_same p r (Writes d) e =
-      let x = given_sum (slice_get q'.queues d) in
-      let y = given_sum (slice_get q.queues d) in
-      let a = poured.taken d in
-      let b = poured.waiting d in
-      let z = other p r d e (c == d) refl in
-      omega (arith, x, y, a, b, z)
+      omega (arith, given_sum (slice_get q'.queues d), given_sum (slice_get q.queues d), poured.taken d, poured.waiting d, other p r d e (c == d) refl)
   next_same p r (Hands v) e = refl
 
   place_same : (p r : ℕ) → place_at q' p r ≡ place_at q p r
@@ -90,16 +85,13 @@ module _ {t : Program} {lists : Lists} {watch : Option ℕ} {code : Program} (ta
       input = poured.lists ∙ sym named;
     }
 
-    poured_in : HasTakenIn c n input old new
-    poured_in = record {
+    pub poured_then : {s : Table} → old ≡ s → {grown : List Tapped} → grown ≡ map (regrown_tap input) taps → HasTakenIn c n input s (table_of t name watch code grown q')
+    poured_then is e = rw e (subst (λ (x : Table). HasTakenIn c n input x new) is (record {
       rest = λ i. record { network = t; input = named i; watch = watch; code = code; cells = new.cells; gone = map_map gone_in (regrown_tap input) taps i; queues = q' };
       views = map_map told_view told_in (map (regrown_tap input) taps) ∙ map_map (λ x. told_view x.told) (regrown_tap input) taps ∙ sym (map_map told_view told_in taps);
       seen = map_map seen_of told_in (map (regrown_tap input) taps) ∙ map_map (λ x. seen_of x.told) (regrown_tap input) taps ∙ sym (map_map seen_of told_in taps);
       waiting = poured.waiting;
-    }
-
-    pub poured_then : {s : Table} → old ≡ s → {grown : List Tapped} → grown ≡ map (regrown_tap input) taps → HasTakenIn c n input s (table_of t name watch code grown q')
-    poured_then is e = rw e (subst (λ (x : Table). HasTakenIn c n input x new) is poured_in)
+    }))
 
 -- the taps begin the longer input
 pub taps_grow : {t : Program} {lists : Lists} {watch : Option ℕ} {code : Program} (taps : List Tapped) {q : Queues} → IsLaid (table_of t lists watch code taps q) → (input : Lists) →

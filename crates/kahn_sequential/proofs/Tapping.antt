@@ -21,8 +21,7 @@ ran_events s t p quantum z h o = by (cases_eq o p)
     by (inl e) = subst (λ o. events_at s o ≤ events_at t o) (sym e) h.events.0
     by (inr n) =
         let same : view_at t.cells o ≡ view_at s.cells o = ap (λ l. view_at l o) h.only ∙ get_or-set_other s.cells p o (view_at t.cells p) no_view n in
-        let e = ap (λ (v : View). v.events) same in
-        omega (arith, e)
+        omega (arith, ap (λ (v : View). v.events) same)
 
 -- ---- a tap runs
 

@@ -1,6 +1,6 @@
 -- Rounds over cells.
 use Rattle.std.proofs.Common.{length-append}
-use Rattle.kahn_sequential.proofs.Common.{⊎_elim, arith, ◌≡◌, ◌⊎◌, inl, inr, ℕ, suc, ◌+◌, ◌^◌, ◌<◌, ◌≤◌, [], ◌∷◌, ◌++◌, length, sum_by, refl, sym, ap, ◌∙◌, subst, Some, slice_get, slice_set, Bool, true, false, cond, min, vec_capacity, Store, at_last, Pause, More, Reads, actual_at, instance_at, view_at, IsOutcomeOf, TookAll, Round, RunState, IsPaused, HasEndIn, events_at, view_events, all_events, weight, AreEnds, HasAdvanced, HasTakenTurn, HasRunCell, IsInRound, LacksMemory, Marked, MayRun, PausedAt, no_view, Table, sight_of, sum_by-set, HasWorked, turn_of, length-set, End, Outcome, Waits}
+use Rattle.kahn_sequential.proofs.Common.{⊎_elim, arith, ◌≡◌, ◌⊎◌, inl, inr, ℕ, suc, ◌+◌, ◌^◌, ◌<◌, ◌≤◌, [], ◌∷◌, ◌++◌, length, sum_by, refl, sym, ap, ◌∙◌, subst, Some, slice_get, slice_set, Bool, true, false, cond, min, vec_capacity, Store, at_last, Pause, More, Reads, actual_at, instance_at, view_at, IsOutcomeOf, TookAll, Round, RunState, IsPaused, HasEndIn, events_at, view_events, all_events, weight, AreEnds, HasAdvanced, HasComeToRest, HasTakenTurn, IsInRound, LacksMemory, Marked, MayRun, PausedAt, no_view, Table, sight_of, sum_by-set, turn_of, length-set, End, Outcome, Waits}
 use Rattle.kahn_sequential.proofs.{Tapping.worked_on, Lists.one_of_sum}
 use Rattle.kahn_streams.specs.Script as script
 use Rattle.kahn_code.specs.declared.progress.Pause.TheVariants as pause
@@ -68,10 +68,7 @@ turn_none r some = by r.memory
 
 pub turn_bound : (s : RunState) (r : Round) (p : ℕ) → MayRun s r → events_at s p + turn_of r < 2 ^ 48
 turn_bound s r p may =
-    let h = may.bound in
-    let m = turn_most r in
-    let e = one_of_sum view_events s.cells p no_view refl in
-    omega (arith, h, m, e)
+    omega (arith, may.bound, turn_most r, one_of_sum view_events s.cells p no_view refl)
 
 module _ {b d : Table} {r r' : Round} {p : ℕ} {z : Pause} (may : MayRun (sight_of b) r) (within : p < length (sight_of b).network.instances) (v : HasTakenTurn b d r r' p z) where
   abbrev s : RunState
@@ -86,10 +83,7 @@ module _ {b d : Table} {r r' : Round} {p : ℕ} {z : Pause} (may : MayRun (sight
   total_on : all_events s' + r'.left ≡ all_events s + r.left
   total_on =
       let a : all_events s' ≡ sum_by view_events (slice_set s.cells p (view_at s'.cells p)) = ap (λ l. sum_by view_events l) v.ran.only in
-      let b = sum_by-set view_events s.cells p (view_at s'.cells p) no_view here in
-      let c = v.counts in
-      let l = v.marked.left in
-      omega (arith, a, b, c, l)
+      omega (arith, a, sum_by-set view_events s.cells p (view_at s'.cells p) no_view here, v.counts, v.marked.left)
 
   lighter_on : weight r' ≤ weight r
   lighter_on = by v.marked.marks
@@ -108,20 +102,13 @@ module _ {b d : Table} {r r' : Round} {p : ℕ} {z : Pause} (may : MayRun (sight
     where
       by : Marked z r r' → (0 < r'.left) × ((k : ℕ) × (k < length s'.cells) × PausedAt s' k pause.NoMemory)
       by (inl h) =
-          let w = v.ran.wanted h.0 in
-          let q = turn_most r in
-          let c = v.counts in
-          let l = v.marked.left in
           let m = ap length v.ran.only ∙ length-set s.cells p (view_at s'.cells p) in
-          let k = here in
-          (omega (arith, w, q, c, l), (p, omega (arith, k, m), subst (PausedAt s' p) h.0 v.ran.paused))
+          (omega (arith, v.ran.wanted h.0, turn_most r, v.counts, v.marked.left), (p, omega (arith, here, m), subst (PausedAt s' p) h.0 v.ran.paused))
       by (inr h) =
           let was : r.memory ≡ true = sym h.1 ∙ m in
           let none : turn_of r ≡ 0 = ap (λ b. cond b 0 (min r.quantum r.left)) was in
-          let u = v.ran.events.1 in
-          let c = v.counts in
           let l = v.marked.left in
-          let idle : v.done ≡ 0 = omega (arith, u, none, c) in
+          let idle : v.done ≡ 0 = omega (arith, v.ran.events.1, none, v.counts) in
           let old = may.lacks was in
           (let some = old.0 in omega (arith, some, l, idle), subst (λ z. (k : ℕ) × (k < length z.cells) × PausedAt z k pause.NoMemory) (sym (still_on idle)) old.1)
 
@@ -170,9 +157,8 @@ module _ {b d : Table} {r r' : Round} {p : ℕ} {z : Pause} (may : MayRun (sight
     -- memory is refused only in a turn of some event
     lighter : (m : Bool) → r.memory ≡ m → r'.memory ≡ true → events_at s' p < events_at s p + turn_of r → weight r' < weight r
     lighter true e h f =
-        let u = v.ran.events.0 in
         let none : turn_of r ≡ 0 = ap (λ b. cond b 0 (min r.quantum r.left)) e in
-        absurd (omega (arith, u, none, f))
+        absurd (omega (arith, v.ran.events.0, none, f))
     lighter false e h f = rw (h, e) (let l = v.marked.left in omega (arith, l))
 
     still_by : Marked z r r' → weight r' ≡ weight r0 → AreEnds s' r'.left r'.memory (r.ends.items ++ x ∷ [])
@@ -192,20 +178,23 @@ module _ {b d : Table} {r r' : Round} {p : ℕ} {z : Pause} (may : MayRun (sight
           rw (same.left, same.memory, items) (still_by v.marked.marks (sym w ∙ f));
     }
 
-pub advanced_none : {b d : Table} (r : Round) → MayRun (sight_of b) r → HasWorked b d → sight_of d ≡ sight_of b → HasAdvanced b d r r
-advanced_none r may w e = record {
-  worked = w;
-  may = subst (λ s. MayRun s r) (sym e) may;
-  total = ap (λ s. all_events s + r.left) e;
+pub advanced_none : {b : Table} (r : Round) → MayRun (sight_of b) r → HasAdvanced b b r r
+advanced_none r may = record {
+  worked = record { network = refl; input = refl; watch = refl; gone = refl; events = λ p. omega arith };
+  may = may;
+  total = refl;
   lighter = omega arith;
   quantum = refl;
   room = refl;
 }
 
--- before a round
-pub begun : {b : Table} {r q : Round} → MayRun (sight_of b) r → HasWorked b b → IsOtherwise r q → HasAdvanced b b r q
-begun {b} {r} may w o = as_well o (advanced_none r may w refl)
+-- rounds, and then one in which nothing was done
+pub at_rest : {a b d : Table} {q r r' : Round} → HasAdvanced a b q r → IsInRound b r d r' (length (sight_of d).network.instances) → weight r' ≡ weight r → HasComeToRest a d q r'
+at_rest h noted e = record {
+  advanced = moved_on h noted.advanced;
+  last = record { known = noted.advanced.may.known; total = noted.advanced.total ∙ h.total; size = noted.size; ends = noted.still e };
+}
 
--- an instance that was asked how it stands
-pub asked : (s t : RunState) (p : ℕ) (z : Pause) → HasRunCell s t p 0 z → t ≡ s
-asked s t p z h = h.still (let a = h.events.0 in let b = h.events.1 in omega (arith, a, b))
+-- before a round
+pub begun : {b : Table} {r q : Round} → MayRun (sight_of b) r → IsOtherwise r q → HasAdvanced b b r q
+begun {b} {r} may o = as_well o (advanced_none r may)

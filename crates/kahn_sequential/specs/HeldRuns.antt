@@ -1,7 +1,7 @@
 -- Believed. Why a run is refused; a run that is held between its parts: what contracts see of it, and what its calls make of it
 -- (this project's profile).
 use Rattle.std.specs.Prelude.{◌≡◌, ◌⊎◌, ℕ, suc, ◌+◌, ◌<◌, ◌≤◌, ◌^◌, List, [], ◌∷◌, map, sum_by, Option, Some, None, slice_get, slice_index_or, if◌then◌else◌}
-use Rattle.kahn_sequential.specs.inner.Below.{Actual, Answer, AreInputsExtended, AreRight, Channel, Config, End, Entry, FeedFault, Finished, Given, HasEndAt, HasStream, Inputs, IsAllowed, IsEntryFed, IsPrefix, IsRight, IsUnrun, IsUnwelcome, IsWatched, IsWhole, Line, Lists, Network, Print, Program, RunFault, Settles, Source, Stream, Token, CellView, Value, Verdict, Written, inputs_of, instance_at, is_written, network_of, source, stream_lines, token_value, values_of}
+use Rattle.kahn_sequential.specs.inner.Below.{Actual, Answer, AreInputsExtended, AreRight, Channel, Config, End, Entry, FeedFault, Finished, Given, HasEndAt, HasStream, Inputs, IsAllowed, IsEntryFed, IsPrefix, IsRight, IsUnrun, IsUnwelcome, IsWatched, IsWhole, Line, Lists, Schema, Print, Program, RunFault, Settles, Source, Stream, Token, CellView, Value, Verdict, Written, inputs_of, instance_at, is_written, network_of, source, stream_lines, token_value, values_of}
 use Rattle.kahn_streams.specs.declared.fault.RunFault.TheVariants as fault
 use Rattle.kahn_sequential.specs.declared.held_fault.HeldFault.{HeldFault}
 use Rattle.kahn_sequential.specs.declared.held_fault.HeldFault.TheVariants as held
@@ -58,7 +58,7 @@ writing [] c = 0
 writing (a ∷ rest) c = if is_written a c then 0 else suc (writing rest c)
 
 -- the values of a line by its source, of these inputs and of what each cell kept and printed; none if it has no source
-abbrev pub values_by : Network → Inputs → (ℕ → List (List Token)) → (ℕ → List Token) → Source → Line → List Value
+abbrev pub values_by : Schema → Inputs → (ℕ → List (List Token)) → (ℕ → List Token) → Source → Line → List Value
 values_by N I kept printed Given (Channel c) = I c
 values_by N I kept printed (Written p) (Channel c) = map token_value (slice_index_or (kept p) (writing (instance_at N p).actuals c) [])
 values_by N I kept printed (Written p) (Print r) = map token_value (printed p)
@@ -157,7 +157,7 @@ pub record IsRightSoFar (h : HeldRun) (v : Verdict) (ends : List End) : Type 0 w
 -- ---- answers
 
 -- a right answer for some bound, which has finished
-abbrev pub HasFinished : Network → Inputs → Option ℕ → Answer → Type 0
+abbrev pub HasFinished : Schema → Inputs → Option ℕ → Answer → Type 0
 HasFinished N I watch a = (bound : ℕ) × IsRight N I bound watch a × (a.verdict ≡ Finished)
 
 -- ---- many calls

@@ -82,6 +82,13 @@ impl Awake {
         })
     }
 
+    /// All have their turns.
+    pub(crate) fn wake_all(&mut self) {
+        for instance in 0..self.ahead.len() {
+            self.queue.wake(instance);
+        }
+    }
+
     /// Notes how an instance stands: it may go on, sleeps until something comes on a channel that is empty, or is over.
     pub(crate) fn note_status(
         &mut self,

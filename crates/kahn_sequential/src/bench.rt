@@ -169,11 +169,11 @@ impl<'n> Sequential<'n> {
         self.awake.passes_over(instance)
     }
 
-    /// Notes how an instance stands, for `next`.
-    pub fn note_status(&mut self, instance: usize, outcome: Outcome)
+    /// Any instance may go on, as far as is known.
+    pub(crate) fn wake_all(&mut self)
         ensures { self.new ≡ self.old }
     {
-        self.awake.note_status(instance, outcome, &self.queues);
+        self.awake.wake_all();
     }
 
     /// Notes how an instance stands after a turn of `done` events, and that what it sent has come, for `next`.

@@ -116,14 +116,9 @@ fn run_counting(
     let mut bench = Sequential::new(alloc, network, input, plan.watch)?;
     let (streams, kept) = room_for_answer(alloc, network, input, plan.watch)?;
     let blank = Blank::new(1);
-    let part = run_part_alone::<Open, Brand>(blank, &mut bench, &Open, false, ends, plan);
-    match part {
-        Some(part) => {
-            let counts = counts_of(network, input, &bench, room);
-            Ok(concluded(bench, part, streams, kept, counts, plan.bound))
-        }
-        None => unreachable!(),
-    }
+    let part = run_part_alone::<Open, Brand>(blank, &mut bench, &Open, ends, plan);
+    let counts = counts_of(network, input, &bench, room);
+    Ok(concluded(bench, part, streams, kept, counts, plan.bound))
 }
 
 /// Runs a network with an input that fits it, as `run` does with one worker at an open gate, and counts what each channel had. Its answer is

@@ -1,30 +1,30 @@
 //! Laws of answers. Each function does nothing: its contract is the law.
 
-ghost use Rattle.kahn_sequential.specs.inner.Below.{Answer, AreBegun, AreOne, Finished, HasSize, Inputs, IsRight, Memory, Network, Settles, Verdict};
+ghost use Rattle.kahn_sequential.specs.inner.Below.{Answer, AreBegun, AreOne, Finished, HasSize, Inputs, IsRight, Memory, Schema, Settles, Verdict};
 ghost use Rattle.kahn_sequential.specs.HeldRuns.{AreCalls, GoesOn, HasFinished, HeldRun, IsAnswerOf, SaysNoLess, last_of};
 ghost use Rattle.std.specs.Prelude.{◌≡◌, ◌≢◌, ℕ, List, Option};
 
 /// Finished answers for one network, input and watch say the same, whatever their bounds.
 pub fn finished_is_one()
-    ensures { (N : Network) (I : Inputs) (watch : Option ℕ) (a b : Answer) → HasFinished N I watch a → HasFinished N I watch b → AreOne a b }
+    ensures { (N : Schema) (I : Inputs) (watch : Option ℕ) (a b : Answer) → HasFinished N I watch a → HasFinished N I watch b → AreOne a b }
 {}
 
 /// Unless memory was refused, a right answer is finished exactly if the size of the solution is a number at most the bound; a
 /// finished one has done just so many events.
 pub fn finished_exactly()
-    ensures settles { (N : Network) (I : Inputs) (bound : ℕ) (watch : Option ℕ) (a : Answer) → IsRight N I bound watch a → Settles N I bound a.verdict }
-    ensures counted { (N : Network) (I : Inputs) (n : ℕ) (watch : Option ℕ) (a : Answer) → IsRight N I n watch a → a.verdict ≡ Finished → HasSize N I a.events }
+    ensures settles { (N : Schema) (I : Inputs) (bound : ℕ) (watch : Option ℕ) (a : Answer) → IsRight N I bound watch a → Settles N I bound a.verdict }
+    ensures counted { (N : Schema) (I : Inputs) (n : ℕ) (watch : Option ℕ) (a : Answer) → IsRight N I n watch a → a.verdict ≡ Finished → HasSize N I a.events }
 {}
 
 /// For one network, input and bound one verdict settles the run, unless memory was refused. So right answers have one, as
 /// each of theirs settles it.
 pub fn verdict_is_one()
-    ensures { (N : Network) (I : Inputs) (bound : ℕ) (v w : Verdict) → Settles N I bound v → Settles N I bound w → v ≢ Memory → w ≢ Memory → v ≡ w }
+    ensures { (N : Schema) (I : Inputs) (bound : ℕ) (v w : Verdict) → Settles N I bound v → Settles N I bound w → v ≢ Memory → w ≢ Memory → v ≡ w }
 {}
 
 /// Each stream of a right answer begins the history of its line, however the run stopped.
 pub fn stopped_begins()
-    ensures { (N : Network) (I : Inputs) (bound : ℕ) (watch : Option ℕ) (a : Answer) → IsRight N I bound watch a → AreBegun N I a }
+    ensures { (N : Schema) (I : Inputs) (bound : ℕ) (watch : Option ℕ) (a : Answer) → IsRight N I bound watch a → AreBegun N I a }
 {}
 
 /// A held run goes on as it is: each stream is a prefix of itself.

@@ -57,11 +57,8 @@ pub fn run_watched<G: Gate>(
     let mut bench = Sequential::new(alloc, network, input, plan.watch)?;
     let (streams, kept) = room_for_answer(alloc, network, input, plan.watch)?;
     let blank = Blank::new(1);
-    let part = run_part_alone::<G, Brand>(blank, &mut bench, gate, false, ends, plan);
-    match part {
-        Some(part) => Ok(answered(bench, part, streams, kept, plan.bound)),
-        None => unreachable!(),
-    }
+    let part = run_part_alone::<G, Brand>(blank, &mut bench, gate, ends, plan);
+    Ok(answered(bench, part, streams, kept, plan.bound))
 }
 
 /// The answer of a run that was left there, once it went on to its end on the caller's thread. The plan has the bound of the whole run.
@@ -84,11 +81,8 @@ pub fn run_on_alone<G: Gate>(
         ..plan
     };
     let blank = Blank::new(1);
-    let part = run_part_alone::<G, Brand>(blank, &mut bench, gate, false, round.ends, rest);
-    match part {
-        Some(part) => answered(bench, part, streams, kept, plan.bound),
-        None => unreachable!(),
-    }
+    let part = run_part_alone::<G, Brand>(blank, &mut bench, gate, round.ends, rest);
+    answered(bench, part, streams, kept, plan.bound)
 }
 
 /// Runs a network on the caller's thread over plain queues, without a watched channel, for at most `bound` events. The

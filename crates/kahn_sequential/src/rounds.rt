@@ -9,7 +9,7 @@ ghost use Rattle.kahn_sequential.specs.inner.FlowBench.{IsPartEnd};
 ghost use Rattle.kahn_sequential.specs.inner.Workbench.{HasAdvanced, HasComeToRest, HasTakenTurn, HasVisited, HasWorked, IsInRound, IsMarked, MayGoOn, MayRun, sight_of, turn_of, weight};
 ghost use Rattle.kahn_streams.specs.declared.answer.Outcome.TheVariants as outcome;
 ghost use Rattle.kahn_code.specs.declared.progress.Pause.TheVariants as pause;
-ghost use Rattle.std.specs.Prelude.{◌≡◌, ◌⊎◌, ◌<◌, ◌≤◌, ◌+◌, ◌^◌, length, slice_set, true, vec_capacity, IfErr, IfOk, IfSome, MatchOption, MatchResult};
+ghost use Rattle.std.specs.Prelude.{◌≡◌, ◌⊎◌, ◌<◌, ◌≤◌, ◌+◌, ◌^◌, length, slice_set, true, vec_capacity, IfErr, IfOk, MatchResult};
 
 use crate::bench::Sequential;
 use kahn_code::{Pause, Steps};
@@ -279,20 +279,6 @@ impl<'g, L: Ledger, G: Gate> Driver<'g, L, G> {
         }
     }
 
-    // Asks all instances how they stand, for `next`.
-    fn ask_all(&mut self, bench: &mut Sequential<'_>)
-        requires bound { all_events (sight_of bench.old) < 2 ^ 48 }
-        ensures same { sight_of bench.new ≡ sight_of bench.old }
-        ensures worked { HasWorked bench.old bench.new }
-    {
-        let count = bench.instance_count();
-        for instance in 0..count {
-            let stopped = bench.run(instance, 0, &mut self.steps);
-            let end = end_of(bench, instance, stopped);
-            bench.note_status(instance, end.outcome);
-        }
-    }
-
     // Whether there is work for several workers, to whom the run may be left.
     fn leaves(&self, bench: &Sequential<'_>) -> bool {
         self.may_leave && bench.wide() > 0
@@ -303,7 +289,7 @@ impl<'g, L: Ledger, G: Gate> Driver<'g, L, G> {
         requires { MayRun (sight_of bench.old) last }
         ensures { HasAdvanced bench.old bench.new last result }
     {
-        self.ask_all(bench);
+        bench.wake_all();
         let mut round = last;
         for _ in 0..bench.instance_count().saturating_mul(AWAKE_TURNS) {
             if round.is_over() || self.leaves(bench) {
@@ -454,25 +440,23 @@ pub fn run_until_wide<G: Gate, L: Ledger>(
     driver.to_end(bench, first)
 }
 
-/// The same to the end, if the run may not be left. Returns nothing if it may be left and there is work for several workers.
-pub fn run_part_alone<G: Gate, L: Ledger>(
+/// The same to the end, since the run may not be left.
+pub(crate) fn run_part_alone<G: Gate, L: Ledger>(
     blank: Blank,
     bench: &mut Sequential<'_>,
     gate: &G,
-    may_leave: bool,
     ends: Vec<End>,
     plan: Plan,
-) -> Option<PartEnd>
+) -> PartEnd
     requires blank { (blank.name ≡ L.name) × (blank.parts ≡ L.parts) × (0 < blank.parts) }
     requires quantum { 0 < plan.quantum }
     requires bound { all_events (sight_of bench.old) + plan.bound < 2 ^ 48 }
     requires room { length (sight_of bench.old).network.instances ≤ vec_capacity ends }
-    ensures concluded { MatchOption result (may_leave ≡ true) (IsPartEnd bench.new (all_events (sight_of bench.old) + plan.bound)) }
-    ensures room { IfSome result (λ r. length (sight_of bench.new).network.instances ≤ vec_capacity r.ends) }
+    ensures concluded { IsPartEnd bench.new (all_events (sight_of bench.old) + plan.bound) result }
     ensures worked { HasWorked bench.old bench.new }
 {
-    match run_until_wide::<G, L>(blank, bench, gate, may_leave, ends, plan) {
-        Ok(part) => Some(part),
-        Err(_) => None,
-    }
+    let Ok(part) = run_until_wide::<G, L>(blank, bench, gate, false, ends, plan) else {
+        unreachable!()
+    };
+    part
 }

@@ -1,7 +1,7 @@
 -- Believed. A session: a run that is fed line by line, and what it has shown of its streams (this project's profile).
 use Rattle.std.specs.Prelude.{◌≡◌, ◌⊎◌, ℕ, suc, ◌<◌, ◌≤◌, Bool, true, false, List, [], ◌∷◌, map, length, replicate, slice_get, slice_index_or, Option, None, Some, is_some, Result, Ok, Err, ◌&&◌, not, nat_lt, ◌++◌}
 use Rattle.std.specs.{Io.KnownBytes.Appends, List.list_any, Str.IsUtf8, Str.bytes_eq}
-use Rattle.kahn_streams.specs.{declared.config.Config.Config, declared.tree.Program.Program, declared.tree.Role.Role, declared.value.Failure.Failure, declared.value.Value.Value, declared.value.Line.Line, Network.Network, Network.channel_names, Network.network_of, Network.role_at, declared.value.Line.TheVariants.Channel, Feeds.IsMeant, Inputs.Entry, Inputs.inputs_of, Answers.Settles, declared.answer.End.End, declared.answer.Outcome.Outcome, declared.answer.Outcome.TheVariants.Faulted, declared.answer.Outcome.TheVariants.Waits, declared.answer.Verdict.Verdict, declared.answer.Verdict.TheVariants.Finished, declared.fault.RunFault.RunFault, Written.AppendsFront}
+use Rattle.kahn_streams.specs.{declared.config.Config.Config, declared.tree.Program.Program, declared.tree.Role.Role, declared.value.Failure.Failure, declared.value.Value.Value, declared.value.Line.Line, Network.Schema, Network.channel_names, Network.network_of, Network.role_at, declared.value.Line.TheVariants.Channel, Feeds.IsMeant, Inputs.Entry, Inputs.inputs_of, Answers.Settles, declared.answer.End.End, declared.answer.Outcome.Outcome, declared.answer.Outcome.TheVariants.Faulted, declared.answer.Outcome.TheVariants.Waits, declared.answer.Verdict.Verdict, declared.answer.Verdict.TheVariants.Finished, declared.fault.RunFault.RunFault, Written.AppendsFront}
 use Rattle.kahn_streams.specs.declared.tree.Role.TheVariants as role
 use Rattle.kahn_chain.specs.Chain.{HasRing, stands}
 use Rattle.kahn_sequential.specs.{HeldRuns.GoesOn, HeldRuns.HeldRun, HeldRuns.IsRightSoFar, HeldRuns.IsUnstarted, HeldRuns.so_far, Flows.Flowing, Flows.HasFlowed, Flows.HasPouredIn, Flows.IsUnpoured, Flows.flow_lines}
@@ -179,11 +179,11 @@ abbrev pub is_input : Role → Bool
 is_input role.Input = true
 is_input _ = false
 
-abbrev pub wants_input : Network → Outcome → Bool
+abbrev pub wants_input : Schema → Outcome → Bool
 wants_input N (Waits c) = nat_lt c (length N.channels) && is_input (role_at N c)
 wants_input N _ = false
 
-abbrev pub waits_on_input : Network → End → Bool
+abbrev pub waits_on_input : Schema → End → Bool
 waits_on_input N x = wants_input N x.outcome
 
 abbrev pub is_finished : Verdict → Bool

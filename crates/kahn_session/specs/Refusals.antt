@@ -93,18 +93,18 @@ unknown_text path of_plain name more = said_text path (showing_option of_plain) 
 
 -- all lines are for one input channel, and none is for another, where there is one
 abbrev pub alone_line : List ℕ → List ℕ → List ℕ → List ℕ
-alone_line path input other = concat (path ∷ codes ": --plain feeds " ∷ input ∷ codes " alone; no line feeds " ∷ other ∷ codes "\n" ∷ [])
+alone_line path input other = pieces path [] [] (codes "--plain feeds ") input [] (codes " alone; no line feeds ") other
 
 abbrev pub alone_text : List ℕ → List ℕ → Option (List ℕ) → List ℕ
 alone_text path input None = []
 alone_text path input (Some other) = alone_line path input other
 
 abbrev pub more_words : ℕ → List ℕ
-more_words count = if count == 1 then codes " line more like it\n" else codes " lines more like it\n"
+more_words count = if count == 1 then codes " line more like it" else codes " lines more like it"
 
 -- how many lines more weren't taken as the last one that was told of
 abbrev pub alike_text : List ℕ → ℕ → List ℕ
-alike_text path count = if count == 0 then [] else concat (path ∷ codes ": and " ∷ decimal count ∷ more_words count ∷ [])
+alike_text path count = if count == 0 then [] else concat (path ∷ codes ": and " ∷ decimal count ∷ more_words count ∷ codes "\n" ∷ [])
 
 -- words behind the program's file
 abbrev pub path_line : List ℕ → List ℕ → List ℕ

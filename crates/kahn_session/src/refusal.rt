@@ -1,7 +1,6 @@
 //! What is said of lines of input that aren't taken, and of their parts.
 
-ghost use Rattle.std.specs.Prelude.{◌≡◌, [], ◌∷◌, option_copied};
-ghost use Rattle.std.specs.List.{concat};
+ghost use Rattle.std.specs.Prelude.{◌≡◌, option_copied};
 ghost use Rattle.kahn_streams.specs.Written.{Writes};
 ghost use Rattle.kahn_session.specs.Refusals.{alike_text, alone_line, alone_text, behind_part, digits, failure_words, failed_text, feed_words, hint_text, is_of_plain, is_want, more_words, before_part, line_note, origin, pieces, refusal_line, refusal_text, said_text, showing_option, take_words, path_line, unknown_text};
 
@@ -146,27 +145,6 @@ fn put_said<W: Write>(
     put_pieces(writer, path, origin, number, words, lead, shown, tail, more)
 }
 
-/// Writes a line of words between the program's file and an end.
-fn put_words<'a, W: Write>(
-    writer: &mut W,
-    path: &'a str,
-    before: &'a str,
-    words: &'a str,
-    end: &'a str,
-) -> Result<(), WriteFault>
-    ensures { Writes (W.contents writer.old) (W.contents writer.new) result (concat (path.now ∷ before.now ∷ words.now ∷ end.now ∷ [])) }
-{
-    write_line(
-        writer,
-        &[
-            path.as_bytes(),
-            before.as_bytes(),
-            words.as_bytes(),
-            end.as_bytes(),
-        ],
-    )
-}
-
 /// Whether the line of that number is the one that `--plain` makes of a channel.
 fn is_of_plain(number: u64, fault: TakeFault) -> bool
     ensures { result ≡ is_of_plain number fault }
@@ -203,8 +181,8 @@ fn put_hint<'a, W: Write>(
     match input {
         None => Ok(()),
         Some(input) => {
-            let words = ": bare numbers are taken with --plain ";
-            put_words(writer, path, words, input, "\n")
+            let words = "bare numbers are taken with --plain ";
+            put_pieces(writer, path, "", "", words, input, b"", "", "")
         }
     }
 }
@@ -260,17 +238,9 @@ fn put_alone<'a, W: Write>(
 ) -> Result<(), WriteFault>
     ensures { Writes (W.contents writer.old) (W.contents writer.new) result (alone_line path.now input.now other.now) }
 {
-    write_line(
-        writer,
-        &[
-            path.as_bytes(),
-            b": --plain feeds ",
-            input.as_bytes(),
-            b" alone; no line feeds ",
-            other.as_bytes(),
-            b"\n",
-        ],
-    )
+    let words = "--plain feeds ";
+    let between = " alone; no line feeds ";
+    put_pieces(writer, path, "", "", words, input, b"", between, other)
 }
 
 /// Writes it where there is another input channel.
@@ -293,9 +263,9 @@ fn more_words(count: u64) -> &'static str
     ensures { result.now ≡ more_words count }
 {
     if count == 1 {
-        " line more like it\n"
+        " line more like it"
     } else {
-        " lines more like it\n"
+        " lines more like it"
     }
 }
 
@@ -307,20 +277,15 @@ pub fn write_more<W: Write>(writer: &mut W, path: &str, count: u64) -> Result<()
         return Ok(());
     }
     let mut buffer = Buffer::new();
-    put_words(
-        writer,
-        path,
-        ": and ",
-        buffer.format(count),
-        more_words(count),
-    )
+    let (digits, words) = (buffer.format(count), more_words(count));
+    put_pieces(writer, path, "", "", "and ", digits, b"", words, "")
 }
 
 /// Writes words behind the program's file, and flushes; as `write_refusal` does.
 pub fn write_words<W: Write>(writer: &mut W, path: &str, words: &str) -> Result<(), WriteFault>
     ensures { Writes (W.contents writer.old) (W.contents writer.new) result (path_line path.now words.now) }
 {
-    put_words(writer, path, ": ", words, "\n")
+    put_pieces(writer, path, "", "", words, "", b"", "", "")
 }
 
 /// Writes words about the line of that number, which was taken, and flushes; as `write_refusal` does.
@@ -365,16 +330,6 @@ pub fn write_fault<W: Write>(
     let digits = digits(&mut digits_room, false, line);
     let number = number_room.format(instance);
     let name = process_name(network, instance.saturating_sub(1)).as_bytes();
-    let words = failure_words(kind);
-    put_pieces(
-        writer,
-        path,
-        origin(false, line),
-        digits,
-        number,
-        " ",
-        name,
-        words,
-        "",
-    )
+    let (at, words) = (origin(false, line), failure_words(kind));
+    put_pieces(writer, path, at, digits, number, " ", name, words, "")
 }

@@ -162,11 +162,7 @@ fn has_input_wait(network: &Network, ends: &[End]) -> bool
 fn is_over(verdict: Verdict, waits: bool) -> bool
     ensures { result ≡ (is_finished verdict && not waits) }
 {
-    match verdict {
-        Verdict::Finished => !waits,
-        Verdict::Bound => false,
-        Verdict::Memory => false,
-    }
+    matches!(verdict, Verdict::Finished) && !waits
 }
 
 impl<'n> Session<'n> {
@@ -364,13 +360,6 @@ impl<'n> Session<'n> {
         ensures { result.now ≡ self.now.flow.run.network }
     {
         self.network
-    }
-
-    /// Whether a write failed. Then the session takes no further line, and it is never settled.
-    pub fn broken(&self) -> bool
-        ensures { result ≡ self.now.broken }
-    {
-        self.broken
     }
 
     /// Writes the last lines of a report, how each process stands and how the run ended, and flushes. It is asked for only

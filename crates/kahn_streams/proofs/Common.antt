@@ -6,7 +6,7 @@ pub use Rattle.kahn_streams.specs.Inputs.{AreFew, AreFit, AreOfKind, Entry, Fail
 pub use Rattle.kahn_streams.specs.Laws.{AreKinded, AreSame, Frame, HasOneValue, InputsGrow, IsBelow, IsChain, IsCounted, IsDetermined, IsQuiet, IsSettled, IsSolution, IsSolved, IsUnrolled, KeepsTape, SaysSoAgain, SendsStand}
 pub use Rattle.kahn_streams.specs.Made.{IsMadeOf}
 pub use Rattle.kahn_streams.specs.Meaning.{Store, constant, exec, read, script_of, settle, turns_of, value_of}
-pub use Rattle.kahn_streams.specs.Network.{Actual, Given, Hands, HasNone, HasOne, Instance, IsFit, IsListed, IsOnly, IsReader, IsServed, IsWithin, IsWriter, Network, Nobody, Reads, Source, Writes, Written, actual_at, actual_of, actuals_of, any_written, channel_names, channel_source, channels_of, first_writer, handed_at, idle, instance_at, instance_from, is_written, kind_at, network_of, process_of, role_at, source_by, source_of, taking_of, takings_of}
+pub use Rattle.kahn_streams.specs.Network.{Actual, Given, Hands, HasNone, HasOne, Node, IsFit, IsListed, IsOnly, IsReader, IsServed, IsWithin, IsWriter, Schema, Nobody, Reads, Source, Writes, Written, actual_at, actual_of, actuals_of, any_written, channel_names, channel_source, channels_of, first_writer, handed_at, idle, instance_at, instance_from, is_written, kind_at, network_of, process_of, role_at, source_by, source_of, taking_of, takings_of}
 pub use Rattle.kahn_streams.specs.Script.{Cut, Dry, Fail, Fault, Give, Got, Parameter, Port, Printer, Reached, Rest, Script, ScriptOutcome, Sends, Tapes, Turns, Waits, after_event, after_send, at_once, play, put, wait_at}
 pub use Rattle.kahn_streams.specs.Solution.{AreInputsExtended, Ending, HasEnd, HasSizes, Histories, Inputs, IsExtended, IsPrefix, IsWhole, Stands, default_of, ending, exec_at, fed, goes_to, input_list, iterate, none_left, one_more, opening, opening_of, out, source, tape_of, tapes_of, values_at}
 pub use Rattle.kahn_streams.specs.Steps.{Follows, RanBy, Sent, Step, Took, Turned, and_then, empty, halted, here, sends_of, sent, since, took, turned, values_taken}

@@ -1,5 +1,5 @@
 -- A process of a well wired program runs dry only at a parameter that reads a channel.
-use Rattle.kahn_streams.proofs.Common.{◌≡◌, ℕ, zero, suc, pos, neg_ℤ, Bool, true, false, not, List, [], ◌∷◌, ◌++◌, map, Some, Result, Ok, Err, refl, subst, slice_get, slice_index_or, AllByRecursion, Kind, Taking, Program, Value, Failure, In, Number, Expr, Literal, Variable, Wait, Negate, Not, Binary, Conditional, Stmt, Skip, Assign, Send, Print, Seq, If, While, Repeat, HasKind, Agrees, IsWellWired, Actual, Reads, Writes, Hands, Instance, Network, idle, instance_at, actual_at, network_of, taking_of, takings_of, IsFit, Logical, number, truth, ranged, apply, Tapes, Dry, Script, Give, Fail, Waits, Sends, Turns, Rest, Reached, put, wait_at, play, Store, constant, read, settle, value_of, turns_of, script_of, exec, opening}
+use Rattle.kahn_streams.proofs.Common.{◌≡◌, ℕ, zero, suc, pos, neg_ℤ, Bool, true, false, not, List, [], ◌∷◌, ◌++◌, map, Some, Result, Ok, Err, refl, subst, slice_get, slice_index_or, AllByRecursion, Kind, Taking, Program, Value, Failure, In, Number, Expr, Literal, Variable, Wait, Negate, Not, Binary, Conditional, Stmt, Skip, Assign, Send, Print, Seq, If, While, Repeat, HasKind, Agrees, IsWellWired, Actual, Reads, Writes, Hands, Node, Schema, idle, instance_at, actual_at, network_of, taking_of, takings_of, IsFit, Logical, number, truth, ranged, apply, Tapes, Dry, Script, Give, Fail, Waits, Sends, Turns, Rest, Reached, put, wait_at, play, Store, constant, read, settle, value_of, turns_of, script_of, exec, opening}
 use Rattle.kahn_streams.specs.declared.tree.Kind.TheVariants as K
 use Rattle.kahn_streams.specs.declared.tree.Taking.TheVariants as T
 use Rattle.kahn_streams.proofs.Fitted.{instances_fit}
@@ -81,24 +81,24 @@ no_variable [] q k h = cc
 no_variable (j ∷ ks) zero k h = cc
 no_variable (j ∷ ks) (suc q) k h = no_variable ks q k h
 
-read_actual : (N : Network) (a : Actual) (k : Kind) → Some (taking_of N a) ≡ Some (T.Channel In k) → (d : ℕ) × (a ≡ Reads d)
+read_actual : (N : Schema) (a : Actual) (k : Kind) → Some (taking_of N a) ≡ Some (T.Channel In k) → (d : ℕ) × (a ≡ Reads d)
 read_actual N (Reads d) k h = (d, refl)
 read_actual N (Writes d) k h = absurd cc
 read_actual N (Hands v) k h = absurd cc
 
 -- a parameter that stands for a channel to read reads a channel
-read_at : (N : Network) (acts : List Actual) (ks : List Kind) (q : ℕ) (k : Kind) → slice_get (map (taking_of N) acts ++ map (λ j. T.Value j) ks) q ≡ Some (T.Channel In k) →
+read_at : (N : Schema) (acts : List Actual) (ks : List Kind) (q : ℕ) (k : Kind) → slice_get (map (taking_of N) acts ++ map (λ j. T.Value j) ks) q ≡ Some (T.Channel In k) →
     (d : ℕ) × (slice_index_or acts q (Hands (Number (pos 0))) ≡ Reads d)
 read_at N [] ks q k h = absurd (no_variable ks q k h)
 read_at N (a ∷ acts) ks zero k h = read_actual N a k h
 read_at N (a ∷ acts) ks (suc q) k h = read_at N acts ks q k h
 
-fit_at : (N : Network) (is : List Instance) (p : ℕ) → AllByRecursion (IsFit N) is → IsFit N (slice_index_or is p idle)
+fit_at : (N : Schema) (is : List Node) (p : ℕ) → AllByRecursion (IsFit N) is → IsFit N (slice_index_or is p idle)
 fit_at N [] p h = (tt, tt)
 fit_at N (i ∷ is) zero h = h.0
 fit_at N (i ∷ is) (suc p) h = fit_at N is p h.1
 
-pub reads_where_dry : (N : Network) (i : Instance) → IsFit N i → (n q : ℕ) (s : Store) (U : Tapes) → (exec n i.body s U).outcome ≡ Dry q → (d : ℕ) × (actual_at i q ≡ Reads d)
+pub reads_where_dry : (N : Schema) (i : Node) → IsFit N i → (n q : ℕ) (s : Store) (U : Tapes) → (exec n i.body s U).outcome ≡ Dry q → (d : ℕ) × (actual_at i q ≡ Reads d)
 reads_where_dry N i fit n q s U e =
     let dry = play_dry (takings_of N i) n q (script_of n i.body s Give) U (script_in (takings_of N i) n i.body s Give fit.0 (λ r. tt)) e in
     read_at N i.actuals i.variables q dry.0 dry.1

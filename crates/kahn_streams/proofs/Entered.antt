@@ -1,5 +1,5 @@
 -- Entries, one by one: the number of a name, what is given, and the lists.
-use Rattle.kahn_streams.proofs.Common.{arith, ◌≡◌, ◌≢◌, ◌⊎◌, inl, inr, ℕ, zero, suc, ◌+◌, ◌<◌, ◌==◌, Bool, true, false, List, [], ◌∷◌, ◌++◌, length, map, take, drop, replicate, set, get_or, Some, refl, sym, ap, ◌∙◌, subst, slice_get, slice_index_or, if◌then◌else◌, Result, Ok, Err, add-one, bytes_eq, eq-eqb, length-set, get_or-set_same, get_or-set_other, MatchResult, cases_eq, length-map, length-replicate, take-append-le, take-map, slice_get_read, slice_get-map, Program, InputFault, Input, Scope, place_of, network_of, kind_at, role_at, channels_of, channel_names, AreOfKind, IsInputFor, Lists, inputs_of, Entry, FailsFirst, asked_of_entry, channel_of, is_given, list_for, AreFit, IsFirstRefused, IsInputOf, IsFitHere}
+use Rattle.kahn_streams.proofs.Common.{arith, ◌≡◌, ◌≢◌, ◌⊎◌, inl, inr, ℕ, zero, suc, ◌+◌, ◌<◌, ◌==◌, Bool, true, false, List, [], ◌∷◌, ◌++◌, length, map, take, drop, replicate, set, get_or, Some, refl, sym, ap, ◌∙◌, subst, slice_get, slice_index_or, if◌then◌else◌, Result, Ok, Err, add-one, bytes_eq, eq-eqb, length-set, get_or-set_same, get_or-set_other, MatchResult, cases_eq, length-map, take-append-le, take-map, slice_get_read, slice_get-map, Program, InputFault, Input, Scope, place_of, network_of, kind_at, role_at, channels_of, channel_names, AreOfKind, IsInputFor, Lists, inputs_of, Entry, FailsFirst, asked_of_entry, channel_of, is_given, list_for, AreFit, IsFirstRefused, IsInputOf, IsFitHere}
 use Rattle.std.proofs.lemmas.Bool.{eqb-true}
 use Rattle.std.specs.Option.{option_map}
 use Rattle.kahn_streams.specs.declared.entries.InputFault.TheVariants.{NoMemory}
@@ -124,17 +124,6 @@ none_of zero c x = refl
 none_of (suc n) zero x = refl
 none_of (suc n) (suc c) x = none_of n c x
 
-pub none_filled : (t : Program) (n : ℕ) (flags : List Bool) (lists : Lists) → n ≡ length (network_of t).channels → flags ≡ replicate n false → lists ≡ replicate n [] → AreFilled t [] flags lists
-none_filled t n flags lists e f l = record {
-  made = record {
-    fit = none_fit t;
-    count = ap length l ∙ length-replicate n [] ∙ e;
-    lists = λ c. ap (λ x. slice_index_or x c []) l ∙ none_of n c [];
-  };
-  size = ap length f ∙ length-replicate n false ∙ e;
-  marks = λ c. ap (λ x. slice_index_or x c false) f ∙ none_of n c false;
-}
-
 module _ (t : Program) (done : List Entry) (flags : List Bool) (lists : Lists) (x : Entry) (h : AreFilled t done flags lists) where
   marks_more : IsFitHere t (is_given t done (channel_of t x)) x → (c : ℕ) → slice_index_or (set flags (channel_of t x) true) c false ≡ is_given t (done ++ x ∷ []) c
   marks_more fit c = elim (cases_eq (channel_of t x) c) [
@@ -222,9 +211,6 @@ read_here f all k x below is = slice_get-map f all k ∙ ap (option_map f) (slic
 -- the entries that are read
 pub read_so_far : {A : Type 0} (f : A → Entry) (done all : List A) → map (λ x. x) done ≡ take (length done) all → map f done ≡ take (length done) (map f all)
 read_so_far f done all e = ap (map f) (sym (map_same done) ∙ e) ∙ sym (take-map f (length done) all)
-
-pub read_all : {A : Type 0} (f : A → Entry) (done all : List A) → map (λ x. x) done ≡ all → map f done ≡ map f all
-read_all f done all e = ap (map f) (sym (map_same done) ∙ e)
 
 -- ---- a refusal of an entry, where memory may be refused beside
 

@@ -1,5 +1,5 @@
 -- Values that are fed: what they leave, and tokens of the input before.
-use Rattle.kahn_streams.proofs.Common.{arith, ◌≡◌, ◌≢◌, inl, inr, ℕ, ◌<◌, ◌≤◌, ◌==◌, Bool, true, false, List, [], ◌∷◌, ◌++◌, length, map, set, get_or, refl, sym, ap, ◌∙◌, subst, eq-eqb, eqb-true, append-nil, length-set, get_or-set_same, get_or-set_other, if◌then◌else◌, ∥∥₁_elim, ∥∥₁_prop, cases_eq, get_or-map, get_or_past, length-map, map-set, set-get_or, Kind, Program, Value, Line, FeedFault, Input, Network, network_of, kind_at, role_at, channel_names, Entry, channel_of, most_values, AreOfKind, IsListFor, IsInputFor, Lists, inputs_of, Holds, IsMeant, IsNotMeant, IsUnwelcome, IsEntryFed, fed_to, total_after, AreInputsExtended, Stands}
+use Rattle.kahn_streams.proofs.Common.{arith, ◌≡◌, ◌≢◌, inl, inr, ℕ, ◌<◌, ◌≤◌, ◌==◌, Bool, true, false, List, [], ◌++◌, length, map, set, get_or, refl, sym, ap, ◌∙◌, subst, eq-eqb, eqb-true, append-nil, length-set, get_or-set_same, get_or-set_other, if◌then◌else◌, ∥∥₁_elim, ∥∥₁_prop, cases_eq, get_or-map, length-map, map-set, set-get_or, Program, Value, Line, FeedFault, Input, network_of, kind_at, role_at, channel_names, Entry, channel_of, most_values, AreOfKind, Lists, inputs_of, Holds, IsMeant, IsNotMeant, IsUnwelcome, IsEntryFed, fed_to, total_after, AreInputsExtended, Stands}
 use Rattle.kahn_streams.specs.declared.feeds.FeedFault.TheVariants.{UnknownName, NotAnInput, WrongKind, TooMany, NoMemory}
 use Rattle.kahn_streams.proofs.{Proved.prefix_get, Finished.inputs_grow, Entered.names_count}
 
@@ -71,44 +71,6 @@ module _ (t : Program) (before : Lists) (e : Entry) where
 -- the lists before are prefixes of those after
 pub fed_grown : (t : Program) (before : Lists) (e : Entry) (after : Lists) → IsEntryFed t before e after → AreInputsExtended (inputs_of before) (inputs_of after)
 fed_grown t before e after h c = (fed_to t e c, h.lists c)
-
-pub same_grown : (before after : Lists) → after ≡ before → AreInputsExtended (inputs_of before) (inputs_of after)
-same_grown before after h c = ([], ap (λ l. inputs_of l c) h ∙ sym (append-nil (inputs_of before c)))
-
--- ---- kinds
-
-kinds_append : (k : Kind) (xs ys : List Value) → AreOfKind k xs → AreOfKind k ys → AreOfKind k (xs ++ ys)
-kinds_append k [] ys f g = g
-kinds_append k (x ∷ xs) ys f g = (f.0, kinds_append k xs ys f.1 g)
-
-fed_kinded : (t : Program) (e : Entry) → IsMeant t e → (c : ℕ) → AreOfKind (kind_at (network_of t) c) (fed_to t e c)
-fed_kinded t e h c = by (channel_of t e == c) refl
-  where
-    by : (b : Bool) → (channel_of t e == c) ≡ b → AreOfKind (kind_at (network_of t) c) (if b then e.1 else [])
-    by true i = subst (λ d. AreOfKind (kind_at (network_of t) d) e.1) (eqb-true (channel_of t e) c i) (meant_kinded t e h)
-    by false i = tt
-
--- what isn't fed to an input channel is nothing
-fed_bare : (t : Program) (e : Entry) → IsMeant t e → (c : ℕ) → role_at (network_of t) c ≢ Input → fed_to t e c ≡ []
-fed_bare t e h c n = fed_other t e c (λ i. n (subst (λ d. role_at (network_of t) d ≡ Input) i (meant_input t e h)))
-
--- lists that fit still fit
-pub fed_fits : (t : Program) (before : Lists) (e : Entry) (after : Lists) → IsEntryFed t before e after → IsInputFor (network_of t) before → IsInputFor (network_of t) after
-fed_fits t before e after h fits = record {
-  count = h.count ∙ fits.count;
-  lists_fit = λ c. record {
-    kinded = λ is. subst (AreOfKind (kind_at (network_of t) c)) (sym (h.lists c))
-        (kinds_append (kind_at (network_of t) c) (inputs_of before c) (fed_to t e c) ((fits.lists_fit c).kinded is) (fed_kinded t e h.meant c));
-    bare = λ n. h.lists c ∙ ap (λ l. l ++ fed_to t e c) ((fits.lists_fit c).bare n) ∙ fed_bare t e h.meant c n;
-  };
-}
-
--- ---- whether lists fit
-
-pub past_all : (N : Network) (lists : Lists) (c : ℕ) → length lists ≤ c → IsListFor N c (inputs_of lists c)
-past_all N lists c past =
-    let none : inputs_of lists c ≡ [] = get_or_past lists c [] past in
-    record { kinded = λ is. subst (AreOfKind (kind_at N c)) (sym none) tt; bare = λ n. none }
 
 -- ---- tokens
 

@@ -1,5 +1,5 @@
 -- From a truncated fact that a value stands to where it stands: the first iterate that is long enough has it.
-use Rattle.kahn_streams.proofs.Common.{is_prop→PathP, ∥∥₁_elim, ∥∥₁_prop, ltb-true, lt-ltb, slice_get_within, slice_get-get_or, arith, ◌≡◌, ◌⊎◌, inl, inr, ℕ, zero, suc, ◌<◌, ltb, get_or, length, Bool, true, false, not, ◌&&◌, refl, sym, ap, ◌∙◌, subst, Some, slice_get, Value, Line, Network, Inputs, iterate, Stands}
+use Rattle.kahn_streams.proofs.Common.{is_prop→PathP, ∥∥₁_elim, ∥∥₁_prop, ltb-true, lt-ltb, slice_get_within, slice_get-get_or, arith, ◌≡◌, ◌⊎◌, inl, inr, ℕ, zero, suc, ◌<◌, ltb, get_or, length, Bool, true, false, not, ◌&&◌, refl, sym, ap, ◌∙◌, subst, Some, slice_get, Value, Line, Schema, Inputs, iterate, Stands}
 use Rattle.std.specs.Coded.{Coded-set}
 use Rattle.std.proofs.Math.Bool.{Bool-set}
 use Rattle.kahn_streams.specs.contracts.value.Value as value
@@ -80,10 +80,10 @@ first b n e = by (search_to b n)
 pub found_number : (b : ℕ → Bool) → ∥ ((n : ℕ) × (b n ≡ true)) ∥₁ → (n : ℕ) × (b n ≡ true)
 found_number b t = let f : First b = ∥∥₁_elim t (first_prop b) (λ s. first b s.0 s.1) in (f.0, f.1)
 
-abbrev long : Network → Inputs → Line → ℕ → ℕ → Bool
+abbrev long : Schema → Inputs → Line → ℕ → ℕ → Bool
 long N I c k n = ltb k (length (iterate N I n c))
 
-pub found : (N : Network) (I : Inputs) (c : Line) (k : ℕ) (v : Value) → ∥ (Stands N I c k v) ∥₁ → Stands N I c k v
+pub found : (N : Schema) (I : Inputs) (c : Line) (k : ℕ) (v : Value) → ∥ (Stands N I c k v) ∥₁ → Stands N I c k v
 found N I c k v t = (at.0, have ∙ ap Some same)
   where
     at : (n : ℕ) × (long N I c k n ≡ true)

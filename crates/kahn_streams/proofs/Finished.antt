@@ -1,5 +1,5 @@
 -- A quiet network has the whole solution.
-use Rattle.kahn_streams.proofs.Common.{fun_ext, arith, ◌≡◌, ℕ, zero, suc, ◌+◌, ◌≤◌, max, List, [], ◌∷◌, ◌++◌, refl, sym, ap, ◌∙◌, subst, append-nil, le_refl, le_trans, le_of_suc-le-suc, not-suc-le-zero, suc-le-suc, Some, pos, le-max_left, le-max_right, Value, Line, Channel, Number, Stmt, Tapes, Script, Give, Fail, Waits, Sends, Turns, Rest, ScriptOutcome, Got, Dry, Fault, Cut, Reached, after_event, after_send, put, wait_at, play, Store, exec, script_of, Network, Instance, Hands, instance_at, Source, Given, Written, Nobody, IsWhole, Histories, Inputs, tapes_of, exec_at, out, values_at, goes_to, source, fed, input_list, iterate, IsPrefix, HasEnd, HasSizes, none_left, one_more, Ending, ending, AreInputsExtended, IsExtended, IsSolution, InputsGrow, SendsStand, IsQuiet, IsSettled, IsCounted, IsUnrolled, SaysSoAgain, IsDetermined}
+use Rattle.kahn_streams.proofs.Common.{fun_ext, arith, ◌≡◌, ℕ, zero, suc, ◌+◌, ◌≤◌, max, List, [], ◌∷◌, ◌++◌, refl, sym, ap, ◌∙◌, subst, append-nil, le_refl, le_trans, le_of_suc-le-suc, not-suc-le-zero, suc-le-suc, Some, pos, le-max_left, le-max_right, Value, Line, Channel, Number, Stmt, Tapes, Script, Give, Fail, Waits, Sends, Turns, Rest, ScriptOutcome, Got, Dry, Fault, Cut, Reached, after_event, after_send, put, wait_at, play, Store, exec, script_of, Schema, Node, Hands, instance_at, Source, Given, Written, Nobody, IsWhole, Histories, Inputs, tapes_of, exec_at, out, values_at, goes_to, source, fed, input_list, iterate, IsPrefix, HasEnd, HasSizes, none_left, one_more, Ending, ending, AreInputsExtended, IsExtended, IsSolution, InputsGrow, SendsStand, IsQuiet, IsSettled, IsCounted, IsUnrolled, SaysSoAgain, IsDetermined}
 use Rattle.kahn_streams.specs.declared.value.Line.TheVariants.{Print}
 use Rattle.kahn_streams.proofs.{Fuel.gives, Fuel.play_alike, Fuel.script_alike, Runs.cut_is_full}
 use Rattle.kahn_streams.proofs.Proved.{prefix_refl, prefix_trans, prefix_get, Feeds, feeds, script_at, exec_alike, out_grows, chain, least, solves, iterates_rise, fits_all}
@@ -27,7 +27,7 @@ more_play (suc n) zero (Turns s) T le h = absurd (not-suc-le-zero le)
 more_play (suc n) (suc m) (Turns s) T le h = ap after_event (more_play n m s T (le_of_suc-le-suc le) h)
 more_play n m Rest T le h = absurd (h refl)
 
-pub more_events : (N : Network) (n m p : ℕ) (H : Histories) → n ≤ m → ((exec_at N n p H).outcome ≡ Cut → ⊥) →
+pub more_events : (N : Schema) (n m p : ℕ) (H : Histories) → n ≤ m → ((exec_at N n p H).outcome ≡ Cut → ⊥) →
     exec_at N m p H ≡ exec_at N n p H
 more_events N n m p H le h =
     let a : exec_at N n p H ≡ play n (script_at N m p) (tapes_of (instance_at N p) H) =
@@ -66,7 +66,7 @@ prefix_antisym xs ys h g =
 
 -- ---- quiet histories
 
-module _ (N : Network) (I : Inputs) (A : Histories) (o : ℕ → Ending) (e : ℕ → ℕ) (quiet : IsQuiet N I A o e) where
+module _ (N : Schema) (I : Inputs) (A : Histories) (o : ℕ → Ending) (e : ℕ → ℕ) (quiet : IsQuiet N I A o e) where
   same_exec : (p n : ℕ) → e p ≤ n → exec_at N n p A ≡ exec_at N (e p) p A
   same_exec p n le = more_events N (e p) n p A le (over (exec_at N (e p) p A).outcome (o p) (quiet.ends p))
 
@@ -117,7 +117,7 @@ module _ (N : Network) (I : Inputs) (A : Histories) (o : ℕ → Ending) (e : �
 
 -- ---- what is sent stands
 
-pub sends_stand : (N : Network) (I : Inputs) → SendsStand N I
+pub sends_stand : (N : Schema) (I : Inputs) → SendsStand N I
 sends_stand N I n m p H h c s k v g = (
   suc (max n m),
   prefix_get _ _
@@ -127,17 +127,17 @@ sends_stand N I n m p H h c s k v g = (
 
 -- ---- longer inputs
 
-given_grows : (N : Network) (I J : Inputs) → AreInputsExtended I J → (c : Line) → IsPrefix (input_list I c) (input_list J c)
+given_grows : (N : Schema) (I J : Inputs) → AreInputsExtended I J → (c : Line) → IsPrefix (input_list I c) (input_list J c)
 given_grows N I J h (Channel c) = h c
 given_grows N I J h (Print p) = prefix_refl []
 
-fed_both : (N : Network) (I J : Inputs) → AreInputsExtended I J → (src : Source) (f g : ℕ → List Value) (c : Line) →
+fed_both : (N : Schema) (I J : Inputs) → AreInputsExtended I J → (src : Source) (f g : ℕ → List Value) (c : Line) →
     ((p : ℕ) → IsPrefix (f p) (g p)) → IsPrefix (fed src I f c) (fed src J g c)
 fed_both N I J h Given f g c k = given_grows N I J h c
 fed_both N I J h (Written p) f g c k = k p
 fed_both N I J h Nobody f g c k = prefix_refl []
 
-pub inputs_grow : (N : Network) → InputsGrow N
+pub inputs_grow : (N : Schema) → InputsGrow N
 inputs_grow N I J h zero c = fed_both N I J h (source N c) _ _ c (λ p. prefix_refl [])
 inputs_grow N I J h (suc n) c =
     fed_both N I J h (source N c) _ _ c (λ p.
@@ -162,7 +162,7 @@ within_play zero (Turns s) T = omega arith
 within_play (suc n) (Turns s) T = suc-le-suc (within_play n s T)
 within_play n Rest T = omega arith
 
-pub counted : (N : Network) (n p : ℕ) (H : Histories) → IsCounted N n p H
+pub counted : (N : Schema) (n p : ℕ) (H : Histories) → IsCounted N n p H
 counted N n p H =
     record {
       within = within_play n (script_at N n p) (tapes_of (instance_at N p) H);
@@ -174,7 +174,7 @@ unrolled b n k s T le = play_alike (script_alike n k n b le (le_refl n) s Give G
 
 -- ---- one whole, one end
 
-one_whole : (N : Network) (I : Inputs) (c : Line) (L M : List Value) → IsWhole N I c L → IsWhole N I c M → L ≡ M
+one_whole : (N : Schema) (I : Inputs) (c : Line) (L M : List Value) → IsWhole N I c L → IsWhole N I c M → L ≡ M
 one_whole N I c L M h g =
     prefix_antisym M L
     (prefix_trans _ _ _ g.0.1 (h.1 g.0.0))
@@ -183,19 +183,19 @@ one_whole N I c L M h g =
 same_ending : {o x : Ending} → Some o ≡ Some x → o ≡ x
 same_ending e = cc
 
-one_end : (N : Network) (I : Inputs) (p e f : ℕ) (o x : Ending) → HasEnd N I p o e → HasEnd N I p x f → (o ≡ x) × (e ≡ f)
+one_end : (N : Schema) (I : Inputs) (p e f : ℕ) (o x : Ending) → HasEnd N I p o e → HasEnd N I p x f → (o ≡ x) × (e ≡ f)
 one_end N I p e f o x h g =
     let n = max h.0 g.0 in
     let a = h.1 n (le-max_left h.0 g.0) in
     let b = g.1 n (le-max_right h.0 g.0) in
     (same_ending (sym a.0 ∙ b.0), sym a.1 ∙ b.1)
 
-one_size : (N : Network) (I : Inputs) (p : ℕ) (is : List Instance) (a b : ℕ) → HasSizes N I p is a → HasSizes N I p is b → a ≡ b
+one_size : (N : Schema) (I : Inputs) (p : ℕ) (is : List Node) (a b : ℕ) → HasSizes N I p is a → HasSizes N I p is b → a ≡ b
 one_size N I p [] _ _ none_left none_left = refl
 one_size N I p (i ∷ is) _ _ (one_more {o = o} {e = e} {total = total} h hs) (one_more {o = x} {e = f} {total = sum} g gs) =
     omega (arith, (one_end N I p e f o x h g).1, one_size N I (suc p) is total sum hs gs)
 
-pub determined : (N : Network) (I : Inputs) → IsDetermined N I
+pub determined : (N : Schema) (I : Inputs) → IsDetermined N I
 determined N I =
     record {
       one_whole = one_whole N I;

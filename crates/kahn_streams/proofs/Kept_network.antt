@@ -1,24 +1,15 @@
 -- What the tables of a network say of it.
 use Rattle.kahn_streams.proofs.Common.{◌≡◌, ℕ, ◌<◌, List, map, length, Option, None, Some, refl, ap, sym, ◌∙◌, subst, string_bytes, length-map, get_or_from_slice_get, Name, Kind, Role, Process, Declaration, Program, bytes_of, IsMadeOf, network_of, instance_at, instance_from, kind_at, role_at, channel_source, process_of, idle, IsOnly, IsWriter, IsReader, source_of, channel_names, the_process as the_declared, shown, channel_line, lines_of, first, process_at, IsKept, declared_channels, writers, readers, IsMade, IsWellWired}
-use Rattle.std.specs.Prelude.{slice_get}
-use Rattle.kahn_streams.specs.{Types.Instance, Wires.Line, declared.wires.Wire.Wire}
+use Rattle.std.specs.Prelude.{slice_get, slice_index_or}
+use Rattle.kahn_streams.specs.{Types.Argument, Types.Instance, Wires.Line, declared.wires.Wire.Wire, inner.Sources.IsWire}
 use Rattle.kahn_streams.specs.declared.tree.Declaration.TheVariants as D
 use Rattle.kahn_streams.specs.Network as N
-use Rattle.kahn_streams.proofs.{By_number.there, By_number.within, By_number.mapped, By_number.the_process, By_number.all_at, Sided.declared_there, Sided.channel_count, Sided.named_at, Sided.line_kind, Sided.line_role, Sided.one_writer, Sided.one_reader, Sided.sourced}
+use Rattle.kahn_streams.proofs.{By_number.at_index, By_number.there, By_number.within, By_number.mapped, By_number.the_process, By_number.all_at, Sided.declared_there, Sided.channel_count, Sided.named_at, Sided.line_kind, Sided.line_role, Sided.one_writer, Sided.one_reader, Sided.sourced}
 
 -- the number of wires
 pub wire_count : (t : Program) (ws : List Wire) → map shown ws ≡ lines_of t → length ws ≡ length (network_of t).channels
 wire_count t ws h =
     sym (length-map {B = Line} ws shown) ∙ ap (λ (z : List Line). length z) h ∙ length-map {B = Line} (declared_channels t.declarations.items) (channel_line t) ∙ sym (channel_count t)
-
--- what a network says of the channel of a wire
-pub record IsWire (t : Program) (c : ℕ) (w : Wire) : Type 0 where
-  pub name : slice_get (channel_names t) c ≡ Some (string_bytes w.name)
-  pub kind : w.kind ≡ kind_at (network_of t) c
-  pub role : w.role ≡ role_at (network_of t) c
-  pub writer : IsOnly (IsWriter (network_of t) c) w.writer
-  pub source : channel_source (network_of t) c ≡ source_of w.writer
-  pub reader : IsOnly (IsReader (network_of t) c) w.reader
 
 one_wire : (t : Program) → IsWellWired t → (c : ℕ) (e : Name × (Kind × Role)) → slice_get (declared_channels t.declarations.items) c ≡ Some e → (w : Wire) → shown w ≡ channel_line t e → IsWire t c w
 one_wire t h c e at w is =
@@ -36,9 +27,9 @@ one_wire t h c e at w is =
       reader = subst (IsOnly (IsReader (network_of t) c)) (sym reader) (one_reader t h c e at);
     }
 
-pub wire_at : (t : Program) (ws : List Wire) → IsWellWired t → map shown ws ≡ lines_of t → (c : ℕ) (w : Wire) → slice_get ws c ≡ Some w → IsWire t c w
-wire_at t ws h lines c w is =
-    let lt : c < length (network_of t).channels = subst (λ z. c < z) (wire_count t ws lines) (within ws c w is) in
+pub wire_at : (t : Program) (ws : List Wire) → IsWellWired t → map shown ws ≡ lines_of t → (c : ℕ) (w : Wire) → c < length (network_of t).channels → slice_index_or ws c w ≡ w → IsWire t c w
+wire_at t ws h lines c w lt at =
+    let is = at_index ws c w (subst (λ z. c < z) (sym (wire_count t ws lines)) lt) at in
     let d = declared_there t c lt in
     let shown_there = mapped shown ws c w is in
     let line_there = mapped (channel_line t) (declared_channels t.declarations.items) c d.0 d.1 in
@@ -49,7 +40,7 @@ wire_at t ws h lines c w is =
     unsome i = cc
 
 -- the instance of a number
-pub instance_made : (t : Program) (p : ℕ) (x : Instance) (o : Option Process) → slice_get t.instances.items p ≡ Some x → process_of t.declarations.items (bytes_of x.process) ≡ o →
+instance_made : (t : Program) (p : ℕ) (x : Instance) (o : Option Process) → slice_get t.instances.items p ≡ Some x → process_of t.declarations.items (bytes_of x.process) ≡ o →
     instance_at (network_of t) p ≡ instance_from (channel_names t) o x.arguments.items
 instance_made t p x o is h =
     let made = λ (i : Instance). instance_from (channel_names t) (process_of t.declarations.items (bytes_of i.process)) i.arguments.items in
@@ -61,75 +52,44 @@ process_there None q h = cc
 process_there (Some (D.Channels kind role names)) q h = cc
 process_there (Some (D.Process p)) q h = let same : p ≡ q = cc in ap (λ z. Some (D.Process z)) same
 
--- the declaration of the instance's process
-pub record IsDeclared (t : Program) (p k : ℕ) : Type 0 where
-  pub instance : Instance
-  pub process : Process
-  pub there : slice_get t.instances.items p ≡ Some instance
-  pub declared : slice_get t.declarations.items k ≡ Some (D.Process process)
-  pub named : process_of t.declarations.items (bytes_of instance.process) ≡ Some process
+-- the number of instances
+instance_count : (t : Program) → length (network_of t).instances ≡ length t.instances.items
+instance_count t = length-map {B = N.Node} t.instances.items (λ i. instance_from (channel_names t) (process_of t.declarations.items (bytes_of i.process)) i.arguments.items)
 
-pub declared_number : (t : Program) (ws : List Wire) (ns : List ℕ) → IsKept t ws ns → (p k : ℕ) → slice_get ns p ≡ Some k → IsDeclared t p k
-declared_number t ws ns h p k at =
+-- the declaration of an instance's process, and what the instance is made of
+pub record IsDeclared (t : Program) (p : ℕ) (d : Declaration) : Type 0 where
+  pub process : Process
+  pub is : d ≡ D.Process process
+  pub made : (x : Instance) → slice_index_or t.instances.items p x ≡ x → IsMadeOf t p process x.arguments.items
+
+pub declared_number : (t s : Program) (ws : List Wire) (ns : List ℕ) → IsKept t ws ns → t ≡ s → (p k : ℕ) → p < length (network_of s).instances → slice_index_or ns p k ≡ k →
+    (k < length t.declarations.items) × ((d : Declaration) → slice_index_or t.declarations.items k d ≡ d → IsDeclared t p d)
+declared_number t s ws ns h same p k lt at =
     let ds = t.declarations.items in
     let xs = t.instances.items in
+    let below : p < length xs = subst (λ z. p < z) (ap (λ z. length (network_of z).instances) (sym same) ∙ instance_count t) lt in
     let count : length ns ≡ length xs =
     sym (length-map {B = Option Process} ns (process_at ds)) ∙ ap (λ (z : List (Option Process)). length z) h.numbers ∙ length-map {B = Option Process} xs (λ i. process_of ds (bytes_of i.process)) in
-    let x = there xs p (subst (λ z. p < z) count (within ns p k at)) in
+    let number = at_index ns p k (subst (λ z. p < z) (sym count) below) at in
+    let x = there xs p below in
     let alike : Some (process_at ds k) ≡ Some (process_of ds (bytes_of x.0.process)) =
-    sym (mapped (process_at ds) ns p k at) ∙ ap (λ z. slice_get z p) h.numbers ∙ mapped (λ (i : Instance). process_of ds (bytes_of i.process)) xs p x.0 x.1 in
+    sym (mapped (process_at ds) ns p k number) ∙ ap (λ z. slice_get z p) h.numbers ∙ mapped (λ (i : Instance). process_of ds (bytes_of i.process)) xs p x.0 x.1 in
     let made = all_at (IsMade t) xs p x.0 h.wired.instances x.1 in
     let named = the_process (bytes_of x.0.process) made.0 ds made.1 in
-    record {
-      instance = x.0;
-      process = made.0;
-      there = x.1;
-      declared = process_there (slice_get ds k) made.0 (unsome alike ∙ named);
-      named = named;
-    }
+    let declared = process_there (slice_get ds k) made.0 (unsome alike ∙ named) in
+    let inside = within ds k (D.Process made.0) declared in (
+      inside,
+      (λ d is.
+          record {
+            process = made.0;
+            is = unsome (sym (at_index ds k d inside is) ∙ declared);
+            made = λ y now. (y, at_index xs p y below now, ap (λ (z : Instance). process_of ds (bytes_of z.process)) (unsome (sym (at_index xs p y below now) ∙ x.1)) ∙ named, refl);
+          }),
+    )
   where
-    unsome : {a b : Option Process} → Some a ≡ Some b → a ≡ b
+    unsome : {A : Type 0} {a b : A} → Some a ≡ Some b → a ≡ b
     unsome i = cc
 
--- the number of instances
-pub instance_count : (t : Program) → length (network_of t).instances ≡ length t.instances.items
-instance_count t = length-map {B = N.Instance} t.instances.items (λ i. instance_from (channel_names t) (process_of t.declarations.items (bytes_of i.process)) i.arguments.items)
-
-pub process_count : (t : Program) (ws : List Wire) (ns : List ℕ) → IsKept t ws ns → length ns ≡ length (network_of t).instances
-process_count t ws ns h =
-    let ds = t.declarations.items in
-    let made = λ (i : Instance). instance_from (channel_names t) (process_of ds (bytes_of i.process)) i.arguments.items in
-    sym (length-map {B = Option Process} ns (process_at ds)) ∙ ap (λ (z : List (Option Process)). length z) h.numbers ∙ length-map {B = Option Process} t.instances.items (λ i. process_of ds (bytes_of i.process))
-    ∙ sym (length-map {B = N.Instance} t.instances.items made)
-
-pub number_within : (t : Program) (ws : List Wire) (ns : List ℕ) → IsKept t ws ns → (p k : ℕ) → slice_get ns p ≡ Some k → k < length t.declarations.items
-number_within t ws ns h p k at = let d = declared_number t ws ns h p k at in within t.declarations.items k (D.Process d.process) d.declared
-
-pub instance_declared : (t : Program) (ws : List Wire) (ns : List ℕ) → IsKept t ws ns → (p k : ℕ) → slice_get ns p ≡ Some k → (x : Instance) (q : Process) → slice_get t.instances.items p ≡ Some x →
-    slice_get t.declarations.items k ≡ Some (D.Process q) → IsMadeOf t p q x.arguments.items
-instance_declared t ws ns h p k at x q is declared =
-    let d = declared_number t ws ns h p k at in
-    let same : d.instance ≡ x = by (sym d.there ∙ is) in
-    let alike : d.process ≡ q = of_declared (sym d.declared ∙ declared) in
-    (x, is, ap (λ (z : Instance). process_of t.declarations.items (bytes_of z.process)) (sym same) ∙ d.named ∙ ap Some alike, refl)
-  where
-    by : {a b : Instance} → Some a ≡ Some b → a ≡ b
-    by i = cc
-
-    of_declared : {a b : Process} → Some (D.Process a) ≡ Some (D.Process b) → a ≡ b
-    of_declared i = cc
-
-pub instance_kept : (t : Program) (ws : List Wire) (ns : List ℕ) → IsKept t ws ns → (p k : ℕ) → slice_get ns p ≡ Some k → (x : Instance) (q : Process) → slice_get t.instances.items p ≡ Some x →
-    slice_get t.declarations.items k ≡ Some (D.Process q) → instance_at (network_of t) p ≡ instance_from (channel_names t) (Some q) x.arguments.items
-instance_kept t ws ns h p k at x q is declared =
-    let d = instance_declared t ws ns h p k at x q is declared in
-    instance_made t p d.0 (Some q) d.1 d.2 ∙ ap (instance_from (channel_names t) (Some q)) d.3
-
-pub never_channels : (t : Program) (ws : List Wire) (ns : List ℕ) → IsKept t ws ns → (p k : ℕ) → slice_get ns p ≡ Some k → (d : Declaration) → slice_get t.declarations.items k ≡ Some d → the_declared (Some d) ≡ None → ⊥
-never_channels t ws ns h p k at d declared none =
-    let e = declared_number t ws ns h p k at in
-    let same : Some e.process ≡ None = sym (ap the_declared e.declared) ∙ ap the_declared declared ∙ none in
-    bad same
-  where
-    bad : {a : Process} → Some a ≡ None → ⊥
-    bad i = cc
+-- what the network says of such an instance
+pub instance_kept : (t : Program) (p : ℕ) (q : Process) (xs : List Argument) → IsMadeOf t p q xs → instance_at (network_of t) p ≡ instance_from (channel_names t) (Some q) xs
+instance_kept t p q xs made = instance_made t p made.0 (Some q) made.1 made.2 ∙ ap (instance_from (channel_names t) (Some q)) made.3

@@ -1,5 +1,5 @@
 -- The instances of a well wired program keep kinds, and so do the iterates.
-use Rattle.kahn_streams.proofs.Common.{◌≡◌, ◌≢◌, ℕ, zero, suc, pos, Bool, true, false, cond, List, [], ◌∷◌, ◌++◌, map, Some, refl, sym, ap, ◌∙◌, subst, eqb-true, bytes_eq, slice_get, slice_index_or, if◌then◌else◌, AllByRecursion, lookup, Name, Kind, Role, Direction, Taking, OneVariable as Variable, Process, Declaration, Argument, Program, Value, Inner, Input, Output, In, Out, Number, Scope, place_of, number_of, bytes_of, names_of, body_of, Agrees, entries, Global, IsChannel, IsProcess, declared_of, processes_of, global, Fits, AllFit, IsMade, IsSound, IsWellWired, Hands, Instance, Network, idle, instance_at, actual_at, kind_at, role_at, is_written, any_written, first_writer, source_by, Source, Given, Written, Nobody, channels_of, process_of, actual_of, actuals_of, instance_from, network_of, Channel, Port, Parameter, Printer, Give, Store, script_of, Histories, opening_of, default_of, opening, tape_of, tapes_of, exec_at, goes_to, values_at, out, source, fed, iterate, kind_of_value, AreOfKind, IsListFor, IsInputFor, Lists, inputs_of, AreKinded}
+use Rattle.kahn_streams.proofs.Common.{◌≡◌, ◌≢◌, ℕ, zero, suc, pos, Bool, true, false, cond, List, [], ◌∷◌, ◌++◌, map, Some, refl, sym, ap, ◌∙◌, subst, eqb-true, bytes_eq, slice_get, slice_index_or, if◌then◌else◌, AllByRecursion, lookup, Name, Kind, Role, Direction, Taking, OneVariable as Variable, Process, Declaration, Argument, Program, Value, Inner, Input, Output, In, Out, Number, Scope, place_of, number_of, bytes_of, names_of, body_of, Agrees, entries, Global, IsChannel, IsProcess, declared_of, processes_of, global, Fits, AllFit, IsMade, IsSound, IsWellWired, Hands, Node, Schema, idle, instance_at, actual_at, kind_at, role_at, is_written, any_written, first_writer, source_by, Source, Given, Written, Nobody, channels_of, process_of, actual_of, actuals_of, instance_from, network_of, Channel, Port, Parameter, Printer, Give, Store, script_of, Histories, opening_of, default_of, opening, tape_of, tapes_of, exec_at, goes_to, values_at, out, source, fed, iterate, kind_of_value, AreOfKind, IsListFor, IsInputFor, Lists, inputs_of, AreKinded}
 use Rattle.kahn_streams.specs.declared.tree.Kind.TheVariants as K
 use Rattle.kahn_streams.specs.declared.tree.Taking.TheVariants as T
 use Rattle.kahn_streams.specs.declared.tree.Parameter as P
@@ -190,13 +190,13 @@ sends_kept t (p ∷ ps) vs (x ∷ xs) (suc q) c j h e i = sends_kept t ps vs xs 
 -- ---- an instance
 
 -- an instance whose parameters agree with their channels, and whose body keeps kinds
-record KeepsKinds (N : Network) (i : Instance) : Type 0 where
+record KeepsKinds (N : Schema) (i : Node) : Type 0 where
   names : List Taking
   takes : (H : Histories) → AreKinded N H → AreTapesKept names (tapes_of i H)
   sends : (q c : ℕ) (j : Kind) → slice_get names q ≡ Some (T.Channel Out j) → is_written (actual_at i q) c ≡ true → j ≡ kind_at N c
   body : (n : ℕ) → IsKept {A = Store} names (script_of n i.body (opening i) Give)
 
-idle_keeps : (N : Network) → KeepsKinds N idle
+idle_keeps : (N : Schema) → KeepsKinds N idle
 idle_keeps N = record { names = []; takes = λ H g q. tt; sends = λ q c j e i. cc; body = λ n. tt }
 
 process_keeps : (t : Program) (p : Process) (xs : List Argument) → IsSound p → AllFit t p.parameters.items xs →
@@ -236,20 +236,20 @@ value_by : (b : Bool) (k : Kind) (v : Value) (vs : List Value) → (b ≡ true �
 value_by true k v vs h i = (h refl, i)
 value_by false k v vs h i = i
 
-sent_at : (N : Network) (p c : ℕ) → KeepsKinds N (instance_at N p) → (x : Port × Value) → (w : List Taking) →
+sent_at : (N : Schema) (p c : ℕ) → KeepsKinds N (instance_at N p) → (x : Port × Value) → (w : List Taking) →
     ((q : ℕ) (j : Kind) → slice_get w q ≡ Some (T.Channel Out j) → is_written (actual_at (instance_at N p) q) c ≡ true → j ≡ kind_at N c) →
     IsSent w x → goes_to N p (Channel c) x.0 ≡ true → kind_of_value x.1 ≡ kind_at N c
 sent_at N p c keeps (Parameter q, v) w f h i = f q (kind_of_value v) h i
 sent_at N p c keeps (Printer, v) w f h i = cc
 
-values_kept : (N : Network) (p c : ℕ) (keeps : KeepsKinds N (instance_at N p)) (xs : List (Port × Value)) → AllByRecursion (IsSent keeps.names) xs →
+values_kept : (N : Schema) (p c : ℕ) (keeps : KeepsKinds N (instance_at N p)) (xs : List (Port × Value)) → AllByRecursion (IsSent keeps.names) xs →
     AreOfKind (kind_at N c) (values_at (goes_to N p (Channel c)) xs)
 values_kept N p c keeps [] h = tt
 values_kept N p c keeps (x ∷ xs) h =
     value_by (goes_to N p (Channel c) x.0) (kind_at N c) x.1 _
     (sent_at N p c keeps x keeps.names (λ q j e i. keeps.sends q c j e i) h.0) (values_kept N p c keeps xs h.1)
 
-out_kept : (N : Network) (n p : ℕ) (H : Histories) (c : ℕ) → KeepsKinds N (instance_at N p) → AreKinded N H → AreOfKind (kind_at N c) (out N n p H (Channel c))
+out_kept : (N : Schema) (n p : ℕ) (H : Histories) (c : ℕ) → KeepsKinds N (instance_at N p) → AreKinded N H → AreOfKind (kind_at N c) (out N n p H (Channel c))
 out_kept N n p H c keeps g =
     values_kept N p c keeps (exec_at N n p H).sent
     (play_kept keeps.names n _ (tapes_of (instance_at N p) H) (keeps.body n) (keeps.takes H g))
@@ -257,13 +257,13 @@ out_kept N n p H c keeps g =
 -- ---- the iterates
 
 -- what is given to a channel from outside has its kind
-given_kept : (N : Network) (lists : Lists) (c : ℕ) (r : Role) (src : Source) → source_by r src ≡ Given → role_at N c ≡ r → IsListFor N c (inputs_of lists c) →
+given_kept : (N : Schema) (lists : Lists) (c : ℕ) (r : Role) (src : Source) → source_by r src ≡ Given → role_at N c ≡ r → IsListFor N c (inputs_of lists c) →
     src ≢ Given → AreOfKind (kind_at N c) (inputs_of lists c)
 given_kept N lists c Inner src e is h never = absurd (never e)
 given_kept N lists c Input src e is h never = h.kinded is
 given_kept N lists c Output src e is h never = absurd (never e)
 
-never_given : (is : List Instance) (p c : ℕ) → first_writer is p c ≢ Given
+never_given : (is : List Node) (p c : ℕ) → first_writer is p c ≢ Given
 never_given [] p c e = cc
 never_given (i ∷ is) p c e = by (any_written i.actuals c) (never_given is (suc p) c) e
   where
@@ -271,14 +271,14 @@ never_given (i ∷ is) p c e = by (any_written i.actuals c) (never_given is (suc
     by true h f = cc
     by false h f = h f
 
-fed_kept : (N : Network) (lists : Lists) (f : ℕ → List Value) (c : ℕ) (src : Source) → (source N (Channel c) ≡ src) → IsInputFor N lists →
+fed_kept : (N : Schema) (lists : Lists) (f : ℕ → List Value) (c : ℕ) (src : Source) → (source N (Channel c) ≡ src) → IsInputFor N lists →
     ((p : ℕ) → AreOfKind (kind_at N c) (f p)) → AreOfKind (kind_at N c) (fed src (inputs_of lists) f (Channel c))
 fed_kept N lists f c Given e h g =
     given_kept N lists c (role_at N c) (first_writer N.instances 0 c) e refl (h.lists_fit c) (never_given N.instances 0 c)
 fed_kept N lists f c (Written p) e h g = g p
 fed_kept N lists f c Nobody e h g = tt
 
-iterates_kept : (N : Network) (lists : Lists) → ((p : ℕ) → KeepsKinds N (instance_at N p)) → IsInputFor N lists → (n : ℕ) → AreKinded N (iterate N (inputs_of lists) n)
+iterates_kept : (N : Schema) (lists : Lists) → ((p : ℕ) → KeepsKinds N (instance_at N p)) → IsInputFor N lists → (n : ℕ) → AreKinded N (iterate N (inputs_of lists) n)
 iterates_kept N lists keeps h zero c = fed_kept N lists _ c (source N (Channel c)) refl h (λ p. tt)
 iterates_kept N lists keeps h (suc n) c =
     fed_kept N lists _ c (source N (Channel c)) refl h (λ p. out_kept N n p (iterate N (inputs_of lists) n) c (keeps p) (λ d. iterates_kept N lists keeps h n d))

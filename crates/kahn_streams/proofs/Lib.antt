@@ -25,4 +25,5 @@ pub mod Given_values
 pub mod Entered
 pub mod Fed
 pub mod Few
+pub mod Words
 pub mod Common

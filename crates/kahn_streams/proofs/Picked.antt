@@ -1,5 +1,5 @@
 -- The actuals of a network that pass a test, by their places.
-use Rattle.kahn_streams.proofs.Common.{◌≡◌, ℕ, zero, suc, ◌+◌, ◌<◌, Bool, true, false, cond, ◌⊎◌, inl, inr, List, [], ◌∷◌, ◌++◌, length, Option, None, Some, refl, ap, sym, ◌∙◌, subst, arith, Network, Instance, Actual, Hands, Source, Written, Nobody, idle, actual_at, first_writer, any_written, is_written, IsWithin, handed_at, IsOnly, first, side_at, Side}
+use Rattle.kahn_streams.proofs.Common.{◌≡◌, ℕ, zero, suc, ◌+◌, ◌<◌, Bool, true, false, cond, ◌⊎◌, inl, inr, List, [], ◌∷◌, ◌++◌, length, Option, None, Some, refl, ap, sym, ◌∙◌, subst, arith, Schema, Node, Actual, Hands, Source, Written, Nobody, idle, actual_at, first_writer, any_written, is_written, IsWithin, handed_at, IsOnly, first, side_at, Side}
 use Rattle.std.specs.Prelude.{slice_index_or, pos}
 use Rattle.kahn_streams.specs.Syntax as S
 use Rattle.kahn_streams.proofs.Handed.{AtMostOne}
@@ -71,11 +71,11 @@ sound_picks test i q s (a ∷ rest) h = by (test a) refl h (λ i'. sound_picks t
 
 -- ---- all instances
 
-abbrev pub picked : (Actual → Bool) → ℕ → List Instance → List Side
+abbrev pub picked : (Actual → Bool) → ℕ → List Node → List Side
 picked test i [] = []
 picked test i (x ∷ xs) = picks test i 0 x.actuals ++ picked test (suc i) xs
 
-complete_picked : (test : Actual → Bool) (i p k : ℕ) (xs : List Instance) → p < length xs → k < length (slice_index_or xs p idle).actuals →
+complete_picked : (test : Actual → Bool) (i p k : ℕ) (xs : List Node) → p < length xs → k < length (slice_index_or xs p idle).actuals →
     test (actual_at (slice_index_or xs p idle) k) ≡ true → Among (side_at (i + p) k) (picked test i xs)
 complete_picked test i p k [] lt lk h = absurd (omega arith)
 complete_picked test i zero k (x ∷ xs) lt lk h =
@@ -88,14 +88,14 @@ complete_picked test i (suc p) k (x ∷ xs) lt lk h =
     among_right (side_at (i + suc p) k) (picks test i 0 x.actuals) (picked test (suc i) xs) (subst (λ z. Among (side_at z k) (picked test (suc i) xs)) same (complete_picked test (suc i) p k xs (omega arith) lk h))
 
 -- where a member of the list stands
-pub record Found (test : Actual → Bool) (i : ℕ) (s : Side) (xs : List Instance) : Type 0 where
+pub record Found (test : Actual → Bool) (i : ℕ) (s : Side) (xs : List Node) : Type 0 where
   pub place : ℕ
   pub within : place < length xs
   pub instance : s.instance ≡ i + place
   pub parameter : s.parameter < length (slice_index_or xs place idle).actuals
   pub passes : test (actual_at (slice_index_or xs place idle) s.parameter) ≡ true
 
-sound_picked : (test : Actual → Bool) (i : ℕ) (s : Side) (xs : List Instance) → Among s (picked test i xs) → Found test i s xs
+sound_picked : (test : Actual → Bool) (i : ℕ) (s : Side) (xs : List Node) → Among s (picked test i xs) → Found test i s xs
 sound_picked test i s [] h = absurd h
 sound_picked test i s (x ∷ xs) h = by (among_split s (picks test i 0 x.actuals) (picked test (suc i) xs) h) (λ j. sound_picked test (suc i) s xs j)
   where
@@ -124,15 +124,15 @@ sound_picked test i s (x ∷ xs) h = by (among_split s (picks test i 0 x.actuals
 
 -- ---- a side of a network that passes a test
 
-abbrev pub Passes : (Actual → Bool) → Network → Side → Type 0
+abbrev pub Passes : (Actual → Bool) → Schema → Side → Type 0
 Passes test n s = IsWithin n s × (test (handed_at n s) ≡ true)
 
-pub passing : (test : Actual → Bool) (n : Network) (s : Side) → Passes test n s → Among s (picked test 0 n.instances)
+pub passing : (test : Actual → Bool) (n : Schema) (s : Side) → Passes test n s → Among s (picked test 0 n.instances)
 passing test n s h =
     let from : 0 + s.instance ≡ s.instance = omega arith in
     subst (λ z. Among (side_at z s.parameter) (picked test 0 n.instances)) from (complete_picked test 0 s.instance s.parameter n.instances h.0.0 h.0.1 h.1)
 
-pub passed : (test : Actual → Bool) (n : Network) (s : Side) → Among s (picked test 0 n.instances) → Passes test n s
+pub passed : (test : Actual → Bool) (n : Schema) (s : Side) → Among s (picked test 0 n.instances) → Passes test n s
 passed test n s h =
     let r = sound_picked test 0 s n.instances h in
     let from : 0 + r.place ≡ r.place = omega arith in
@@ -145,7 +145,7 @@ passed test n s h =
     )
 
 -- where at most one passes, it is the first of the list
-pub only : (test : Actual → Bool) (n : Network) (es : List Side) → picked test 0 n.instances ≡ es → AtMostOne es → IsOnly (Passes test n) (first es)
+pub only : (test : Actual → Bool) (n : Schema) (es : List Side) → picked test 0 n.instances ≡ es → AtMostOne es → IsOnly (Passes test n) (first es)
 only test n [] is one = λ s h. subst (Among s) is (passing test n s h)
 only test n (e ∷ []) is one = (passed test n e (subst (Among e) (sym is) (inl refl)), λ s h. alone s (subst (Among s) is (passing test n s h)))
   where
@@ -165,7 +165,7 @@ abbrev pub first_source : List Side → Source
 first_source [] = Nobody
 first_source (e ∷ es) = Written e.instance
 
-pub first_picked : (c i : ℕ) (xs : List Instance) → first_writer xs i c ≡ first_source (picked (λ a. is_written a c) i xs)
+pub first_picked : (c i : ℕ) (xs : List Node) → first_writer xs i c ≡ first_source (picked (λ a. is_written a c) i xs)
 first_picked c i [] = refl
 first_picked c i (x ∷ xs) = by 0 x.actuals (first_picked c (suc i) xs)
   where

@@ -1,5 +1,5 @@
 -- The laws of the meaning, proved.
-use Rattle.kahn_streams.proofs.Common.{fun_ext, ◌≡◌, ◌⊎◌, ℕ, zero, suc, ◌≤◌, ◌<◌, max, Bool, true, false, List, [], ◌∷◌, ◌++◌, refl, sym, ap, ◌∙◌, subst, inl, inr, append_assoc, append-nil, le_refl, eq-or-lt_of_le, le_of_suc-le-suc, not-suc-le-zero, arith, slice_index_or, slice_get, Some, pos, if◌then◌else◌, le-max_left, le-max_right, Value, Line, Channel, Number, Port, Tapes, Script, Give, ScriptOutcome, Got, Dry, Fault, Cut, Reached, play, Store, script_of, Network, Instance, Actual, Reads, Writes, Hands, instance_at, actual_at, Source, Given, Written, Nobody, Histories, Inputs, opening, tape_of, tapes_of, exec_at, out, values_at, goes_to, source, fed, input_list, iterate, IsPrefix, IsExtended, IsChain, HasOneValue, IsSolved, IsSolution, IsBelow, AreSame, KeepsTape, Frame}
+use Rattle.kahn_streams.proofs.Common.{fun_ext, ◌≡◌, ◌⊎◌, ℕ, zero, suc, ◌≤◌, ◌<◌, max, Bool, true, false, List, [], ◌∷◌, ◌++◌, refl, sym, ap, ◌∙◌, subst, inl, inr, append_assoc, append-nil, le_refl, eq-or-lt_of_le, le_of_suc-le-suc, not-suc-le-zero, arith, slice_index_or, slice_get, Some, pos, if◌then◌else◌, le-max_left, le-max_right, Value, Line, Channel, Number, Port, Tapes, Script, Give, ScriptOutcome, Got, Dry, Fault, Cut, Reached, play, Store, script_of, Schema, Node, Actual, Reads, Writes, Hands, instance_at, actual_at, Source, Given, Written, Nobody, Histories, Inputs, opening, tape_of, tapes_of, exec_at, out, values_at, goes_to, source, fed, input_list, iterate, IsPrefix, IsExtended, IsChain, HasOneValue, IsSolved, IsSolution, IsBelow, AreSame, KeepsTape, Frame}
 use Rattle.kahn_streams.proofs.Framed.{and_more, widened, cut_short, Stays, frame_play, dry_play, Begins, begins_nil, grows_play}
 use Rattle.kahn_streams.proofs.Fuel.{Alike, gives, script_alike, play_alike}
 
@@ -27,7 +27,7 @@ prefix_get xs ys h k v e = rw h.1 (get_append xs h.0 k v e)
 
 -- ---- tapes
 
-abbrev pub Feeds : Instance → Histories → Histories → Type 0
+abbrev pub Feeds : Node → Histories → Histories → Type 0
 Feeds i H G = (q : ℕ) → IsPrefix (tapes_of i H q) (tapes_of i G q)
 
 feeds_at : (H G : Histories) → IsExtended H G → (a : Actual) → IsPrefix (tape_of H a) (tape_of G a)
@@ -35,13 +35,13 @@ feeds_at H G h (Reads c) = h (Channel c)
 feeds_at H G h (Writes c) = begins_nil []
 feeds_at H G h (Hands v) = begins_nil []
 
-pub feeds : (i : Instance) (H G : Histories) → IsExtended H G → Feeds i H G
+pub feeds : (i : Node) (H G : Histories) → IsExtended H G → Feeds i H G
 feeds i H G h q = feeds_at H G h (actual_at i q)
 
-abbrev more_of : (i : Instance) (H G : Histories) → Feeds i H G → Tapes
+abbrev more_of : (i : Node) (H G : Histories) → Feeds i H G → Tapes
 more_of i H G h q = (h q).0
 
-tapes_more : (i : Instance) (H G : Histories) (h : Feeds i H G) → tapes_of i G ≡ and_more (tapes_of i H) (more_of i H G h)
+tapes_more : (i : Node) (H G : Histories) (h : Feeds i H G) → tapes_of i G ≡ and_more (tapes_of i H) (more_of i H G h)
 tapes_more i H G h = fun_ext (λ q. (h q).1)
 
 -- ---- sends
@@ -57,19 +57,19 @@ values_append here [] zs = refl
 values_append here (x ∷ xs) zs =
     append_by (here x.0) x.1 (values_at here xs) (values_at here (xs ++ zs)) (values_at here zs) (values_append here xs zs)
 
-abbrev pub script_at : Network → ℕ → ℕ → Script Store
+abbrev pub script_at : Schema → ℕ → ℕ → Script Store
 script_at N k p = script_of k (instance_at N p).body (opening (instance_at N p)) Give
 
-pub exec_alike : (N : Network) (n m p : ℕ) → n ≤ m → Alike n (script_at N n p) (script_at N m p)
+pub exec_alike : (N : Schema) (n m p : ℕ) → n ≤ m → Alike n (script_at N n p) (script_at N m p)
 exec_alike N n m p le = script_alike n n m (instance_at N p).body (le_refl n) le (opening (instance_at N p)) Give Give (λ r. gives)
 
-pub exec_grows : (N : Network) (n m p : ℕ) (H G : Histories) → n ≤ m → Feeds (instance_at N p) H G →
+pub exec_grows : (N : Schema) (n m p : ℕ) (H G : Histories) → n ≤ m → Feeds (instance_at N p) H G →
     Begins (exec_at N n p H).sent (exec_at N m p G).sent
 exec_grows N n m p H G le h =
     rw (tapes_more (instance_at N p) H G h, play_alike (exec_alike N n m p le) (tapes_of (instance_at N p) H))
     (grows_play n m (script_at N m p) (tapes_of (instance_at N p) H) (more_of (instance_at N p) H G h) le)
 
-pub out_grows : (N : Network) (n m p : ℕ) (H G : Histories) (c : Line) → n ≤ m → Feeds (instance_at N p) H G →
+pub out_grows : (N : Schema) (n m p : ℕ) (H G : Histories) (c : Line) → n ≤ m → Feeds (instance_at N p) H G →
     IsPrefix (out N n p H c) (out N m p G c)
 out_grows N n m p H G c le h =
     let b : Begins (exec_at N n p H).sent (exec_at N m p G).sent = exec_grows N n m p H G le h in
@@ -83,7 +83,7 @@ fed_grows Given I f g c h = prefix_refl (input_list I c)
 fed_grows (Written p) I f g c h = h p refl
 fed_grows Nobody I f g c h = prefix_refl []
 
-pub chain : (N : Network) (I : Inputs) → IsChain N I
+pub chain : (N : Schema) (I : Inputs) → IsChain N I
 chain N I zero c = fed_grows (source N c) I _ _ c (λ p e. begins_nil _)
 chain N I (suc n) c =
     fed_grows (source N c) I _ _ c (λ p e.
@@ -102,12 +102,12 @@ rises T step zero zero le c = prefix_refl (T zero c)
 rises T step (suc n) zero le c = absurd (not-suc-le-zero le)
 rises T step n (suc m) le c = rises_by T step n m c (eq-or-lt_of_le le) (λ l. rises T step n m l c)
 
-pub iterates_rise : (N : Network) (I : Inputs) (n m : ℕ) → n ≤ m → IsExtended (iterate N I n) (iterate N I m)
+pub iterates_rise : (N : Schema) (I : Inputs) (n m : ℕ) → n ≤ m → IsExtended (iterate N I n) (iterate N I m)
 iterates_rise N I n m le c = rises (iterate N I) (chain N I) n m le c
 
 -- ---- one value
 
-pub one_value : (N : Network) (I : Inputs) → HasOneValue N I
+pub one_value : (N : Schema) (I : Inputs) → HasOneValue N I
 one_value N I c k v w h g =
     let a : slice_get (iterate N I (max h.0 g.0) c) k ≡ Some v =
     prefix_get _ _ (iterates_rise N I h.0 (max h.0 g.0) (le-max_left h.0 g.0) c) k v h.1
@@ -119,11 +119,11 @@ one_value N I c k v w h g =
 
 -- ---- it is a solution
 
-solves_by : (N : Network) (I : Inputs) (c : Line) (p j : ℕ) (src : Source) → src ≡ Written p →
+solves_by : (N : Schema) (I : Inputs) (c : Line) (p j : ℕ) (src : Source) → src ≡ Written p →
     fed src I (λ r. out N j r (iterate N I j) c) c ≡ out N j p (iterate N I j) c
 solves_by N I c p j src e = rw e refl
 
-pub solves : (N : Network) (I : Inputs) → IsSolved N I
+pub solves : (N : Schema) (I : Inputs) → IsSolved N I
 solves N I c p n m e =
     rw (solves_by N I c p (max n m) (source N c) e)
     (out_grows N n (max n m) p (iterate N I m) (iterate N I (max n m)) c (le-max_left n m)
@@ -163,7 +163,7 @@ fits_all T H step h d [] = let one : (j : ℕ) × IsPrefix (tape_of H d) (tape_o
 fits_all T H step h d (a ∷ rest) =
     join_fits T H step d a rest (fits_one T H h a) (fits_all T H step h d rest)
 
-least_by : (N : Network) (I : Inputs) (T : ℕ → Histories) → IsSolution N I T → (n : ℕ) → ((c : Line) → Below T (iterate N I n) c) →
+least_by : (N : Schema) (I : Inputs) (T : ℕ → Histories) → IsSolution N I T → (n : ℕ) → ((c : Line) → Below T (iterate N I n) c) →
     (c : Line) (src : Source) → source N c ≡ src →
     (j : ℕ) × IsPrefix (fed src I (λ p. out N n p (iterate N I n) c) c) (T j c)
 least_by N I T s n h c Given e = (0, s.begins c e)
@@ -173,13 +173,13 @@ least_by N I T s n h c (Written p) e =
     let there = s.closed c p n all.0 e in
     (there.0, prefix_trans _ _ _ (out_grows N n n p (iterate N I n) (T all.0) c (le_refl n) all.1) there.1)
 
-least_first : (N : Network) (I : Inputs) (T : ℕ → Histories) → IsSolution N I T → (c : Line) (src : Source) → source N c ≡ src →
+least_first : (N : Schema) (I : Inputs) (T : ℕ → Histories) → IsSolution N I T → (c : Line) (src : Source) → source N c ≡ src →
     (j : ℕ) × IsPrefix (fed src I (λ p. []) c) (T j c)
 least_first N I T s c Given e = (0, s.begins c e)
 least_first N I T s c Nobody e = (0, begins_nil _)
 least_first N I T s c (Written p) e = (0, begins_nil _)
 
-pub least : (N : Network) (I : Inputs) (T : ℕ → Histories) → IsSolution N I T → IsBelow N I T
+pub least : (N : Schema) (I : Inputs) (T : ℕ → Histories) → IsSolution N I T → IsBelow N I T
 least N I T s zero c = least_first N I T s c (source N c) refl
 least N I T s (suc n) c = least_by N I T s n (λ d. least N I T s n d) c (source N c) refl
 
@@ -196,14 +196,14 @@ cut_reached : {A : Type 0} (U : Tapes) (n : ℕ) (a b : Reached A) → a ≡ cut
     (a.outcome ≡ Cut) × (a.events ≡ n) × (a.sent ≡ b.sent)
 cut_reached U n a b e f = (ap (λ r. r.outcome) e, ap (λ r. r.events) e ∙ f, ap (λ r. r.sent) e)
 
-stays_of : {A : Type 0} (i : Instance) (H G : Histories) (h : Feeds i H G) (o : ScriptOutcome A) →
+stays_of : {A : Type 0} (i : Node) (H G : Histories) (h : Feeds i H G) (o : ScriptOutcome A) →
     KeepsTape i H G o → Stays (more_of i H G h) o
 stays_of i H G h (Dry q) k = no_more (tapes_of i H q) (h q).0 (sym k ∙ (h q).1)
 stays_of i H G h (Got a) k = tt
 stays_of i H G h (Fault f) k = tt
 stays_of i H G h Cut k = tt
 
-pub frame : (N : Network) → Frame N
+pub frame : (N : Schema) → Frame N
 frame N n p H G x =
     let i = instance_at N p in
     let h : Feeds i H G = feeds i H G x in

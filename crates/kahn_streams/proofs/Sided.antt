@@ -87,7 +87,7 @@ one_instance t names c x d i y num m =
     ∙ all_arguments names c x d i 0 p.parameters.items y.arguments.items num
     ∙ sym (ap (λ o. ends d x (handed_in i 0 (parameters_of o) y.arguments.items)) m.1)
 
-abbrev pub made_of : Program → Scope → List Instance → List N.Instance
+abbrev pub made_of : Program → Scope → List Instance → List N.Node
 made_of t names ys = map (λ y. instance_from names (process_of t.declarations.items (bytes_of y.process)) y.arguments.items) ys
 
 all_instances : (t : Program) (names : Scope) (c : ℕ) (x : List ℕ) (d : Direction) (i : ℕ) (ys : List Instance) → IsNumbered names c x → AllByRecursion (IsMade t) ys →

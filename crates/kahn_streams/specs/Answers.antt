@@ -3,7 +3,7 @@
 use Rattle.std.specs.Prelude.{◌≡◌, ℕ, suc, ◌≤◌, ◌||◌, List, [], ◌∷◌, ◌++◌, length, map, sum_by, Option, Some, slice_get, if◌then◌else◌, ◌==◌, Bool, true, false, None, ◌<◌, ◌↔◌, ◌^◌, string_bytes}
 use Rattle.kahn_streams.specs.{Types.Value, Types.Line, Types.Role, Types.Kind, Types.Program, Types.Config, declared.value.Line.TheVariants.Channel, declared.value.Line.TheVariants.Print, Syntax.prints_in, Script.Dry, Tokens.token_value, Tokens.IsOwn, declared.answer.Answer.Answer, declared.answer.Stream.Stream, declared.answer.End.End, declared.token.Token.Token, declared.answer.Verdict.Verdict, declared.answer.Verdict.TheVariants.Finished, declared.answer.Verdict.TheVariants.Bound, declared.answer.Verdict.TheVariants.Memory, declared.answer.Outcome.Outcome, declared.answer.Outcome.TheVariants.Ended, declared.answer.Outcome.TheVariants.Waits, declared.answer.Outcome.TheVariants.Faulted, declared.answer.Outcome.TheVariants.More, Inputs.inputs_of, Inputs.Lists, declared.fault.RunFault.RunFault}
 use Rattle.kahn_streams.specs.Solution as net
-use Rattle.kahn_streams.specs.Network.{Network, Instance, Reads, instance_at, actual_at, Given, Written, network_of, channel_names}
+use Rattle.kahn_streams.specs.Network.{Schema, Node, Reads, instance_at, actual_at, Given, Written, network_of, channel_names}
 use Rattle.kahn_streams.specs.Solution.{Histories, Inputs, exec_at, out, source, input_list, iterate, IsPrefix, Stands, IsWhole, HasEnd, ending, HasSize, IsExtended}
 use Rattle.kahn_streams.specs.declared.tree.Role.TheVariants as role
 use Rattle.kahn_streams.specs.declared.fault.RunFault.TheVariants as fault
@@ -27,11 +27,11 @@ channel_lines watch (r ∷ rest) c =
     if is_output r.1 || is_watched watch c then Channel c ∷ channel_lines watch rest (suc c) else channel_lines watch rest (suc c)
 
 -- the print streams of the instances from p on
-abbrev pub print_lines : List Instance → ℕ → List Line
+abbrev pub print_lines : List Node → ℕ → List Line
 print_lines [] p = []
 print_lines (i ∷ rest) p = if prints_in i.body then Print p ∷ print_lines rest (suc p) else print_lines rest (suc p)
 
-abbrev pub stream_lines : Network → Option ℕ → List Line
+abbrev pub stream_lines : Schema → Option ℕ → List Line
 stream_lines N watch = channel_lines watch N.channels 0 ++ print_lines N.instances 0
 
 -- ---- parts of an answer
@@ -55,24 +55,24 @@ HasEndAt a p x = slice_get a.ends.items p ≡ Some x
 -- ---- where an instance stands
 
 -- on T instance p is dry at its parameter on c after e events
-abbrev pub IsDryOn : Network → Histories → ℕ → ℕ → ℕ → Type 0
+abbrev pub IsDryOn : Schema → Histories → ℕ → ℕ → ℕ → Type 0
 IsDryOn N T p e c =
     (q : ℕ) × (actual_at (instance_at N p) q ≡ Reads c) × ((exec_at N e p T).outcome ≡ Dry q) × ((exec_at N e p T).events ≡ e)
 
 -- if memory was refused, values may be left that their reader didn't come to
-abbrev pub IsWaiting : Verdict → Network → Histories → ℕ → ℕ → ℕ → Type 0
+abbrev pub IsWaiting : Verdict → Schema → Histories → ℕ → ℕ → ℕ → Type 0
 IsWaiting Finished N A p e c = IsDryOn N A p e c
 IsWaiting Bound N A p e c = IsDryOn N A p e c
 IsWaiting Memory N A p e c = (T : Histories) × IsExtended T A × IsDryOn N T p e c
 
-abbrev pub IsOutcome : Verdict → Network → Histories → ℕ → ℕ → Outcome → Type 0
+abbrev pub IsOutcome : Verdict → Schema → Histories → ℕ → ℕ → Outcome → Type 0
 IsOutcome v N A p e Ended = ending (exec_at N e p A).outcome ≡ Some net.Ended
 IsOutcome v N A p e (Faulted k) = ending (exec_at N e p A).outcome ≡ Some (net.Faulted k)
 IsOutcome v N A p e (Waits c) = IsWaiting v N A p e c
 IsOutcome v N A p e More = (exec_at N (suc e) p A).events ≡ suc e
 
 -- the end of p in the solution
-abbrev pub IsEnd : Network → Inputs → ℕ → Outcome → ℕ → Type 0
+abbrev pub IsEnd : Schema → Inputs → ℕ → Outcome → ℕ → Type 0
 IsEnd N I p Ended e = HasEnd N I p net.Ended e
 IsEnd N I p (Faulted k) e = HasEnd N I p (net.Faulted k) e
 IsEnd N I p (Waits c) e = (q : ℕ) × (actual_at (instance_at N p) q ≡ Reads c) × HasEnd N I p (net.Waiting q) e
@@ -81,7 +81,7 @@ IsEnd N I p More e = ⊥
 -- ---- the right answer
 
 -- a verdict, the ends and the sum of the events that are right, whatever is said of streams
-pub record AreRight (N : Network) (I : Inputs) (bound : ℕ) (v : Verdict) (ends : List End) (events : ℕ) : Type 0 where
+pub record AreRight (N : Schema) (I : Inputs) (bound : ℕ) (v : Verdict) (ends : List End) (events : ℕ) : Type 0 where
   -- there are tapes, the input lists on the input channels and else prefixes of some iterate, such that each instance
   -- does its events on them and sends them on each line that it writes
   pub tapes : Histories
@@ -100,7 +100,7 @@ pub record AreRight (N : Network) (I : Inputs) (bound : ℕ) (v : Verdict) (ends
   -- if the bound stopped it, it is used up and some instance has a next event
   pub bounded : v ≡ Bound → (events ≡ bound) × ((p : ℕ) × (x : End) × (slice_get ends p ≡ Some x) × (x.outcome ≡ More))
 
-pub record IsRight (N : Network) (I : Inputs) (bound : ℕ) (watch : Option ℕ) (a : Answer) : Type 0 where
+pub record IsRight (N : Schema) (I : Inputs) (bound : ℕ) (watch : Option ℕ) (a : Answer) : Type 0 where
   pub run : AreRight N I bound a.verdict a.ends.items a.events
   -- its streams are those that are named; the token at index k of the stream of line c has line c, place k, and a value that stands there
   pub named : map stream_line a.streams.items ≡ stream_lines N watch
@@ -122,11 +122,11 @@ pub record AreOne (a b : Answer) : Type 0 where
 -- ---- when it has finished
 
 -- the size of the solution is a number, and at most the bound
-abbrev pub IsWithinBound : Network → Inputs → ℕ → Type 0
+abbrev pub IsWithinBound : Schema → Inputs → ℕ → Type 0
 IsWithinBound N I bound = (size : ℕ) × HasSize N I size × (size ≤ bound)
 
 -- unless memory was refused, the verdict is that it finished exactly if the solution is within the bound
-abbrev pub Settles : Network → Inputs → ℕ → Verdict → Type 0
+abbrev pub Settles : Schema → Inputs → ℕ → Verdict → Type 0
 Settles N I bound v = (v ≡ Memory → ⊥) → ((v ≡ Finished) ↔ IsWithinBound N I bound)
 
 -- if refused memory stopped it, the bound isn't used up and some instance has a next event: only memory was lacking
@@ -134,7 +134,7 @@ abbrev pub IsCutShort : ℕ → Answer → Type 0
 IsCutShort bound a = a.verdict ≡ Memory → (a.events < bound) × ((p : ℕ) × (x : End) × HasEndAt a p x × (x.outcome ≡ More))
 
 -- each stream begins the history of its line
-abbrev pub AreBegun : Network → Inputs → Answer → Type 0
+abbrev pub AreBegun : Schema → Inputs → Answer → Type 0
 AreBegun N I a = (s : Stream) → HasStream a s → (n : ℕ) × IsPrefix (values_of s) (iterate N I n s.line)
 
 -- ---- what is asked for

@@ -1,6 +1,6 @@
 -- Believed. The definitions at work on small networks. Each statement holds by computation.
 use Rattle.std.specs.Prelude.{◌≡◌, true, ℕ, zero, suc, [], ◌∷◌, pos, Some, None}
-use Rattle.kahn_streams.specs.{declared.value.Value.TheVariants.Integer, declared.value.Failure.TheVariants.Overflow, declared.value.Line.TheVariants.Channel, declared.value.Line.TheVariants.Print, declared.tree.Role.TheVariants.Inner, declared.tree.Role.TheVariants.Input, declared.tree.Role.TheVariants.Output, Sample.no_input, Sample.g_body, Sample.h_of, Network.Network, Network.Reads, Network.Writes, Network.Hands, Solution.Inputs, Solution.iterate, Solution.exec_at, Solution.ending, Solution.Ended, Solution.Waiting, Solution.Faulted}
+use Rattle.kahn_streams.specs.{declared.value.Value.TheVariants.Integer, declared.value.Failure.TheVariants.Overflow, declared.value.Line.TheVariants.Channel, declared.value.Line.TheVariants.Print, declared.tree.Role.TheVariants.Inner, declared.tree.Role.TheVariants.Input, declared.tree.Role.TheVariants.Output, Sample.no_input, Sample.g_body, Sample.h_of, Network.Schema, Network.Reads, Network.Writes, Network.Hands, Solution.Inputs, Solution.iterate, Solution.exec_at, Solution.ending, Solution.Ended, Solution.Waiting, Solution.Faulted}
 use Rattle.kahn_streams.specs.declared.tree.Kind.TheVariants as KindOf
 use Rattle.kahn_streams.specs.declared.tree.Operator.TheVariants as Op
 use Rattle.kahn_streams.specs.Syntax as S
@@ -15,7 +15,7 @@ count_body =
     (S.Binary Op.Less (S.Variable 2) (S.Variable 1))
     (S.Seq (S.Send (S.Variable 2) 0) (S.Assign 2 (S.Binary Op.Add (S.Variable 2) (number_literal 1))))
 
-abbrev pub counting : Network
+abbrev pub counting : Schema
 counting = record {
   channels = (KindOf.Integer, Output) ∷ [];
   instances = record { actuals = Writes 0 ∷ Hands (S.Number (pos 3)) ∷ []; variables = KindOf.Integer ∷ []; body = count_body } ∷ [];
@@ -26,7 +26,7 @@ counting = record {
 abbrev pub doubling : S.Expr → S.Stmt
 doubling e = S.Repeat (S.Send e 1)
 
-abbrev pub doubling_network : Network
+abbrev pub doubling_network : Schema
 doubling_network = record {
   channels = (KindOf.Integer, Input) ∷ ((KindOf.Integer, Output) ∷ []);
   instances = record { actuals = Reads 0 ∷ (Writes 1 ∷ []); variables = []; body = doubling (S.Binary Op.Multiply (number_literal 2) (S.Wait 0)) } ∷ [];
@@ -36,7 +36,7 @@ abbrev pub one_two_three : Inputs
 one_two_three c = Integer (pos 1) ∷ (Integer (pos 2) ∷ (Integer (pos 3) ∷ []))
 
 -- the greatest number plus 0, and then plus 1, which overflows
-abbrev pub overflowing : Network
+abbrev pub overflowing : Schema
 overflowing = record {
   channels = (KindOf.Integer, Input) ∷ ((KindOf.Integer, Output) ∷ []);
   instances = record { actuals = Reads 0 ∷ (Writes 1 ∷ []); variables = []; body = doubling (S.Binary Op.Add (number_literal 9223372036854775807) (S.Wait 0)) } ∷ [];
@@ -49,7 +49,7 @@ zero_one c = Integer (pos 0) ∷ (Integer (pos 1) ∷ [])
 abbrev pub copy_once : S.Stmt
 copy_once = S.Seq (S.Assign 2 (S.Wait 0)) (S.Send (S.Variable 2) 1)
 
-abbrev pub ring : Network
+abbrev pub ring : Schema
 ring = record {
   channels = (KindOf.Integer, Inner) ∷ ((KindOf.Integer, Inner) ∷ []);
   instances = record { actuals = Reads 0 ∷ (Writes 1 ∷ []); variables = KindOf.Integer ∷ []; body = copy_once } ∷
@@ -57,7 +57,7 @@ ring = record {
 }
 
 -- a channel from a process to itself
-abbrev pub own_channel : Network
+abbrev pub own_channel : Schema
 own_channel = record {
   channels = (KindOf.Integer, Inner) ∷ [];
   instances = record {
@@ -68,7 +68,7 @@ own_channel = record {
 }
 
 -- two channels in turn: the second A stays unread
-abbrev pub alternating : Network
+abbrev pub alternating : Schema
 alternating = record {
   channels = (KindOf.Integer, Input) ∷ ((KindOf.Integer, Input) ∷ []);
   instances = record {
@@ -83,7 +83,7 @@ many_and_nine zero = Integer (pos 1) ∷ (Integer (pos 2) ∷ (Integer (pos 3) �
 many_and_nine (suc c) = Integer (pos 9) ∷ []
 
 -- a silent loop is cut after each number of events
-abbrev pub silent : Network
+abbrev pub silent : Schema
 silent = record { channels = []; instances = record { actuals = []; variables = []; body = S.Repeat S.Skip } ∷ [] }
 
 -- the sample network with f limited to four turns
@@ -101,7 +101,7 @@ f_limited =
     (S.Send (S.Variable 3) 2)
     (S.Seq (S.Assign 5 (S.Not (S.Variable 5))) (S.Assign 4 (S.Binary Op.Add (S.Variable 4) (number_literal 1))))))))
 
-abbrev pub limited_sample : Network
+abbrev pub limited_sample : Schema
 limited_sample = record {
   channels = (KindOf.Integer, Inner) ∷ (KindOf.Integer, Inner) ∷ (KindOf.Integer, Inner) ∷ (KindOf.Integer, Inner) ∷ (KindOf.Integer, Inner) ∷ [];
   instances =

@@ -2,7 +2,7 @@
 -- names of channels, each with the values that it is fed. Which entries are refused, and which list a channel gets, are this
 -- project's profile.
 use Rattle.std.specs.Prelude.{ℕ, List, [], slice_index_or, ◌≡◌, ◌≢◌, length, ◌⊎◌, ◌+◌, ◌<◌, ◌≤◌, ◌==◌, Bool, true, false, ◌∷◌, take, Some, slice_get, string_bytes, if◌then◌else◌}
-use Rattle.kahn_streams.specs.{Types.Program, Types.Value, Types.Line, Types.Kind, Types.InputFault, Network.network_of, Network.Network, Network.kind_at, Network.role_at, Network.channel_names, Solution.Inputs, Solution.Stands, declared.tree.Role.TheVariants.Input, declared.value.Value.TheVariants.Integer, declared.value.Value.TheVariants.Logical, View.place_of, declared.entries.InputFault.TheVariants.UnknownName, declared.entries.InputFault.TheVariants.NotAnInput, declared.entries.InputFault.TheVariants.GivenTwice, declared.entries.InputFault.TheVariants.WrongKind, declared.entries.InputFault.TheVariants.TooMany, declared.entries.InputFault.TheVariants.NoMemory}
+use Rattle.kahn_streams.specs.{Types.Program, Types.Value, Types.Line, Types.Kind, Types.InputFault, Network.network_of, Network.Schema, Network.kind_at, Network.role_at, Network.channel_names, Solution.Inputs, Solution.Stands, declared.tree.Role.TheVariants.Input, declared.value.Value.TheVariants.Integer, declared.value.Value.TheVariants.Logical, View.place_of, declared.entries.InputFault.TheVariants.UnknownName, declared.entries.InputFault.TheVariants.NotAnInput, declared.entries.InputFault.TheVariants.GivenTwice, declared.entries.InputFault.TheVariants.WrongKind, declared.entries.InputFault.TheVariants.TooMany, declared.entries.InputFault.TheVariants.NoMemory}
 use Rattle.std.specs.{List.AllByRecursion, declared.string.String.String, declared.vec.Vec.Vec, declared.alloc.Global.Global}
 use Rattle.kahn_streams.specs.declared.tree.Kind.TheVariants as KindOf
 
@@ -23,12 +23,12 @@ abbrev pub AreOfKind : Kind → List Value → Type 0
 AreOfKind k vs = AllByRecursion (λ v. kind_of_value v ≡ k) vs
 
 -- what an input may have for channel c: an input channel has values of its kind, any other channel has none
-pub record IsListFor (N : Network) (c : ℕ) (vs : List Value) : Type 0 where
+pub record IsListFor (N : Schema) (c : ℕ) (vs : List Value) : Type 0 where
   pub kinded : role_at N c ≡ Input → AreOfKind (kind_at N c) vs
   pub bare : role_at N c ≢ Input → vs ≡ []
 
 -- the lists are those of an input for channels of these roles and kinds
-pub record IsInputFor (N : Network) (lists : Lists) : Type 0 where
+pub record IsInputFor (N : Schema) (lists : Lists) : Type 0 where
   pub count : length lists ≡ length N.channels
   pub lists_fit : (c : ℕ) → IsListFor N c (inputs_of lists c)
 

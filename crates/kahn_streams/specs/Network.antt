@@ -1,4 +1,4 @@
--- Believed. A network as contracts see it: its channels, and its instances with what is handed to each parameter; who writes
+-- Believed. A network as contracts see it, a parallel program schema (section 3 of Kahn's paper): its channels, and its instances with what is handed to each parameter; who writes
 -- and who reads a channel, by numbers. The main program of Kahn's paper (section 2) composes instances of processes by channels;
 -- the kinds, roles and value arguments are this project's profile.
 use Rattle.std.specs.Prelude.{ℕ, suc, List, [], ◌∷◌, ◌++◌, map, Option, Some, None, pos, Bool, true, false, ◌==◌, if◌then◌else◌, slice_index_or, ◌≡◌, ◌<◌, length}
@@ -19,29 +19,29 @@ pub data Actual : Type 0 where
   Hands : S.Constant → Actual
 
 -- an instance: the actuals of its parameters, the kinds of its variables, and its body
-pub record Instance : Type 0 where
+pub record Node : Type 0 where
   pub actuals : List Actual
   pub variables : List Kind
   pub body : Stmt
 
 -- a network: each channel's kind and role, and the instances
-pub record Network : Type 0 where
+pub record Schema : Type 0 where
   pub channels : List (Kind × Role)
-  pub instances : List Instance
+  pub instances : List Node
 
-abbrev pub idle : Instance
+abbrev pub idle : Node
 idle = record { actuals = []; variables = []; body = Stmt.Skip }
 
-abbrev pub instance_at : Network → ℕ → Instance
+abbrev pub instance_at : Schema → ℕ → Node
 instance_at N p = slice_index_or N.instances p idle
 
-abbrev pub actual_at : Instance → ℕ → Actual
+abbrev pub actual_at : Node → ℕ → Actual
 actual_at i q = slice_index_or i.actuals q (Hands (S.Number (pos 0)))
 
-abbrev pub kind_at : Network → ℕ → Kind
+abbrev pub kind_at : Schema → ℕ → Kind
 kind_at N c = (slice_index_or N.channels c (KindOf.Integer, Inner)).0
 
-abbrev pub role_at : Network → ℕ → Role
+abbrev pub role_at : Schema → ℕ → Role
 role_at N c = (slice_index_or N.channels c (KindOf.Integer, Inner)).1
 
 -- ---- who writes a channel
@@ -61,7 +61,7 @@ abbrev pub any_written : List Actual → ℕ → Bool
 any_written [] c = false
 any_written (a ∷ rest) c = if is_written a c then true else any_written rest c
 
-abbrev pub first_writer : List Instance → ℕ → ℕ → Source
+abbrev pub first_writer : List Node → ℕ → ℕ → Source
 first_writer [] p c = Nobody
 first_writer (i ∷ rest) p c = if any_written i.actuals c then Written p else first_writer rest (suc p) c
 
@@ -70,7 +70,7 @@ source_by Input s = Given
 source_by Inner s = s
 source_by Output s = s
 
-abbrev pub channel_source : Network → ℕ → Source
+abbrev pub channel_source : Schema → ℕ → Source
 channel_source N c = source_by (role_at N c) (first_writer N.instances 0 c)
 
 -- ---- the network of a program
@@ -100,7 +100,7 @@ actuals_of channels [] xs = []
 actuals_of channels (q ∷ qs) [] = []
 actuals_of channels (q ∷ qs) (x ∷ xs) = actual_of channels q.taking x ∷ actuals_of channels qs xs
 
-abbrev pub instance_from : Scope → Option Process → List Argument → Instance
+abbrev pub instance_from : Scope → Option Process → List Argument → Node
 instance_from channels None xs = idle
 instance_from channels (Some p) xs = record {
   actuals = actuals_of channels p.parameters.items xs;
@@ -108,7 +108,7 @@ instance_from channels (Some p) xs = record {
   body = body_of (names_of p) p.statements.items;
 }
 
-abbrev pub network_of : Program → Network
+abbrev pub network_of : Program → Schema
 network_of t =
     let channels = channels_of t.declarations.items in
     record {
@@ -117,19 +117,19 @@ network_of t =
     }
 
 -- the network has that instance, and the instance that parameter
-abbrev pub IsWithin : Network → Side → Type 0
+abbrev pub IsWithin : Schema → Side → Type 0
 IsWithin n s = (s.instance < length n.instances) × (s.parameter < length (instance_at n s.instance).actuals)
 
 -- what is handed to that parameter
-abbrev pub handed_at : Network → Side → Actual
+abbrev pub handed_at : Schema → Side → Actual
 handed_at n s = actual_at (instance_at n s.instance) s.parameter
 
 -- channel c is handed to that parameter, to be written
-abbrev pub IsWriter : Network → ℕ → Side → Type 0
+abbrev pub IsWriter : Schema → ℕ → Side → Type 0
 IsWriter n c s = IsWithin n s × (handed_at n s ≡ Writes c)
 
 -- channel c is handed to that parameter, to be read
-abbrev pub IsReader : Network → ℕ → Side → Type 0
+abbrev pub IsReader : Schema → ℕ → Side → Type 0
 IsReader n c s = IsWithin n s × (handed_at n s ≡ Reads c)
 
 -- that one and no other; or nobody
@@ -147,17 +147,17 @@ abbrev pub channel_names : Program → Scope
 channel_names t = map (λ c. c.0) (channels_of t.declarations.items)
 
 -- what the parameter takes to which this is handed
-abbrev pub taking_of : Network → Actual → Taking
+abbrev pub taking_of : Schema → Actual → Taking
 taking_of n (Reads c) = T.Channel In (kind_at n c)
 taking_of n (Writes c) = T.Channel Out (kind_at n c)
 taking_of n (Hands v) = T.Value (constant_kind v)
 
 -- what each name of an instance stands for, its parameters first and then its variables
-abbrev pub takings_of : Network → Instance → List Taking
+abbrev pub takings_of : Schema → Node → List Taking
 takings_of n i = map (taking_of n) i.actuals ++ map (λ k. T.Value k) i.variables
 
 -- the channel that is handed over is one of the network's
-abbrev pub IsListed : Network → Actual → Type 0
+abbrev pub IsListed : Schema → Actual → Type 0
 IsListed n (Reads c) = c < length n.channels
 IsListed n (Writes c) = c < length n.channels
 IsListed n (Hands v) = Unit {0}
@@ -170,11 +170,11 @@ abbrev pub HasNone : (Side → Type 0) → Type 0
 HasNone P = IsOnly P None
 
 -- a channel of that role has one writer and one reader, but for an input no writer and for an output no reader
-abbrev pub IsServed : Network → ℕ → Role → Type 0
+abbrev pub IsServed : Schema → ℕ → Role → Type 0
 IsServed n c Inner = HasOne (IsWriter n c) × HasOne (IsReader n c)
 IsServed n c Input = HasNone (IsWriter n c) × HasOne (IsReader n c)
 IsServed n c Output = HasOne (IsWriter n c) × HasNone (IsReader n c)
 
 -- each name of the instance is used as what it stands for, and each channel handed to it is one of the network's
-abbrev pub IsFit : Network → Instance → Type 0
+abbrev pub IsFit : Schema → Node → Type 0
 IsFit n i = Agrees (takings_of n i) i.body × AllByRecursion (IsListed n) i.actuals

@@ -1,7 +1,7 @@
 -- Believed. The network of the sample text as its text gives it, statement for statement and the empty ones too: its history on X is
 -- 0 1 0 1 and so on.
 use Rattle.std.specs.Prelude.{ℕ, [], ◌∷◌, pos, ◌%◌, ◌↔◌, ◌≡◌, true}
-use Rattle.kahn_streams.specs.{Types.Value, declared.value.Value.TheVariants.Integer, declared.value.Line.TheVariants.Channel, declared.tree.Role.TheVariants.Inner, Network.Network, Network.Instance, Network.Reads, Network.Writes, Network.Hands, Solution.Inputs, Solution.Stands}
+use Rattle.kahn_streams.specs.{Types.Value, declared.value.Value.TheVariants.Integer, declared.value.Line.TheVariants.Channel, declared.tree.Role.TheVariants.Inner, Network.Schema, Network.Node, Network.Reads, Network.Writes, Network.Hands, Solution.Inputs, Solution.Stands}
 use Rattle.kahn_streams.specs.declared.tree.Kind.TheVariants as KindOf
 use Rattle.kahn_streams.specs.Syntax as S
 
@@ -39,11 +39,11 @@ h_turn = S.Seq (S.Assign 3 (S.Wait 0)) (S.Seq (S.Send (S.Variable 3) 1) nothing_
 abbrev pub h_body : S.Stmt
 h_body = S.Seq (S.Send (S.Variable 2) 1) (S.Seq (S.Repeat h_turn) nothing_more)
 
-abbrev pub h_of : ℕ → ℕ → ℕ → Instance
+abbrev pub h_of : ℕ → ℕ → ℕ → Node
 h_of from to first = record { actuals = Reads from ∷ (Writes to ∷ (Hands (S.Number (pos first)) ∷ [])); variables = KindOf.Integer ∷ []; body = h_body }
 
 -- channels X, Y, Z, T1, T2 and f(Y, Z, X) par g(X, T1, T2) par h(T1, Y, 0) par h(T2, Z, 1)
-abbrev pub sample_network : Network
+abbrev pub sample_network : Schema
 sample_network = record {
   channels = (KindOf.Integer, Inner) ∷ ((KindOf.Integer, Inner) ∷ ((KindOf.Integer, Inner) ∷ ((KindOf.Integer, Inner) ∷ ((KindOf.Integer, Inner) ∷ []))));
   instances =

@@ -1,14 +1,14 @@
 -- Believed. What contracts say of tokens and of lists of them. A token is a value with its place on its line (this project's profile);
 -- that its value stands there in the least solution is what its type keeps.
-use Rattle.std.specs.Prelude.{ℕ, List, [], ◌≡◌, suc, ◌∷◌, Some, slice_get}
-use Rattle.kahn_streams.specs.{Types.Program, Types.Value, Types.Line, Network.network_of, Network.Network, Solution.Inputs, Solution.AreInputsExtended, declared.token.Token.Token, Inputs.Holds, Inputs.Lists, Inputs.inputs_of}
+use Rattle.std.specs.Prelude.{ℕ, List, [], ◌≡◌, suc, ◌∷◌}
+use Rattle.kahn_streams.specs.{Types.Program, Types.Value, Types.Line, Network.network_of, Network.Schema, Solution.Inputs, Solution.AreInputsExtended, declared.token.Token.Token, Inputs.Lists, Inputs.inputs_of}
 
 -- the value alone
 abbrev pub token_value : Token → Value
 token_value t = t.value
 
 -- the token is of this network, and of an input whose lists begin those of this one
-abbrev pub IsOwn : Network → Inputs → Token → Type 0
+abbrev pub IsOwn : Schema → Inputs → Token → Type 0
 IsOwn N I t = (network_of t.network.value ≡ N) × AreInputsExtended (inputs_of t.input.value) I
 
 -- the token is of this network and this input
@@ -24,8 +24,3 @@ Follow line from (t ∷ ts) = (t.line ≡ line) × (t.place ≡ from) × Follow 
 abbrev pub AllOf : Program → Lists → List Token → Type 0
 AllOf network input [] = Unit {0}
 AllOf network input (t ∷ ts) = IsOf network input t × AllOf network input ts
-
--- the stream of a line: the token at each index stands on the line, at that place, in the solution
-abbrev pub IsRightStream : Program → Lists → Line → List Token → Type 0
-IsRightStream network input line ts =
-    (k : ℕ) (t : Token) → slice_get ts k ≡ Some t → (t.line ≡ line) × (t.place ≡ k) × Holds network input line k t.value

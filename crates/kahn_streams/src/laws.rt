@@ -2,33 +2,33 @@
 
 ghost use Rattle.kahn_streams.specs.{Compose.ExpressionsCompose, Compose.StatementsCompose, Compose.LoopsUnroll, Examples.Counting, Examples.Doubling, Examples.Overflowing, Examples.Ring, Examples.OwnChannel, Examples.Alternating, Examples.Silent, Examples.LimitedSample, Inputs.IsInputFor, Inputs.Lists, Inputs.inputs_of, Meaning.Store, Wiring.IsWellWired, Solution.Inputs, Solution.Histories, Solution.Ending, Solution.Stands, Sample.Sample, Script.Script, Script.Tapes, Script.play, Steps.Step, Steps.Follows, Steps.RanBy, Steps.Replays, Syntax.Expr, Syntax.Stmt, declared.tree.Program.Program, declared.value.Line.Line, declared.value.Value.Value, declared.tree.Role.TheVariants.Input, inner.Sources.IsFed, inner.Sources.IsSentBy, inner.Sources.OutputsHaveSenders};
 ghost use Rattle.kahn_streams.specs.Laws.{AreIteratesKinded, IsChain, HasOneValue, IsSolved, IsSolution, IsBelow, Frame, IsQuiet, IsSettled, SendsStand, InputsGrow, RunsDryAtReads, IsCounted, IsUnrolled, SaysSoAgain, IsDetermined};
-ghost use Rattle.kahn_streams.specs.Network.{Network, network_of, Given, Reads, Writes, actual_at, channel_source, instance_at, role_at, IsServed, IsFit};
+ghost use Rattle.kahn_streams.specs.Network.{Schema, network_of, Given, Reads, Writes, actual_at, channel_source, instance_at, role_at, IsServed, IsFit};
 ghost use Rattle.std.specs.Prelude.{ℕ, List, ◌≡◌, ◌<◌, length};
 ghost use Rattle.std.specs.List.{AllByRecursion};
 
 /// Each iterate is a prefix of the next.
 pub fn chain()
-    ensures { (N : Network) (I : Inputs) → IsChain N I }
+    ensures { (N : Schema) (I : Inputs) → IsChain N I }
 {}
 
 /// At most one value stands at a place.
 pub fn one_value()
-    ensures { (N : Network) (I : Inputs) → HasOneValue N I }
+    ensures { (N : Schema) (I : Inputs) → HasOneValue N I }
 {}
 
 /// The limit of the iterates is a solution.
 pub fn solves()
-    ensures { (N : Network) (I : Inputs) → IsSolved N I }
+    ensures { (N : Schema) (I : Inputs) → IsSolved N I }
 {}
 
 /// The limit of the iterates is below any solution, an infinite one too.
 pub fn least()
-    ensures { (N : Network) (I : Inputs) (T : ℕ → Histories) → IsSolution N I T → IsBelow N I T }
+    ensures { (N : Schema) (I : Inputs) (T : ℕ → Histories) → IsSolution N I T → IsBelow N I T }
 {}
 
 /// Values past what was taken don't matter.
 pub fn frame()
-    ensures { (N : Network) → Frame N }
+    ensures { (N : Schema) → Frame N }
 {}
 
 /// The value at place k of X in the sample network is k mod 2.
@@ -38,17 +38,17 @@ pub fn sample()
 
 /// Quiet histories are the whole solution, with its ends.
 pub fn settles()
-    ensures { (N : Network) (I : Inputs) (A : Histories) (o : ℕ → Ending) (e : ℕ → ℕ) → IsQuiet N I A o e → IsSettled N I A o e }
+    ensures { (N : Schema) (I : Inputs) (A : Histories) (o : ℕ → Ending) (e : ℕ → ℕ) → IsQuiet N I A o e → IsSettled N I A o e }
 {}
 
 /// What a process sends on tapes that begin the solution stands in the solution.
 pub fn sends_stand()
-    ensures { (N : Network) (I : Inputs) → SendsStand N I }
+    ensures { (N : Schema) (I : Inputs) → SendsStand N I }
 {}
 
 /// Longer inputs give longer iterates.
 pub fn grows()
-    ensures { (N : Network) → InputsGrow N }
+    ensures { (N : Schema) → InputsGrow N }
 {}
 
 /// With just the events done and the values taken, all is taken and the same is sent.
@@ -72,19 +72,19 @@ pub fn composes()
 /// At most n events are done, and exactly n if the outcome is cut; if it isn't, more events change nothing. How far loops are unrolled
 /// makes no difference.
 pub fn counts()
-    ensures counted { (N : Network) (n p : ℕ) (H : Histories) → IsCounted N n p H }
+    ensures counted { (N : Schema) (n p : ℕ) (H : Histories) → IsCounted N n p H }
     ensures unrolled { (b : Stmt) → IsUnrolled b }
     ensures again { (b : Stmt) → SaysSoAgain b }
 {}
 
 /// The whole of a line, the end of a process and the size of the solution are determined.
 pub fn determined()
-    ensures { (N : Network) (I : Inputs) → IsDetermined N I }
+    ensures { (N : Schema) (I : Inputs) → IsDetermined N I }
 {}
 
 /// If a value is known to stand in the solution, some iterate has it.
 pub fn found()
-    ensures { (N : Network) (I : Inputs) (c : Line) (k : ℕ) (v : Value) → ∥ (Stands N I c k v) ∥₁ → Stands N I c k v }
+    ensures { (N : Schema) (I : Inputs) (c : Line) (k : ℕ) (v : Value) → ∥ (Stands N I c k v) ∥₁ → Stands N I c k v }
 {}
 
 /// Every value of an iterate on a channel has the channel's kind, if the program is well wired and the input fits it.

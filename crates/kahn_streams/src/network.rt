@@ -1,7 +1,7 @@
 //! A checked network.
 
 ghost use Rattle.std.specs.Prelude.{◌≡◌, ◌<◌, Some, length, slice_get, slice_index_or, ℕ};
-ghost use Rattle.kahn_streams.specs.{View.bytes_of, Made.IsMadeOf, Wires.IsKept, Wires.process_at, Wiring.IsWellWired};
+ghost use Rattle.kahn_streams.specs.{View.bytes_of, Made.IsMadeOf, Wires.IsKept, Wires.process_at, Wiring.IsWellWired, inner.Sources.IsWire};
 ghost use Rattle.kahn_streams.specs.Network.{network_of, instance_at, instance_from, kind_at, role_at, channel_source, process_of, IsOnly, IsWriter, IsReader, source_of, channel_names};
 
 use crate::sides::Side;
@@ -90,6 +90,14 @@ impl Network {
         self.program.instances.len()
     }
 
+    /// Returns the wire of the channel with that number.
+    fn wire(&self, channel: usize) -> &Wire
+        requires { channel < length (network_of self.now).channels }
+        ensures { IsWire self.now channel result.now }
+    {
+        &self.wires[channel]
+    }
+
     /// Returns the channel with that number, counted from 0 in order of declaration.
     pub fn channel(&self, channel: usize) -> Channel<'_>
         requires { channel < length (network_of self.now).channels }
@@ -97,7 +105,7 @@ impl Network {
         ensures kind { result.kind ≡ kind_at (network_of self.now) channel }
         ensures role { result.role ≡ role_at (network_of self.now) channel }
     {
-        let wire = &self.wires[channel];
+        let wire = self.wire(channel);
         Channel {
             name: wire.name.as_str(),
             kind: wire.kind,
@@ -111,7 +119,7 @@ impl Network {
         ensures only { IsOnly (IsWriter (network_of self.now) channel) result }
         ensures source { channel_source (network_of self.now) channel ≡ source_of result }
     {
-        self.wires[channel].writer
+        self.wire(channel).writer
     }
 
     /// Returns the reader of the channel with that number; None if it is an output.
@@ -119,7 +127,7 @@ impl Network {
         requires { channel < length (network_of self.now).channels }
         ensures only { IsOnly (IsReader (network_of self.now) channel) result }
     {
-        self.wires[channel].reader
+        self.wire(channel).reader
     }
 
     /// Returns the instance with that number, counted from 0 in text order.

@@ -1,5 +1,5 @@
 -- The streams of a right answer are of lines of the network: what `work` shows for `write_report`.
-use Rattle.kahn_texts.proofs.Common.{◌≡◌, ◌+◌, ◌≤◌, ◌||◌, ℕ, zero, suc, Bool, true, false, if◌then◌else◌, Option, List, [], ◌∷◌, ◌++◌, length, map, All, arith, subst, sym, length-map, AllByRecursion, Program, Line, Instance, network_of, channels_of, Stream, channel_count, instance_count, IsLine, HasItsLines}
+use Rattle.kahn_texts.proofs.Common.{◌≡◌, ◌+◌, ◌≤◌, ◌||◌, ℕ, zero, suc, Bool, true, false, if◌then◌else◌, Option, List, [], ◌∷◌, ◌++◌, length, map, All, arith, subst, sym, length-map, AllByRecursion, Program, Line, Node, network_of, channels_of, Stream, channel_count, instance_count, IsLine, HasItsLines}
 use Rattle.kahn_streams.specs.{declared.tree.Kind.Kind, declared.tree.Role.Role, Syntax.prints_in, declared.value.Line.TheVariants.Channel, declared.value.Line.TheVariants.Print, declared.answer.Answer.Answer, Answers.is_output, Answers.is_watched, Answers.channel_lines, Answers.print_lines, Answers.stream_lines, Answers.stream_line}
 
 each_if : (P : Line → Type 0) (b : Bool) (x : Line) (r : List Line) → P x → AllByRecursion P r → AllByRecursion P (if b then x ∷ r else r)
@@ -15,7 +15,7 @@ each_channel t watch [] c below = tt
 each_channel t watch (r ∷ rest) c below =
     each_if (IsLine t) (is_output r.1 || is_watched watch c) (Channel c) (channel_lines watch rest (suc c)) (omega (arith, below)) (each_channel t watch rest (suc c) (omega (arith, below)))
 
-each_print : (t : Program) (is : List Instance) (p : ℕ) → p + length is ≤ instance_count t → AllByRecursion (IsLine t) (print_lines is p)
+each_print : (t : Program) (is : List Node) (p : ℕ) → p + length is ≤ instance_count t → AllByRecursion (IsLine t) (print_lines is p)
 each_print t [] p below = tt
 each_print t (i ∷ rest) p below =
     each_if (IsLine t) (prints_in i.body) (Print p) (print_lines rest (suc p)) (omega (arith, below)) (each_print t rest (suc p) (omega (arith, below)))
@@ -30,7 +30,7 @@ pub streamed_lines : (t : Program) (watch : Option ℕ) → AllByRecursion (IsLi
 streamed_lines t watch =
     let N = network_of t in
     let all_channels : length N.channels ≡ channel_count t = length-map {B = Kind × Role} (channels_of t.declarations.items) (λ c. c.1) in
-    let all_instances : length N.instances ≡ instance_count t = length-map {B = Instance} t.instances.items _ in
+    let all_instances : length N.instances ≡ instance_count t = length-map {B = Node} t.instances.items _ in
     let channels : 0 + length N.channels ≤ channel_count t = omega (arith, all_channels) in
     let instances : 0 + length N.instances ≤ instance_count t = omega (arith, all_instances) in
     each_append (IsLine t) (channel_lines watch N.channels 0) (print_lines N.instances 0) (each_channel t watch N.channels 0 channels) (each_print t N.instances 0 instances)

@@ -1,6 +1,6 @@
 -- The names of the crates below and of this crate's definitions that proofs cite, passed on from one place.
 pub use Rattle.kahn_streams.specs.Inputs.{AreFit, Entry, FailsFirst, IsFirstRefused, IsInputOf, Lists, asked_of_entry, channel_of, entry_of, inputs_of, is_given, list_for}
-pub use Rattle.kahn_streams.specs.Network.{Instance, channel_names, channels_of, network_of}
+pub use Rattle.kahn_streams.specs.Network.{Node, channel_names, channels_of, network_of}
 pub use Rattle.kahn_streams.specs.Written.{AppendsFront, Writes, line_feed, plain_line, spaced_text}
 pub use Rattle.kahn_texts.specs.Formats.{AreBlanks, AreEntries, AreFirstEntries, AreValues, HasHead, HasItsLines, HasNoHead, HasNoValues, IsEntriesFault, IsEntry, IsGood, IsInputText, IsInputTextFault, IsLine, IsName, IsValue, SpellsValues, StandsFor, channel_count, content, end_text, ends_text, instance_count, is_blank, is_word_byte, line_head, most_input_bytes, stream_text, text_lines, token_text, tokens_text, told_of_input}
 pub use Rattle.kahn_texts.specs.inner.Pieces.{AreAdded, AreAllMadeTexts, AreMadeTexts, AreNoTexts, ArePieceTexts, ArePieces, IsMadeText, IsMovedOn, IsPiece, IsPieceText, piece_text}

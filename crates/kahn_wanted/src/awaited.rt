@@ -68,8 +68,11 @@ pub(crate) enum Lead {
     Operator(Operator),
 }
 
-/// A lexeme with which a part begins, and what is open behind it, the first part last.
-pub(crate) type LeadRule = (Lead, &'static [Awaited]);
+/// A lexeme with which a part begins, as far as which operators may follow then, and what is open before these, the first part last.
+pub(crate) type LeadRule = (Lead, usize, &'static [Awaited]);
 
-/// What a part begins with: by rules, or a single lexeme.
-pub(crate) type PartLeads = Result<&'static [LeadRule], Lead>;
+/// What a part begins with: by rules, with the first operator that may follow, or a single lexeme.
+pub(crate) type PartLeads = Result<(usize, &'static [LeadRule]), Lead>;
+
+/// What is open behind a lexeme: operators, and what comes before these, each with its first part last.
+pub(crate) type Opened = (&'static [Awaited], &'static [Awaited]);

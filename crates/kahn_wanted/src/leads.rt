@@ -4,9 +4,10 @@ ghost use Rattle.std.specs.Prelude.{◌≡◌, List, ℕ, ℤ, option_map};
 ghost use Rattle.std.proofs.Common.{bytes_eq};
 ghost use Rattle.kahn_syntax.specs.{Grammar.rank, Grammar.word as word_terminal, Texts.bytes_of_sign, Texts.letters_of, Texts.sign_terminal};
 ghost use Rattle.kahn_syntax.specs.inner.Machine.{a_name, a_number, a_sign, a_word, accepts, an_operator, enters, operator_of, rank_or};
-ghost use Rattle.kahn_wanted.specs.inner.Walk.{lead_of, awaited_parts, rules_as, rules_by, terminal_with};
+ghost use Rattle.kahn_wanted.specs.inner.Walk.{lead_of, opened_parts, rules_as, rules_by, terminal_with};
 
-use crate::awaited::{Awaited, Lead, LeadRule, PartLeads};
+use crate::awaited::{Lead, LeadRule, Opened, PartLeads};
+use crate::grammar::operators;
 use kahn_syntax::{Class, Keyword, Operator, Sign};
 
 /// Whether two keywords are the same.
@@ -172,25 +173,25 @@ fn accepts(lead: Lead, class: Class) -> bool
     }
 }
 
-/// What is open behind a lexeme, by the first rule that has it.
-fn by_rules(rules: &'static [LeadRule], class: Class) -> Option<&'static [Awaited]>
-    ensures { (n : List ℕ) (z : ℤ) → option_map (λ ps. awaited_parts ps.now) result ≡ enters (rules_as rules.now) (terminal_with n z class) }
+/// What is open behind a lexeme, by the first rule that has it, before the operators from a number on.
+fn by_rules(from: usize, rules: &'static [LeadRule], class: Class) -> Option<Opened>
+    ensures { (n : List ℕ) (z : ℤ) → option_map opened_parts result ≡ enters (rules_as from rules.now) (terminal_with n z class) }
 {
     for rule in rules {
         if accepts(rule.0, class) {
-            return Some(rule.1);
+            return Some((operators(from, rule.1), rule.2));
         }
     }
     None
 }
 
 /// What is open behind a lexeme, where a part begins with it.
-pub(crate) fn entered(leads: PartLeads, class: Class) -> Option<&'static [Awaited]>
-    ensures { (n : List ℕ) (z : ℤ) → option_map (λ ps. awaited_parts ps.now) result ≡ enters (rules_by leads.entry) (terminal_with n z class) }
+pub(crate) fn entered(leads: PartLeads, class: Class) -> Option<Opened>
+    ensures { (n : List ℕ) (z : ℤ) → option_map opened_parts result ≡ enters (rules_by leads.entry) (terminal_with n z class) }
 {
     match leads {
-        Ok(rules) => by_rules(rules, class),
-        Err(lead) if accepts(lead, class) => Some(&[]),
+        Ok((from, rules)) => by_rules(from, rules, class),
+        Err(lead) if accepts(lead, class) => Some((&[], &[])),
         Err(_) => None,
     }
 }

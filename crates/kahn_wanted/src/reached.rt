@@ -78,10 +78,11 @@ fn add_reaches(
     number: usize,
     spot: Spot,
 ) -> Result<(), AllocError> {
+    // Before the first lexeme none stands: the list has no such front.
     let (kept, from) = match spot {
         Spot::Between => (number, number),
         Spot::Here => (number, number.saturating_add(1)),
-        Spot::Before => (number.saturating_sub(1), number),
+        Spot::Before => (number.wrapping_sub(1), number),
     };
     let (Some(before), Some(rest)) = (lexemes.get(..kept), lexemes.get(from..)) else {
         return Ok(());
@@ -100,10 +101,8 @@ fn add_reaches(
 /// How far a text goes with each change of one lexeme beside the one with a number, of those that can stand there.
 pub fn reaches(alloc: Global, lexemes: &[Lexeme], number: usize) -> Result<Vec<Reach>, AllocError> {
     let mut all = Vec::new(alloc);
-    add_reaches(&mut all, alloc, lexemes, number, Spot::Between)?;
-    add_reaches(&mut all, alloc, lexemes, number, Spot::Here)?;
-    if 0 < number {
-        add_reaches(&mut all, alloc, lexemes, number, Spot::Before)?;
+    for spot in [Spot::Between, Spot::Here, Spot::Before] {
+        add_reaches(&mut all, alloc, lexemes, number, spot)?;
     }
     Ok(all)
 }

@@ -17,7 +17,8 @@ pub(crate) fn pass(stack: &mut Vec<Awaited>, class: Class) -> Result<bool, Alloc
 {
     'parts: while let Some(part) = stack.pop() {
         let (optional, leads) = rules(part);
-        if let Some(parts) = entered(leads, class) {
+        if let Some((operators, parts)) = entered(leads, class) {
+            stack.extend_from_slice(operators)?;
             stack.extend_from_slice(parts)?;
             return Ok(true);
         }

@@ -1,9 +1,8 @@
 -- The words that most proofs cite, passed on from one place.
-pub use Rattle.kahn_check.proofs.{Alike.alike_kept, Wired.lookup_append}
-pub use Rattle.kahn_check.specs.inner.Firsts.{kept_first}
+pub use Rattle.kahn_check.proofs.Wired.{lookup_append}
 pub use Rattle.kahn_streams.specs.Arithmetic.{apply, arithmetic, fits_64, is_zero, number, ranged, truth}
 pub use Rattle.kahn_streams.specs.Meaning.{Store, constant, eval, exec, read, script_of, settle, turns_of, value_of}
-pub use Rattle.kahn_streams.specs.Network.{Actual, Given, Hands, Network, Nobody, Reads, Source, Writes, Written, actual_at, instance_at}
+pub use Rattle.kahn_streams.specs.Network.{Actual, Given, Hands, Schema, Nobody, Reads, Source, Writes, Written, actual_at, instance_at}
 pub use Rattle.kahn_streams.specs.Script.{Cut, Dry, Fail, Fault, Give, Got, Parameter, Port, Printer, Reached, Rest, Script, ScriptOutcome, Sends, Tapes, Turns, Waits, at_once, play, put, wait_at}
 pub use Rattle.kahn_streams.specs.Solution.{Faulted, HasEnd, Histories, Inputs, ending, exec_at, fed, goes_to, input_list, iterate, opening, out, source, tape_of, tapes_of, values_at}
 pub use Rattle.kahn_streams.specs.Syntax.{Assign, Binary, Conditional, Constant, Expr, If, Literal, Negate, Not, Print, Repeat, Send, Seq, Skip, Stmt, Variable, Wait, While}

@@ -1,5 +1,5 @@
 -- What a set of names got, one part of a body after another.
-use Rattle.kahn_warnings.proofs.Common.{Bool, List, None, Option, Scope, Some, Statement, Stmt, [], alike_kept, ap, arith, bytes_eq, common_steps, cond, contains, false, flat_map, if◌then◌else◌, is_some, kept_first, lookup, lookup_append, nat_eq, nat_list_eq_equiv, option_or, refl, statement_of, sym, true, ℕ, ◌++◌, ◌||◌, ◌∙◌, ◌∷◌, ◌≡◌}
+use Rattle.kahn_warnings.proofs.Common.{Bool, List, None, Option, Scope, Some, Statement, Stmt, [], ap, arith, bytes_eq, common_steps, cond, contains, false, flat_map, if◌then◌else◌, is_some, lookup, lookup_append, nat_eq, nat_list_eq_equiv, option_or, refl, statement_of, sym, true, ℕ, ◌++◌, ◌||◌, ◌∙◌, ◌∷◌, ◌≡◌}
 use Rattle.kahn_warnings.proofs.Lists.{any_in, or_false}
 
 or_true : (b : Bool) → b || true ≡ true
@@ -7,9 +7,9 @@ or_true true = refl
 or_true false = refl
 
 -- one name more
-pub kept_one : (names : List (List ℕ × Unit {0})) (n x : List ℕ) → contains (kept_first names n tt) x ≡ nat_eq 0 (if bytes_eq n x then 0 else 1) || contains names x
+pub kept_one : (names : List (List ℕ × Unit {0})) (n x : List ℕ) → contains (names ++ (n, tt) ∷ []) x ≡ nat_eq 0 (if bytes_eq n x then 0 else 1) || contains names x
 kept_one names n x =
-    ap is_some (alike_kept names n tt x ∙ lookup_append (bytes_eq x) names ((n, tt) ∷ []))
+    ap is_some (lookup_append (bytes_eq x) names ((n, tt) ∷ []))
     ∙ by (lookup (bytes_eq x) names) (bytes_eq x n) ∙ ap (λ b. nat_eq 0 (if b then 0 else 1) || contains names x) (bytes_turned x n)
   where
     bytes_turned : (a b : List ℕ) → bytes_eq a b ≡ bytes_eq b a

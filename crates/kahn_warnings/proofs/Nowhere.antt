@@ -1,5 +1,5 @@
 -- A body without a place never ends with that fault.
-use Rattle.kahn_warnings.proofs.Common.{Action, Actual, AllByRecursion, AreNumbersOf64, AreOf64Bits, AreWrittenIn64, Assign, Binary, Block', Bool, Bracket', Channel, Conditional, Conditional', ConstantSite, Cut, Dry, Err, Expr, Fail, Failure, Fault, Faulted, FaultsLie, Form, Give, Given, Got, Hands, HasEnd, Held-Action-If-2, Histories, If, If', Inputs, IsOf64Bits, IsOperand, IsWrittenIn64, Level', Line, List, Literal, Logical, Negate, Negate', Network, Nobody, None, None', Not, Not', Ok, Operator, Option, Port, Print, Reached, Reads, Repeat, Repeat', Rest, Result, Row_of-Operand, Row_of-Statement, Scope, Script, ScriptOutcome, Send, Sends, Seq, Skip, Some, Some', Source, Span, Statement, Stmt, Store, Tapes, Turns, Value, Variable, Wait, Waits, While, While', Writes, Written, [], action_sites, actual_at, ap, apply, arith, body_of, chosen, combined, constant, constant_of, else_of, else_sites, end_of-Operand, end_of-Statement, ending, exec, exec_at, expr_of, false, fault_places, fed, flat_map, form_sites, goes_to, if◌then◌else◌, input_list, instance_at, inverted, iterate, level_of, level_sites, more_of-Operand, more_of-Statement, neg_ℤ, negated, not, number, opening, operator_can, out, place_where, play, put, ranged, read, refl, result_ok, row_of, row_sites, script_of, settle, sign_can, site_places, slice_set, source, stmt_of, subst, suc, sym, tape_of, tapes_of, true, truth, turns_of, value_of, values_at, wait_at, zero, ℕ, ◌++◌, ◌==◌, ◌∙◌, ◌∷◌, ◌≡◌}
+use Rattle.kahn_warnings.proofs.Common.{Action, Actual, AllByRecursion, AreNumbersOf64, AreOf64Bits, AreWrittenIn64, Assign, Binary, Block', Bool, Bracket', Channel, Conditional, Conditional', ConstantSite, Cut, Dry, Err, Expr, Fail, Failure, Fault, Faulted, FaultsLie, Form, Give, Given, Got, Hands, HasEnd, Held-Action-If-2, Histories, If, If', Inputs, IsOf64Bits, IsOperand, IsWrittenIn64, Level', Line, List, Literal, Logical, Negate, Negate', Schema, Nobody, None, None', Not, Not', Ok, Operator, Option, Port, Print, Reached, Reads, Repeat, Repeat', Rest, Result, Row_of-Operand, Row_of-Statement, Scope, Script, ScriptOutcome, Send, Sends, Seq, Skip, Some, Some', Source, Span, Statement, Stmt, Store, Tapes, Turns, Value, Variable, Wait, Waits, While, While', Writes, Written, [], action_sites, actual_at, ap, apply, arith, body_of, chosen, combined, constant, constant_of, else_of, else_sites, end_of-Operand, end_of-Statement, ending, exec, exec_at, expr_of, false, fault_places, fed, flat_map, form_sites, goes_to, if◌then◌else◌, input_list, instance_at, inverted, iterate, level_of, level_sites, more_of-Operand, more_of-Statement, neg_ℤ, negated, not, number, opening, operator_can, out, place_where, play, put, ranged, read, refl, result_ok, row_of, row_sites, script_of, settle, sign_can, site_places, slice_set, source, stmt_of, subst, suc, sym, tape_of, tapes_of, true, truth, turns_of, value_of, values_at, wait_at, zero, ℕ, ◌++◌, ◌==◌, ◌∙◌, ◌∷◌, ◌≡◌}
 use Rattle.kahn_streams.specs.declared.tree.Form as form
 use Rattle.kahn_streams.specs.declared.tree.Action as action
 use Rattle.kahn_streams.specs.declared.value.Line.TheVariants as line
@@ -189,11 +189,11 @@ values_short here (x ∷ xs) h = by (here x.0) (values_short here xs h.1)
 
 -- ---- the iterates
 
-input_short : (N : Network) (I : Inputs) → AreNumbersOf64 N I → (c : Line) → AreShort (input_list I c)
+input_short : (N : Schema) (I : Inputs) → AreNumbersOf64 N I → (c : Line) → AreShort (input_list I c)
 input_short N I h (Channel c) = h.given c
 input_short N I h (line.Print p) = tt
 
-fed_short : (N : Network) (I : Inputs) → AreNumbersOf64 N I → (x : Source) (sent : ℕ → List Value) (c : Line) → ((p : ℕ) → AreShort (sent p)) → AreShort (fed x I sent c)
+fed_short : (N : Schema) (I : Inputs) → AreNumbersOf64 N I → (x : Source) (sent : ℕ → List Value) (c : Line) → ((p : ℕ) → AreShort (sent p)) → AreShort (fed x I sent c)
 fed_short N I h Given sent c f = input_short N I h c
 fed_short N I h (Written p) sent c f = f p
 fed_short N I h Nobody sent c f = tt
@@ -203,7 +203,7 @@ tape_short H (Reads c) h = h (Channel c)
 tape_short H (Writes c) h = tt
 tape_short H (Hands v) h = tt
 
-on_tapes : (N : Network) (I : Inputs) (p : ℕ) (H : Histories) → AreNumbersOf64 N I → ((c : Line) → AreShort (H c)) →
+on_tapes : (N : Schema) (I : Inputs) (p : ℕ) (H : Histories) → AreNumbersOf64 N I → ((c : Line) → AreShort (H c)) →
     AreOf64Bits (instance_at N p).body (opening (instance_at N p)) (tapes_of (instance_at N p) H)
 on_tapes N I p H h i = record {
   written = h.written p;
@@ -211,7 +211,7 @@ on_tapes N I p H h i = record {
   taken = λ q. tape_short H (actual_at (instance_at N p) q) i;
 }
 
-iterates_short : (N : Network) (I : Inputs) → AreNumbersOf64 N I → (n : ℕ) (c : Line) → AreShort (iterate N I n c)
+iterates_short : (N : Schema) (I : Inputs) → AreNumbersOf64 N I → (n : ℕ) (c : Line) → AreShort (iterate N I n c)
 iterates_short N I h zero c = fed_short N I h (source N c) (λ p. []) c (λ p. tt)
 iterates_short N I h (suc n) c =
     fed_short N I h (source N c) (λ p. out N n p (iterate N I n) c) c
@@ -328,7 +328,7 @@ ended (Fault j) k e =
     ap Fault is
 ended Cut k e = absurd cc
 
-placed : (N : Network) (I : Inputs) → AreNumbersOf64 N I → (p e : ℕ) (k : Failure) → HasEnd N I p (Faulted k) e → (names : Scope) (ss : List Statement) →
+placed : (N : Schema) (I : Inputs) → AreNumbersOf64 N I → (p e : ℕ) (k : Failure) → HasEnd N I p (Faulted k) e → (names : Scope) (ss : List Statement) →
     (instance_at N p).body ≡ body_of names ss → fault_places k ss ≡ [] → ⊥
 placed N I h p e k has names ss is none =
     let H = iterate N I has.0 in

@@ -2,7 +2,7 @@
 use Rattle.std.specs.Prelude.{◌≡◌, ℕ, ℤ, negsuc, Bool, true, false, ◌&&◌, neg_ℤ, List, [], ◌∷◌, Option, Some, None, Err, if◌then◌else◌, flat_map}
 use Rattle.std.specs.{List.AllByRecursion, Result.result_err}
 use Rattle.std.proofs.Common.{int_eq}
-use Rattle.kahn_streams.specs.{declared.span.Span.Span, declared.tree.Operator.Operator, declared.tree.Statement.Statement, declared.value.Value.Value, declared.value.Failure.Failure, declared.tree.Operator.TheVariants.Add, declared.tree.Operator.TheVariants.Subtract, declared.tree.Operator.TheVariants.Multiply, declared.tree.Operator.TheVariants.Divide, declared.tree.Operator.TheVariants.Remainder, View.Scope, View.body_of, declared.value.Failure.TheVariants.Overflow, declared.value.Failure.TheVariants.Division, Arithmetic.apply, Arithmetic.fits_64, Arithmetic.is_zero, Arithmetic.number, Arithmetic.ranged, Network.Network, Network.instance_at, Meaning.Store, Meaning.constant, Meaning.exec, Script.Fault, Script.Tapes, Solution.Faulted, Solution.HasEnd, Solution.Inputs, Solution.opening}
+use Rattle.kahn_streams.specs.{declared.span.Span.Span, declared.tree.Operator.Operator, declared.tree.Statement.Statement, declared.value.Value.Value, declared.value.Failure.Failure, declared.tree.Operator.TheVariants.Add, declared.tree.Operator.TheVariants.Subtract, declared.tree.Operator.TheVariants.Multiply, declared.tree.Operator.TheVariants.Divide, declared.tree.Operator.TheVariants.Remainder, View.Scope, View.body_of, declared.value.Failure.TheVariants.Overflow, declared.value.Failure.TheVariants.Division, Arithmetic.apply, Arithmetic.fits_64, Arithmetic.is_zero, Arithmetic.number, Arithmetic.ranged, Network.Schema, Network.instance_at, Meaning.Store, Meaning.constant, Meaning.exec, Script.Fault, Script.Tapes, Solution.Faulted, Solution.HasEnd, Solution.Inputs, Solution.opening}
 use Rattle.kahn_streams.specs.Syntax as S
 use Rattle.kahn_warnings.specs.{Constants.divides, Constants.negate_fault, Sites.body_sites, declared.sites.ConstantSite.ConstantSite, declared.sites.SiteKind.SiteKind, declared.sites.SiteKind.TheVariants.Sign, declared.sites.SiteKind.TheVariants.Binary, declared.sites.SiteKind.TheVariants.Test, declared.sites.SiteKind.TheVariants.Turn}
 
@@ -91,7 +91,7 @@ pub record AreOf64Bits (b : S.Stmt) (s : Store) (T : Tapes) : Type 0 where
   pub taken : (q : ℕ) → AllByRecursion IsOf64Bits (T q)
 
 -- those in the bodies of a network, those that its instances begin with, and those of its input
-pub record AreNumbersOf64 (N : Network) (I : Inputs) : Type 0 where
+pub record AreNumbersOf64 (N : Schema) (I : Inputs) : Type 0 where
   pub written : (p : ℕ) → AreWrittenIn64 (instance_at N p).body
   pub opened : (p : ℕ) → AllByRecursion IsOf64Bits (opening (instance_at N p))
   pub given : (c : ℕ) → AllByRecursion IsOf64Bits (I c)
@@ -116,5 +116,5 @@ pub record FaultsLie : Type 0 where
       (v : Value) × IsOf64Bits v × (apply o v w ≡ Err k)
   pub nowhere : (k : Failure) (names : Scope) (ss : List Statement) → fault_places k ss ≡ [] →
       (n : ℕ) (s : Store) (T : Tapes) → AreOf64Bits (body_of names ss) s T → (exec n (body_of names ss) s T).outcome ≡ Fault k → ⊥
-  pub placed : (N : Network) (I : Inputs) → AreNumbersOf64 N I → (p e : ℕ) (k : Failure) → HasEnd N I p (Faulted k) e →
+  pub placed : (N : Schema) (I : Inputs) → AreNumbersOf64 N I → (p e : ℕ) (k : Failure) → HasEnd N I p (Faulted k) e →
       (names : Scope) (ss : List Statement) → (instance_at N p).body ≡ body_of names ss → fault_places k ss ≡ [] → ⊥

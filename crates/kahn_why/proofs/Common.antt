@@ -6,7 +6,7 @@ pub use Rattle.kahn_fault.specs.Work.{IsChecked, IsParsed, IsUnchecked}
 pub use Rattle.kahn_marks.specs.Told.{most_notes}
 pub use Rattle.kahn_streams.specs.Answers.{HasEndAt, IsDryOn, IsEnd, IsOutcome, IsRight, IsRightRun, IsWaiting}
 pub use Rattle.kahn_streams.specs.Meaning.{Store}
-pub use Rattle.kahn_streams.specs.Network.{Given, Hands, Instance, Network, Nobody, Reads, Source, Written, actual_at, channel_source, instance_at, network_of}
+pub use Rattle.kahn_streams.specs.Network.{Given, Hands, Node, Schema, Nobody, Reads, Source, Written, actual_at, channel_source, instance_at, network_of}
 pub use Rattle.kahn_streams.specs.Script.{Cut, Dry, Fault, Got, Reached, ScriptOutcome, Tapes, play}
 pub use Rattle.kahn_streams.specs.Solution.{AreInputsExtended, Ending, HasEnd, Histories, Inputs, IsExtended, IsPrefix, ending, exec_at, fed, goes_to, input_list, iterate, out, source, tape_of, tapes_of, values_at}
 pub use Rattle.kahn_why.specs.Noting.{AreFaultLines, HasShown, StandsIn}

@@ -1,5 +1,5 @@
 -- Instances that wait for good: there is a solution above the iterates in which what they send stays as it is.
-use Rattle.kahn_why.proofs.Common.{Bool, List, Some, [], ap, false, le_refl, le_trans, max, pos, refl, subst, suc, sym, true, ℕ, ◌++◌, ◌∙◌, ◌∷◌, ◌≡◌, ◌≤◌, append-nil, Store, Network, Source, Given, Written, Nobody, Hands, Instance, instance_at, ScriptOutcome, Got, Dry, Fault, Cut, Reached, Tapes, play, IsExtended, AreInputsExtended, Histories, Inputs, Ending, HasEnd, IsPrefix, ending, exec_at, fed, input_list, iterate, out, source, tape_of, tapes_of, values_at, goes_to, AreStuck, AreForGood}
+use Rattle.kahn_why.proofs.Common.{Bool, List, Some, [], ap, false, le_refl, le_trans, max, pos, refl, subst, suc, sym, true, ℕ, ◌++◌, ◌∙◌, ◌∷◌, ◌≡◌, ◌≤◌, append-nil, Store, Schema, Source, Given, Written, Nobody, Hands, Node, instance_at, ScriptOutcome, Got, Dry, Fault, Cut, Reached, Tapes, play, IsExtended, AreInputsExtended, Histories, Inputs, Ending, HasEnd, IsPrefix, ending, exec_at, fed, input_list, iterate, out, source, tape_of, tapes_of, values_at, goes_to, AreStuck, AreForGood}
 use mathlib.Core.Path.{fun_ext}
 use Rattle.std.proofs.Math.Nat.{le-max_left, le-max_right}
 use Rattle.kahn_streams.specs.{Syntax.Number, declared.value.Value.Value, declared.value.Line.Line, declared.value.Line.TheVariants.Channel, Laws.AreSame, Laws.IsSolution, Laws.KeepsTape}
@@ -42,10 +42,10 @@ choose_above false a x h = h
 
 -- ---- the same on longer tapes, of one instance
 
-more_of : (i : Instance) (H G : Histories) → Feeds i H G → Tapes
+more_of : (i : Node) (H G : Histories) → Feeds i H G → Tapes
 more_of i H G h q = (h q).0
 
-stays_of : (i : Instance) (H G : Histories) (h : Feeds i H G) (o : ScriptOutcome Store) → KeepsTape i H G o → Stays (λ q. (h q).0) o
+stays_of : (i : Node) (H G : Histories) (h : Feeds i H G) (o : ScriptOutcome Store) → KeepsTape i H G o → Stays (λ q. (h q).0) o
 stays_of i H G h (Dry q) k = no_more (tapes_of i H q) (h q).0 (sym k ∙ (h q).1)
 stays_of i H G h (Got a) k = tt
 stays_of i H G h (Fault f) k = tt
@@ -54,7 +54,7 @@ stays_of i H G h Cut k = tt
 same_reached : {X : Type 0} (U : Tapes) (a b : Reached X) → a ≡ widened U b → AreSame a b
 same_reached U a b e = (ap (λ r. r.outcome) e, ap (λ r. r.events) e, ap (λ r. r.sent) e)
 
-same_on : (N : Network) (n p : ℕ) (H G : Histories) → Feeds (instance_at N p) H G →
+same_on : (N : Schema) (n p : ℕ) (H G : Histories) → Feeds (instance_at N p) H G →
     KeepsTape (instance_at N p) H G (exec_at N n p H).outcome → AreSame (exec_at N n p G) (exec_at N n p H)
 same_on N n p H G h k =
     same_reached (λ q. (h q).0) (exec_at N n p G) (exec_at N n p H)
@@ -62,7 +62,7 @@ same_on N n p H G h k =
 
 -- ---- the solution
 
-module _ (N : Network) (I J : Inputs) (A : Histories) (e : ℕ → ℕ) (stuck : ℕ → Bool) (h : AreStuck N I A e stuck) (longer : AreInputsExtended I J) where
+module _ (N : Schema) (I J : Inputs) (A : Histories) (e : ℕ → ℕ) (stuck : ℕ → Bool) (h : AreStuck N I A e stuck) (longer : AreInputsExtended I J) where
   abbrev is_kept : Source → Bool
   is_kept Given = false
   is_kept Nobody = false
@@ -172,5 +172,5 @@ module _ (N : Network) (I J : Inputs) (A : Histories) (e : ℕ → ℕ) (stuck :
           let same : AreSame (exec_at N n p (iterate N J n)) (exec_at N (e p) p A) = same_J p n s (le_trans (le-max_right (fits_J p).0 (e p)) le) (le_trans (le-max_left (fits_J p).0 (e p)) le) in
           (ap ending same.0 ∙ x, same.1 ∙ y)
 
-pub stays_so : (N : Network) (I : Inputs) (A : Histories) (e : ℕ → ℕ) (stuck : ℕ → Bool) → AreStuck N I A e stuck → AreForGood N I A e stuck
+pub stays_so : (N : Schema) (I : Inputs) (A : Histories) (e : ℕ → ℕ) (stuck : ℕ → Bool) → AreStuck N I A e stuck → AreForGood N I A e stuck
 stays_so N I A e stuck h J longer p s o x y = ends N I J A e stuck h longer p s o x y

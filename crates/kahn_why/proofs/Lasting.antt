@@ -1,5 +1,5 @@
 -- What is told to be for ever is.
-use Rattle.kahn_why.proofs.Common.{◌≡◌, ℕ, Option, true, Network, Inputs, IsRight, Answer, Verdict, Finished, Bound, Memory, is_final, is_stopped, lasts, Standing, Input, Stopped, Ring, IsEndedOrFaulted, IsFinal, LastForGood}
+use Rattle.kahn_why.proofs.Common.{◌≡◌, ℕ, Option, true, Schema, Inputs, IsRight, Answer, Verdict, Finished, Bound, Memory, is_final, is_stopped, lasts, Standing, Input, Stopped, Ring, IsEndedOrFaulted, IsFinal, LastForGood}
 use Rattle.kahn_chain.specs.declared.standing.Standing.TheVariants as S
 use Rattle.kahn_chain.specs.declared.standing.Cause.{Cause}
 use Rattle.kahn_why.proofs.Stands.{for_good}
@@ -20,7 +20,7 @@ last Finished y h = (λ e. absurd cc, final y h)
 last Bound y h = (λ e. absurd cc, final y h)
 last Memory y h = absurd cc
 
-pub for_ever : (N : Network) (I : Inputs) (bound : ℕ) (watch : Option ℕ) (a : Answer) → IsRight N I bound watch a → LastForGood N I a
+pub for_ever : (N : Schema) (I : Inputs) (bound : ℕ) (watch : Option ℕ) (a : Answer) → IsRight N I bound watch a → LastForGood N I a
 for_ever N I bound watch a right r is h =
     let (clear, final) = last a.verdict r.cause (rw is.lasts at h) in
     for_good N I bound watch a right clear r.instance r.end r.cause is.end is.cause final

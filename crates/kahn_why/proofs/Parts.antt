@@ -1,9 +1,10 @@
 -- What the parts of explaining say of the whole.
 use Rattle.std.proofs.Common.{append-nil}
 use Rattle.std.specs.Io.KnownBytes.{Appends}
-use Rattle.kahn_why.proofs.Common.{ℕ, Bool, List, [], ◌++◌, Option, None, Result, Err, inl, inr, refl, string_bytes, subst, sym, IsUnchecked, WorkFault, Syntax, Check, Text, Run, Write, AreAllowed, IsRefusal, IsRefusedFor, HasRefused, HasWritten, IsAdmitted, Came, Refused}
+use Rattle.kahn_why.proofs.Common.{◌≡◌, ℕ, Bool, List, [], ◌++◌, Option, None, Result, Err, inl, inr, refl, string_bytes, subst, sym, IsUnchecked, WorkFault, Syntax, Check, Text, Run, Write, AreAllowed, IsRefusal, IsRefusedFor, HasRefused, HasWritten, IsAdmitted, Came, Refused}
+use Rattle.std.specs.Prelude.{Ok}
 use Rattle.kahn_streams.specs.Written.{AppendsFront}
-use Rattle.kahn_why.specs.declared.explaining.Admitted.{Admitted}
+use Rattle.kahn_why.specs.{Data.HasToldData, declared.explaining.Admitted.Admitted}
 
 -- two pieces, the second of which is the last
 pub went_out : (old new : Option (List ℕ)) (first text : List ℕ) → Appends old new (first ++ (text ++ [])) → Appends old new (first ++ text)
@@ -29,3 +30,9 @@ unplaced path program strict old (Write f) is none = absurd is
 -- of an allowed program
 pub are_allowed : (path program : List ℕ) (strict : Bool) (it : Admitted) → IsAdmitted path program strict it → AreAllowed path program strict (string_bytes it.notes)
 are_allowed path program strict it on = ((it.network, on.checked, on.notes), on.none)
+
+-- what is said went out as data
+pub data_out : (text : List ℕ) (came : Came) (looked : Result Came WorkFault) (old new : Option (List ℕ)) (r : Result Came WorkFault) → looked ≡ Ok came
+    → HasWritten text came old new r → HasToldData looked old new r
+data_out text came looked old new r is (inl (e, out)) = subst (HasToldData looked old new) (sym e) (is, (text, out))
+data_out text came looked old new r is (inr (f, e, out)) = subst (HasToldData looked old new) (sym e) (inr (text, out))

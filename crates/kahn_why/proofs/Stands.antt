@@ -1,5 +1,5 @@
 -- Ends whose causes are final are for good: the instances on the chain are stuck.
-use Rattle.kahn_why.proofs.Common.{◌≡◌, ℕ, ◌==◌, ◌⊎◌, inl, inr, ⊎_elim, List, [], ◌∷◌, ◌++◌, get_or, Bool, true, false, if◌then◌else◌, Option, Some, None, refl, sym, ap, subst, ◌∙◌, eq-eqb, ne_eqb, option_map, cases_eq, Network, Reads, Written, actual_at, instance_at, channel_source, ScriptOutcome as Came, Dry, Cut, Store, Inputs, Histories, ending, exec_at, AreInputsExtended, Awaits, Leads, stays, onward, LeadsOn, standing_of, stands, Standing, Input, Stopped, Ring, end_of, waiting, HasEndAt, IsDryOn, IsEnd, IsOutcome, IsRight, IsWaiting, Answer, Verdict, Finished, Bound, Memory, IsEndedOrFaulted, StayForGood, standings_of, AreStuck}
+use Rattle.kahn_why.proofs.Common.{◌≡◌, ℕ, ◌==◌, ◌⊎◌, inl, inr, ⊎_elim, List, [], ◌∷◌, ◌++◌, get_or, Bool, true, false, if◌then◌else◌, Option, Some, None, refl, sym, ap, subst, ◌∙◌, eq-eqb, ne_eqb, option_map, cases_eq, Schema, Reads, Written, actual_at, instance_at, channel_source, ScriptOutcome as Came, Dry, Cut, Store, Inputs, Histories, ending, exec_at, AreInputsExtended, Awaits, Leads, stays, onward, LeadsOn, standing_of, stands, Standing, Input, Stopped, Ring, end_of, waiting, HasEndAt, IsDryOn, IsEnd, IsOutcome, IsRight, IsWaiting, Answer, Verdict, Finished, Bound, Memory, IsEndedOrFaulted, StayForGood, standings_of, AreStuck}
 use Rattle.std.specs.List.{slice_get}
 use Rattle.std.proofs.lemmas.Option.{slice_get-map, get_or_from_slice_get}
 use Rattle.kahn_streams.specs.Solution as net
@@ -43,7 +43,7 @@ on_either (x ∷ xs) ys q h =
 
 -- ---- chains
 
-module _ (N : Network) (ss : List Standing) where
+module _ (N : Schema) (ss : List Standing) where
   abbrev nodes : (p z : ℕ) → Leads N ss p z → List ℕ
   nodes p z stays = p ∷ []
   nodes p z (onward {w = w} a h) = p ∷ nodes w z h
@@ -99,7 +99,7 @@ module _ (N : Network) (ss : List Standing) where
 abbrev nobody : End
 nobody = record { outcome = Ended; events = 0 }
 
-dry_of : (v : Verdict) (N : Network) (A : Histories) (p e c : ℕ) → (v ≡ Memory → ⊥) → IsWaiting v N A p e c → IsDryOn N A p e c
+dry_of : (v : Verdict) (N : Schema) (A : Histories) (p e c : ℕ) → (v ≡ Memory → ⊥) → IsWaiting v N A p e c → IsDryOn N A p e c
 dry_of Finished N A p e c clear h = h
 dry_of Bound N A p e c clear h = h
 dry_of Memory N A p e c clear h = absurd (clear refl)
@@ -117,14 +117,14 @@ through o x e apart = (λ cut. none (sym (ap ending cut) ∙ e), λ q dry. apart
     one : {q : ℕ} → Some x ≡ Some (net.Waiting q) → x ≡ net.Waiting q
     one f = cc
 
-out_of : (v : Verdict) (N : Network) (A : Histories) (p e : ℕ) (o : Outcome) → IsEndedOrFaulted (standing_of o) → IsOutcome v N A p e o
+out_of : (v : Verdict) (N : Schema) (A : Histories) (p e : ℕ) (o : Outcome) → IsEndedOrFaulted (standing_of o) → IsOutcome v N A p e o
     → IsThrough (exec_at N e p A).outcome
 out_of v N A p e Ended over h = through (exec_at N e p A).outcome net.Ended h (λ q f. absurd cc)
 out_of v N A p e (Faulted k) over h = through (exec_at N e p A).outcome (net.Faulted k) h (λ q f. absurd cc)
 out_of v N A p e (Waits c) over h = absurd over
 out_of v N A p e More over h = absurd over
 
-module _ (N : Network) (I : Inputs) (bound : ℕ) (watch : Option ℕ) (a : Answer) (r : IsRight N I bound watch a) (clear : a.verdict ≡ Memory → ⊥) where
+module _ (N : Schema) (I : Inputs) (bound : ℕ) (watch : Option ℕ) (a : Answer) (r : IsRight N I bound watch a) (clear : a.verdict ≡ Memory → ⊥) where
   abbrev ss : List Standing
   ss = standings_of a
 

@@ -1,3 +1,4 @@
+pub mod Data
 pub mod Noting
 pub mod Refusing
 pub mod Telling

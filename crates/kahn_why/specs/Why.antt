@@ -1,7 +1,7 @@
 -- Believed. Why the instances of an answer go no further, and which of them never will.
 use Rattle.std.specs.Prelude.{◌≡◌, ◌==◌, ℕ, List, [], ◌++◌, Bool, codes, decimal, true, false, if◌then◌else◌, map, string_bytes}
 use Rattle.std.specs.List.{list_any}
-use Rattle.kahn_streams.specs.{Network.Network, Network.network_of, Solution.Inputs, Solution.AreInputsExtended, Answers.HasEndAt, Answers.IsEnd, declared.answer.Answer.Answer, declared.answer.End.End, declared.answer.Outcome.Outcome, declared.answer.Verdict.Verdict, declared.tree.Program.Program}
+use Rattle.kahn_streams.specs.{Network.Schema, Network.network_of, Solution.Inputs, Solution.AreInputsExtended, Answers.HasEndAt, Answers.IsEnd, declared.answer.Answer.Answer, declared.answer.End.End, declared.answer.Outcome.Outcome, declared.answer.Verdict.Verdict, declared.tree.Program.Program}
 use Rattle.kahn_chain.specs.{Chain.IsCause, Chain.stands, declared.standing.Standing.Standing, declared.standing.Cause.Cause, declared.standing.Cause.TheVariants.Input, declared.standing.Cause.TheVariants.Stopped, declared.standing.Cause.TheVariants.Ring, Reasons.AreReasons, Reasons.IsReasonFor, declared.reason.Reason.Reason}
 use Rattle.kahn_chain.specs.declared.standing.Standing.TheVariants as S
 use Rattle.kahn_streams.specs.declared.answer.Outcome.TheVariants as outcome
@@ -26,15 +26,15 @@ IsFinal (Stopped z s) = IsEndedOrFaulted s
 IsFinal (Ring z) = Unit {0}
 
 -- this is the end of p, whatever is added to the input
-abbrev pub IsForGood : Network → Inputs → ℕ → End → Type 0
+abbrev pub IsForGood : Schema → Inputs → ℕ → End → Type 0
 IsForGood N I p x = (J : Inputs) → AreInputsExtended I J → IsEnd N J p x.outcome x.events
 
 -- the end of each instance that has such a cause is for good
-abbrev pub StayForGood : Network → Inputs → Answer → Type 0
+abbrev pub StayForGood : Schema → Inputs → Answer → Type 0
 StayForGood N I a = (p : ℕ) (x : End) (y : Cause) → HasEndAt a p x → IsCause N (standings_of a) p y → IsFinal y → IsForGood N I p x
 
 -- and so what is told to be for ever
-abbrev pub LastForGood : Network → Inputs → Answer → Type 0
+abbrev pub LastForGood : Schema → Inputs → Answer → Type 0
 LastForGood N I a = (r : Reason) → IsReasonFor N a.verdict a.ends.items r → r.lasts ≡ true → IsForGood N I r.instance r.end
 
 -- ---- what the run came to

@@ -1,7 +1,9 @@
 //! Why a program text or an input text is refused, and why a run stopped, in words.
 #![tactic(auto)]
 
+mod data;
 mod explaining;
+mod json;
 mod laws;
 mod noting;
 mod refusing;
@@ -13,5 +15,6 @@ pub use laws::for_good;
 pub use telling::refuse_input;
 
 // For the crates above.
+pub use data::write_data;
 pub use explaining::{Admitted, admit, write_both};
 pub use why::{Explanation, Finding, causes, explained, explained_each};

@@ -49,7 +49,11 @@ fn expected_of(fault: SyntaxFault) -> Option<(Span, What)>
 }
 
 /// The note on a fault of the text, where it has a place.
-fn syntax_note(alloc: Global, program: &str, fault: SyntaxFault) -> Result<Option<Note>, NoMemory>
+pub(crate) fn syntax_note(
+    alloc: Global,
+    program: &str,
+    fault: SyntaxFault,
+) -> Result<Option<Note>, NoMemory>
     requires { IsSyntaxFault program.now fault }
     ensures { IfOk result (IsSyntaxNote program.now fault) }
 {

@@ -1,11 +1,9 @@
 //! Why the run of an answer stopped.
 
 mod lines;
-mod story;
 mod telling;
 mod told;
 mod verdict;
-mod waits;
 mod words;
 
 pub use telling::{causes, explained, explained_each};

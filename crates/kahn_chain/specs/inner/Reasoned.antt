@@ -1,6 +1,6 @@
 -- Inner. The reasons so far, one after another.
 use Rattle.std.specs.Prelude.{◌≡◌, ℕ, List, [], ◌∷◌, ◌++◌, All, Bool, drop, map}
-use Rattle.kahn_streams.specs.{Network.Network, declared.answer.End.End, declared.answer.Outcome.Outcome, declared.answer.Verdict.Verdict}
+use Rattle.kahn_streams.specs.{Network.Schema, declared.answer.End.End, declared.answer.Outcome.Outcome, declared.answer.Verdict.Verdict}
 use Rattle.kahn_streams.specs.declared.answer.Outcome.TheVariants as outcome
 use Rattle.kahn_chain.specs.{Reasons.IsReasonFor, Reasons.lasts, Reasons.not_ended, Reasons.told_instance, declared.standing.Cause.Cause, declared.reason.Reason.Reason}
 
@@ -15,6 +15,6 @@ abbrev pub reasons_at : Verdict → ℕ → End → Cause → Bool → List Reas
 reasons_at v p x y mark = told_at v p x y mark x.outcome
 
 -- those of the first n instances
-pub record AreSoFar (N : Network) (v : Verdict) (es : List End) (n : ℕ) (rs : List Reason) : Type 0 where
+pub record AreSoFar (N : Schema) (v : Verdict) (es : List End) (n : ℕ) (rs : List Reason) : Type 0 where
   pub once : map told_instance rs ++ not_ended n (drop n es) ≡ not_ended 0 es
   pub each : All (IsReasonFor N v es) rs

@@ -1,34 +1,9 @@
--- Inner. The same parts by tables that keep the first of each name.
-use Rattle.std.specs.Prelude.{◌≡◌, ◌⊎◌, ◌≤◌, ℕ, suc, ◌+◌, List, [], ◌∷◌, ◌++◌, map, length, Option, None, Some, if◌then◌else◌}
+-- Inner. The first fault of each part, as the walk finds them.
+use Rattle.std.specs.Prelude.{◌≡◌, ℕ, List, [], ◌∷◌, ◌++◌, Option, None, Some, map}
 use Rattle.std.proofs.Common.{bytes_eq}
 use Rattle.std.specs.Map.{lookup}
-use Rattle.kahn_streams.specs.{declared.tree.Name.Name, declared.tree.Kind.Kind, declared.tree.Role.Role, declared.tree.Direction.Direction, declared.tree.Declaration.Declaration, declared.tree.Instance.Instance, declared.tree.Direction.TheVariants.In, declared.tree.Direction.TheVariants.Out, View.bytes_of, Wiring.Global, Wiring.Handover, Wiring.IsChannel, Wiring.declared_of, Wiring.entries, Wiring.same_direction, declared.fault.CheckFault.CheckFault, Faults.most_channels, Faults.most_instances, Faults.repeated, Faults.too_many}
-use Rattle.kahn_check.specs.{Parts.channel_parts, Parts.declaration_parts, Parts.first_alone, Parts.firsts, inner.Tables.Ends, inner.Tables.handed_to, inner.Tables.made_in, inner.Tables.meant, inner.Tables.side_in, inner.Tables.taken}
-
--- ---- tables
-
--- each name stands for the same in both
-abbrev pub StandAlike : {A : Type 0} → List (List ℕ × A) → List (List ℕ × A) → Type 0
-StandAlike a b = (x : List ℕ) → lookup (bytes_eq x) a ≡ lookup (bytes_eq x) b
-
-abbrev pub kept_as : {A : Type 0} → Option A → List (List ℕ × A) → List ℕ → A → List (List ℕ × A)
-kept_as None known x a = known ++ (x, a) ∷ []
-kept_as (Some b) known x a = known
-
--- a name stands for what it did, or else for this
-abbrev pub kept_first : {A : Type 0} → List (List ℕ × A) → List ℕ → A → List (List ℕ × A)
-kept_first known x a = kept_as (lookup (bytes_eq x) known) known x a
-
--- what a table holds of what is handed over, if it keeps the first side of each channel
-abbrev pub got_first : Direction → Ends → List Handover → Ends
-got_first d s [] = s
-got_first d s (h ∷ hs) = if same_direction d h.direction then got_first d (kept_first s h.channel h.end) hs else got_first d s hs
-
--- both tables have the first side of each channel, by those before and what is handed over
-abbrev pub HaveKept : List Handover → Ends → Ends → Ends → Ends → Type 0
-HaveKept hs w r w' r' = StandAlike w' (w ++ taken Out hs) × StandAlike r' (r ++ taken In hs)
-
--- ---- faults
+use Rattle.kahn_streams.specs.{declared.tree.Declaration.Declaration, declared.tree.Instance.Instance, declared.tree.Kind.Kind, declared.tree.Name.Name, declared.tree.Role.Role, declared.tree.Process.Process, declared.tree.Program.Program, View.bytes_of, Wires.lines_of, Wires.process_at, Wires.shown, Wiring.Global, Wiring.IsChannel, Wiring.IsProcess, Wiring.declared_of, Wiring.entries, declared.fault.CheckFault.CheckFault, Faults.repeated}
+use Rattle.kahn_check.specs.{Parts.faults_by_part, Parts.first_alone, Parts.firsts, Parts.name_parts, Parts.no_room, declared.globals.Globals.Globals, declared.part.CheckWalk.CheckWalk, inner.Globals.ArePlaced, inner.Tables.meant}
 
 abbrev pub first_fault : List CheckFault → Option CheckFault
 first_fault [] = None
@@ -51,40 +26,43 @@ HasAddedFirst p before after = after ≡ before ++ first_alone p
 abbrev pub HasAdded : List (List CheckFault) → List CheckFault → List CheckFault → Type 0
 HasAdded ps before after = after ≡ before ++ firsts ps
 
--- the same number of channels, up to the limit
-abbrev pub AreAsMany : ℕ → ℕ → Type 0
-AreAsMany n m = (n ≡ m) ⊎ ((most_channels ≤ n) × (most_channels ≤ m))
-
--- ---- what is reported, as the table goes from g to g', the number of channels from n to n', the list from fs to fs'
-
--- of a name that is declared for a channel
+-- of a name that is declared for a channel, where so many more may be declared
 abbrev pub name_faults : List (List ℕ × Global) → ℕ → Name → List CheckFault
-name_faults g n x = too_many most_channels n x.span ++ repeated (lookup (bytes_eq (bytes_of x)) g) x.span
+name_faults g room x = no_room room x.span ++ repeated (lookup (bytes_eq (bytes_of x)) g) x.span
 
--- of names of one declaration
-pub record HaveToldNames (kind : Kind) (role : Role) (xs : List Name) (g : List (List ℕ × Global)) (n : ℕ) (fs : List CheckFault)
-    (g' : List (List ℕ × Global)) (n' : ℕ) (fs' : List CheckFault) : Type 0 where
-  pub limit : n' ≤ most_channels
-  pub number : AreAsMany n' (n + length xs)
-  pub told : fs' ≡ fs ++ firsts (channel_parts g n kind role xs)
-  pub alike : StandAlike g' (g ++ entries (map (λ x. (x, IsChannel kind role)) xs))
+-- the table and the list of faults, where so many channels more may be declared, come out with the names that are left as those with 0 do with all
+pub record AreNamesTold (left : List (Name × Global)) (g : List (List ℕ × Global)) (room : ℕ) (fs : List CheckFault)
+    (all : List (Name × Global)) (g0 : List (List ℕ × Global)) (room0 : ℕ) (fs0 : List CheckFault) : Type 0 where
+  pub table : (rest : List (Name × Global)) → g ++ entries (left ++ rest) ≡ g0 ++ entries (all ++ rest)
+  pub told : (rest : List (Name × Global)) → fs ++ firsts (name_parts g room (left ++ rest)) ≡ fs0 ++ firsts (name_parts g0 room0 (all ++ rest))
 
--- of one declaration, whatever follows
-pub record HasTold (d : Declaration) (g : List (List ℕ × Global)) (n : ℕ) (fs : List CheckFault)
-    (g' : List (List ℕ × Global)) (n' : ℕ) (fs' : List CheckFault) : Type 0 where
-  pub limit : n' ≤ most_channels
-  pub told : (rest : List Declaration) → fs' ++ firsts (declaration_parts g' n' rest) ≡ fs ++ firsts (declaration_parts g n (d ∷ rest))
-  pub alike : (rest : List Declaration) → StandAlike (g' ++ entries (declared_of rest)) (g ++ entries (declared_of (d ∷ rest)))
+-- the same of the names of one declaration
+abbrev pub HaveNamesTold : Kind → Role → List Name → List (List ℕ × Global) → ℕ → List CheckFault → List (List ℕ × Global) → ℕ → List CheckFault → Type 0
+HaveNamesTold kind role xs g0 room0 fs0 g room fs = AreNamesTold [] g room fs (map (λ x. (x, IsChannel kind role)) xs) g0 room0 fs0
 
--- the faults of instance i
-abbrev pub seat_faults : List (List ℕ × Global) → Ends → Ends → ℕ → Instance → List CheckFault
-seat_faults g w r i x = too_many most_instances i x.process.span ++ made_in g w r i (meant g x) x
+-- and of one declaration, whatever follows
+pub record HasTold (d : Declaration) (g0 : List (List ℕ × Global)) (room0 : ℕ) (fs0 : List CheckFault) (g : List (List ℕ × Global)) (room : ℕ) (fs : List CheckFault) : Type 0 where
+  pub table : (rest : List Declaration) → g ++ entries (declared_of rest) ≡ g0 ++ entries (declared_of (d ∷ rest))
+  pub told : (rest : List Declaration) → fs ++ firsts (name_parts g room (declared_of rest)) ≡ fs0 ++ firsts (name_parts g0 room0 (declared_of (d ∷ rest)))
 
--- those of each instance from the ith on
-abbrev pub seats_parts : List (List ℕ × Global) → Ends → Ends → ℕ → List Instance → List (List CheckFault)
-seats_parts g w r i [] = []
-seats_parts g w r i (x ∷ xs) = seat_faults g w r i x ∷ seats_parts g (w ++ taken Out (handed_to g i x)) (r ++ taken In (handed_to g i x)) (suc i) xs
+-- ---- the processes of instances
 
--- the faults of each channel's sides
-abbrev pub sides_parts : Ends → Ends → List (Name × (Kind × Role)) → List (List CheckFault)
-sides_parts w r cs = map (λ c. side_in w r c.0 c.1.1) cs
+abbrev pub made_of : Option Global → List (Option Process)
+made_of None = []
+made_of (Some (IsChannel kind role)) = []
+made_of (Some (IsProcess p)) = Some p ∷ []
+
+abbrev pub made_all : List (List ℕ × Global) → List Instance → List (Option Process)
+made_all g [] = []
+made_all g (x ∷ xs) = made_of (meant g x) ++ made_all g xs
+
+-- where these processes are declared comes after those before
+abbrev pub HaveNumbers : Globals → List (Option Process) → List ℕ → List ℕ → Type 0
+HaveNumbers g made before after = (ds : List Declaration) → ArePlaced ds g → map (process_at ds) after ≡ map (process_at ds) before ++ made
+
+-- ---- the whole walk
+
+pub record IsWalkOf (t : Program) (w : CheckWalk) : Type 0 where
+  pub told : w.faults.items ≡ faults_by_part t
+  pub lines : map shown w.wires.items ≡ lines_of t
+  pub numbers : map (process_at t.declarations.items) w.processes.items ≡ made_all (entries (declared_of t.declarations.items)) t.instances.items

@@ -1,8 +1,8 @@
 -- Inner. The same faults of instances, by tables of who has each side of a channel.
-use Rattle.std.specs.Prelude.{◌≡◌, ℕ, suc, List, [], ◌∷◌, ◌++◌, length, Option, None, Some, Result, if◌then◌else◌}
+use Rattle.std.specs.Prelude.{◌≡◌, ℕ, suc, List, [], ◌∷◌, ◌++◌, map, length, Option, None, Some, if◌then◌else◌}
 use Rattle.std.proofs.Common.{bytes_eq}
 use Rattle.std.specs.Map.{lookup}
-use Rattle.kahn_streams.specs.{declared.tree.Name.Name, declared.tree.Kind.Kind, declared.tree.Role.Role, declared.tree.Direction.Direction, declared.tree.Taking.Taking, declared.tree.Parameter.Parameter, declared.tree.Argument.Argument, declared.tree.Instance.Instance, declared.sides.Side.Side, declared.tree.Role.TheVariants.Inner, declared.tree.Role.TheVariants.Input, declared.tree.Role.TheVariants.Output, declared.tree.Direction.TheVariants.In, declared.tree.Direction.TheVariants.Out, View.bytes_of, Faults.Checks, Faults.wrong, Faults.most_instances, Faults.misplaced, Faults.too_many, Faults.miscounted, Faults.missing, declared.fault.CheckFault.CheckFault, declared.fault.CheckFault.TheVariants.Unknown, declared.fault.CheckFault.TheVariants.ChannelExpected, declared.fault.CheckFault.TheVariants.ValueExpected, declared.fault.CheckFault.TheVariants.NoWriter, declared.fault.CheckFault.TheVariants.NoReader}
+use Rattle.kahn_streams.specs.{declared.tree.Name.Name, declared.tree.Kind.Kind, declared.tree.Role.Role, declared.tree.Direction.Direction, declared.tree.Taking.Taking, declared.tree.Parameter.Parameter, declared.tree.Argument.Argument, declared.tree.Instance.Instance, declared.sides.Side.Side, declared.tree.Role.TheVariants.Inner, declared.tree.Role.TheVariants.Input, declared.tree.Role.TheVariants.Output, declared.tree.Direction.TheVariants.In, declared.tree.Direction.TheVariants.Out, View.bytes_of, Faults.wrong, Faults.most_instances, Faults.misplaced, Faults.too_many, Faults.miscounted, Faults.missing, declared.fault.CheckFault.CheckFault, declared.fault.CheckFault.TheVariants.Unknown, declared.fault.CheckFault.TheVariants.ChannelExpected, declared.fault.CheckFault.TheVariants.ValueExpected, declared.fault.CheckFault.TheVariants.NoWriter, declared.fault.CheckFault.TheVariants.NoReader}
 use Rattle.kahn_streams.specs.declared.tree.Kind.TheVariants as K
 use Rattle.kahn_streams.specs.declared.tree.Taking.TheVariants as T
 use Rattle.kahn_streams.specs.declared.tree.Argument.TheVariants as A
@@ -45,14 +45,6 @@ places_faults g w r i q (p ∷ ps) [] = []
 places_faults g w r i q (p ∷ ps) (x ∷ xs) =
     place_faults g w r p.taking x ++ places_faults g (w ++ taken Out (handed (side_at i q) p.taking x)) (r ++ taken In (handed (side_at i q) p.taking x)) i (suc q) ps xs
 
--- one argument is handed over to both tables, or the faults of it
-abbrev pub HandsOver : {A : Type 0} → List (List ℕ × Global) → Side → Taking → Argument → Ends → Ends → Ends → Ends → Result A CheckFault → Type 0
-HandsOver g e k x w r w' r' result = Checks (place_faults g w r k x) (λ _. HaveGot (handed e k x) w r w' r') result
-
--- and all arguments of an instance
-abbrev pub HandsAll : {A : Type 0} → List (List ℕ × Global) → ℕ → List Parameter → List Argument → Ends → Ends → Ends → Ends → Result A CheckFault → Type 0
-HandsAll g i ps xs w r w' r' result = Checks (places_faults g w r i 0 ps xs) (λ _. HaveGot (handed_in i 0 ps xs) w r w' r') result
-
 abbrev pub made_in : List (List ℕ × Global) → Ends → Ends → ℕ → Option Global → Instance → List CheckFault
 made_in g w r i None x = Unknown x.process.span ∷ []
 made_in g w r i (Some (IsChannel kind role)) x = Unknown x.process.span ∷ []
@@ -69,16 +61,20 @@ abbrev pub handed_all : List (List ℕ × Global) → ℕ → List Instance → 
 handed_all g i [] = []
 handed_all g i (x ∷ xs) = handed_to g i x ++ handed_all g (suc i) xs
 
-abbrev pub seats_faults : List (List ℕ × Global) → Ends → Ends → ℕ → List Instance → List CheckFault
-seats_faults g w r i [] = []
-seats_faults g w r i (x ∷ xs) =
-    too_many most_instances i x.process.span ++ (made_in g w r i (meant g x) x ++ seats_faults g (w ++ taken Out (handed_to g i x)) (r ++ taken In (handed_to g i x)) (suc i) xs)
+-- the faults of instance i
+abbrev pub seat_faults : List (List ℕ × Global) → Ends → Ends → ℕ → Instance → List CheckFault
+seat_faults g w r i x = too_many most_instances i x.process.span ++ made_in g w r i (meant g x) x
+
+-- those of each instance from the ith on
+abbrev pub seats_parts : List (List ℕ × Global) → Ends → Ends → ℕ → List Instance → List (List CheckFault)
+seats_parts g w r i [] = []
+seats_parts g w r i (x ∷ xs) = seat_faults g w r i x ∷ seats_parts g (w ++ taken Out (handed_to g i x)) (r ++ taken In (handed_to g i x)) (suc i) xs
 
 abbrev pub side_in : Ends → Ends → Name → Role → List CheckFault
 side_in w r n Inner = missing (held (lookup (bytes_eq (bytes_of n)) w)) (NoWriter n.span) ++ missing (held (lookup (bytes_eq (bytes_of n)) r)) (NoReader n.span)
 side_in w r n Input = missing (held (lookup (bytes_eq (bytes_of n)) r)) (NoReader n.span)
 side_in w r n Output = missing (held (lookup (bytes_eq (bytes_of n)) w)) (NoWriter n.span)
 
-abbrev pub sides_in : Ends → Ends → List (Name × (Kind × Role)) → List CheckFault
-sides_in w r [] = []
-sides_in w r (c ∷ cs) = side_in w r c.0 c.1.1 ++ sides_in w r cs
+-- the faults of each channel's sides
+abbrev pub sides_parts : Ends → Ends → List (Name × (Kind × Role)) → List (List CheckFault)
+sides_parts w r cs = map (λ c. side_in w r c.0 c.1.1) cs

@@ -1,9 +1,9 @@
 -- Inner. The tables of the walk, as a network keeps them.
-use Rattle.std.specs.Prelude.{◌≡◌, List, ◌++◌, map, Result}
+use Rattle.std.specs.Prelude.{◌≡◌, List, ◌∷◌, ◌++◌, map}
 use Rattle.std.proofs.Common.{bytes_eq}
-use Rattle.std.specs.{Map.lookup, declared.alloc.Global.Global, declared.vec.Vec.Vec}
-use Rattle.kahn_streams.specs.{declared.tree.Name.Name, declared.tree.Kind.Kind, declared.tree.Role.Role, View.bytes_of, Faults.Checks, declared.fault.CheckFault.CheckFault, Wires.Line, Wires.shown, declared.wires.Wire.Wire}
-use Rattle.kahn_check.specs.inner.Tables.{Ends, sides_in}
+use Rattle.std.specs.Map.{lookup}
+use Rattle.kahn_streams.specs.{declared.tree.Declaration.Declaration, declared.tree.Name.Name, declared.tree.Kind.Kind, declared.tree.Role.Role, View.bytes_of, declared.fault.CheckFault.CheckFault, Wires.Line, Wires.shown, Wiring.declared_channels, declared.wires.Wire.Wire}
+use Rattle.kahn_check.specs.{Parts.firsts, inner.Tables.Ends, inner.Tables.sides_parts}
 
 -- the channels of one declaration
 abbrev pub as_lines : Kind → Role → List Name → List (Name × (Kind × Role))
@@ -16,10 +16,12 @@ line_in w r c = ((bytes_of c.0, c.1), (lookup (bytes_eq (bytes_of c.0)) w, looku
 abbrev pub lines_in : Ends → Ends → List (Name × (Kind × Role)) → List Line
 lines_in w r cs = map (line_in w r) cs
 
--- the wires of these channels come after those before, or the faults of them
-abbrev pub HaveWires : {A : Type 0} → Ends → Ends → List (Name × (Kind × Role)) → List Wire → List Wire → Result A CheckFault → Type 0
-HaveWires w r cs before after result = Checks (sides_in w r cs) (λ _. map shown after ≡ map shown before ++ lines_in w r cs) result
+-- the wires and the faults of sides come out with the channels that are left as those with 0 do with all
+pub record AreWired (w r : Ends) (left : List (Name × (Kind × Role))) (ws : List Wire) (fs : List CheckFault) (all : List (Name × (Kind × Role))) (ws0 : List Wire) (fs0 : List CheckFault) : Type 0 where
+  pub lines : (rest : List (Name × (Kind × Role))) → map shown ws ++ lines_in w r (left ++ rest) ≡ map shown ws0 ++ lines_in w r (all ++ rest)
+  pub sides : (rest : List (Name × (Kind × Role))) → fs ++ firsts (sides_parts w r (left ++ rest)) ≡ fs0 ++ firsts (sides_parts w r (all ++ rest))
 
--- they are the wires of these channels, or the faults of them
-abbrev pub AreWiresOf : Ends → Ends → List (Name × (Kind × Role)) → Result (Vec Wire Global) CheckFault → Type 0
-AreWiresOf w r cs result = Checks (sides_in w r cs) (λ wires. map shown wires.items ≡ lines_in w r cs) result
+-- the same of one declaration, whatever follows
+pub record HasWired (w r : Ends) (d : Declaration) (ws : List Wire) (fs : List CheckFault) (ws0 : List Wire) (fs0 : List CheckFault) : Type 0 where
+  pub lines : (rest : List Declaration) → map shown ws ++ lines_in w r (declared_channels rest) ≡ map shown ws0 ++ lines_in w r (declared_channels (d ∷ rest))
+  pub sides : (rest : List Declaration) → fs ++ firsts (sides_parts w r (declared_channels rest)) ≡ fs0 ++ firsts (sides_parts w r (declared_channels (d ∷ rest)))

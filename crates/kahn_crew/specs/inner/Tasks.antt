@@ -1,6 +1,6 @@
 -- Inner. What a task tells the board, and the tasks of a run before its next events.
 use Rattle.std.specs.Prelude.{◌≡◌, if◌then◌else◌, ◌==◌, ◌^◌, ◌<◌}
-use Rattle.kahn_crew.specs.inner.Words.{ℕ, Bool, true, false, List, map, option_map, option_map_or, position, Option, Some, None, Network, Actual, Reads, Writes, network_of, instance_at, actual_at, role_at, is_output, count, end_at, TaskEnd, rows_of, Continues, Tasked, Work, Summary, TaskStanding, length, slice_get, Program, Lists, inputs_of, AreJoinedOn, IsDelivered, some, get_elem?, dealt, wired, Terms, Input}
+use Rattle.kahn_crew.specs.inner.Words.{ℕ, Bool, true, false, List, map, option_map, option_map_or, position, Option, Some, None, Schema, Actual, Reads, Writes, network_of, instance_at, actual_at, role_at, is_output, count, end_at, TaskEnd, rows_of, Continues, Tasked, Work, Summary, TaskStanding, length, slice_get, Program, Lists, inputs_of, AreJoinedOn, IsDelivered, some, get_elem?, dealt, wired, Terms, Input}
 use Rattle.kahn_job.specs.declared.standing.TaskStanding.TheVariants as standing
 
 abbrev pub work_of : Tasked → Work
@@ -20,7 +20,7 @@ read_by (Reads c) = Some c
 read_by a = None
 
 -- the channel between processes that is written
-abbrev pub written_by : Network → Actual → Option ℕ
+abbrev pub written_by : Schema → Actual → Option ℕ
 written_by N (Writes c) = if is_output (role_at N c) then None else Some c
 written_by N a = None
 

@@ -15,5 +15,5 @@ pub use Rattle.kahn_job.specs.declared.standing.TaskStanding.{TaskStanding, TheV
 pub use Rattle.kahn_job.specs.inner.{Berths.AreJoinedOn, Berths.end_at, Ends.TaskEnd, Idles.AreIdle, Idles.HaveSettled, Idles.rows_of, Tasks.Continues, Tasks.Tasked, Tasks.woken_task}
 pub use Rattle.kahn_job.specs.inner.Works.{IsDelivered, IsJob, Work, width_of}
 pub use Rattle.kahn_streams.specs.{Answers.is_output, Inputs.Lists, Inputs.inputs_of, declared.fault.RunFault.RunFault}
-pub use Rattle.kahn_streams.specs.Network.{Actual, Hands, Network, Reads, Writes, actual_at, instance_at, network_of, role_at}
+pub use Rattle.kahn_streams.specs.Network.{Actual, Hands, Schema, Reads, Writes, actual_at, instance_at, network_of, role_at}
 pub use Rattle.kahn_streams.specs.declared.tree.{Program.Program, Role.TheVariants.Input}

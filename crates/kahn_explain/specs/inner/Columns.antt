@@ -2,7 +2,7 @@
 use Rattle.std.specs.Prelude.{◌≡◌, List, [], ◌∷◌, ◌++◌, All, flat_map, length, map}
 use Rattle.kahn_streams.specs.{declared.tree.Program.Program, declared.value.Line.Line, Network.network_of, declared.value.Line.TheVariants.Channel, declared.value.Line.TheVariants.Print, Inputs.Lists, Inputs.inputs_of, Answers.HasStream, Answers.values_of, declared.answer.Answer.Answer, declared.answer.Stream.Stream, declared.config.Config.Config}
 use Rattle.kahn_sequential.specs.{Recordings.IsRecordedRun, declared.recorded.Recorded.Recorded}
-use Rattle.kahn_explain.specs.{Histories.AreHistories, Histories.IsHistory, Histories.all_channels, Histories.column_line, declared.tracing.column.Column.Column}
+use Rattle.kahn_explain.specs.{Histories.AreHistories, Histories.IsHistory, Histories.all_channels, Histories.column_line, declared.tracing.histories.Column.Column}
 
 -- the answer has a stream of the line
 abbrev pub HasLine : Answer → Line → Type 0

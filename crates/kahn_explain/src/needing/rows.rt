@@ -5,32 +5,24 @@ ghost use Rattle.kahn_streams.specs.{Inputs.inputs_of, Network.Given, Network.ne
 ghost use Rattle.kahn_needs.specs.Finding.{IsNetworkLine};
 ghost use Rattle.kahn_explain.specs.Needing.{AreAllNeeds};
 
-use crate::tracing::{add_name, add_numbers, add_value};
+use crate::tracing::{add_line, add_numbers, add_value};
 use itoa::Buffer;
 use kahn_code::CodeFault;
 use kahn_needs::{Found, Needs, Seeker};
 use kahn_streams::{Input, Line, Network};
 use std::alloc::{AllocError, Global};
 
-/// Adds the names of the first so many channels or processes.
-fn add_heads(
-    text: &mut String,
-    network: &Network,
-    channels: bool,
-    count: usize,
-) -> Result<(), AllocError> {
-    for number in 0..count {
-        text.push_str(",")?;
-        add_name(text, network, channels, number)?;
-    }
-    Ok(())
-}
-
 /// The row that heads the columns.
 fn needs_head(alloc: Global, network: &Network) -> Result<String, AllocError> {
     let mut text = String::from_str(alloc, "place,value")?;
-    add_heads(&mut text, network, true, network.channels())?;
-    add_heads(&mut text, network, false, network.instances())?;
+    for channel in 0..network.channels() {
+        text.push_str(",")?;
+        add_line(&mut text, network, Line::Channel(channel))?;
+    }
+    for instance in 0..network.instances() {
+        text.push_str(",")?;
+        add_line(&mut text, network, Line::Print(instance))?;
+    }
     text.push_str("\n")?;
     Ok(text)
 }

@@ -3,7 +3,7 @@
 ghost use Rattle.std.specs.Prelude.{◌≡◌};
 ghost use Rattle.kahn_explain.specs.Needing.{found_end};
 
-use crate::tracing::{add_name, add_value};
+use crate::tracing::{add_line, add_value};
 use itoa::Buffer;
 use kahn_marks::add;
 use kahn_needs::{Found, Needs};
@@ -11,25 +11,17 @@ use kahn_sequential::Recorded;
 use kahn_streams::{Line, Network, Verdict};
 use std::alloc::{AllocError, Global};
 
-/// Adds the name of a line.
-fn add_line(text: &mut String, network: &Network, line: Line) -> Result<(), AllocError> {
-    match line {
-        Line::Channel(channel) => add_name(text, network, true, channel),
-        Line::Print(instance) => add_name(text, network, false, instance),
-    }
-}
-
 /// How many values a channel had in a run, or how many events a process did.
-fn whole_count(run: &Recorded, channels: bool, number: usize) -> u64 {
-    if channels {
-        return match run.counts.get(number) {
+fn whole_count(run: &Recorded, line: Line) -> u64 {
+    match line {
+        Line::Channel(channel) => match run.counts.get(channel) {
             Some(count) => count.sent,
             None => 0,
-        };
-    }
-    match run.answer.ends.get(number) {
-        Some(end) => end.events,
-        None => 0,
+        },
+        Line::Print(instance) => match run.answer.ends.get(instance) {
+            Some(end) => end.events,
+            None => 0,
+        },
     }
 }
 
@@ -39,8 +31,7 @@ fn add_count(
     text: &mut String,
     network: &Network,
     run: &Recorded,
-    channels: bool,
-    number: usize,
+    line: Line,
     count: u64,
 ) -> Result<(), AllocError> {
     if count == 0 {
@@ -49,32 +40,13 @@ fn add_count(
     if !text.is_empty() {
         text.push_str(", ")?;
     }
-    add_name(text, network, channels, number)?;
+    add_line(text, network, line)?;
     let mut digits = Buffer::new();
     add(text, &[": ", digits.format(count)])?;
-    match run.answer.verdict {
-        Verdict::Finished => {
-            let all = whole_count(run, channels, number);
-            add(text, &[" of ", digits.format(all)])
-        }
-        Verdict::Bound => Ok(()),
-        Verdict::Memory => Ok(()),
+    if let Verdict::Finished = run.answer.verdict {
+        add(text, &[" of ", digits.format(whole_count(run, line))])?;
     }
-}
-
-/// Those that are needed, of channels or of processes.
-fn counts_of(
-    alloc: Global,
-    network: &Network,
-    run: &Recorded,
-    channels: bool,
-    counts: &[u64],
-) -> Result<String, AllocError> {
-    let mut text = String::new(alloc);
-    for number in 0..counts.len() {
-        add_count(&mut text, network, run, channels, number, counts[number])?;
-    }
-    Ok(text)
+    Ok(())
 }
 
 /// What stands before the values that are needed.
@@ -94,8 +66,16 @@ fn add_needs(
     run: &Recorded,
     needs: &Needs,
 ) -> Result<(), AllocError> {
-    let values = counts_of(alloc, network, run, true, needs.values.as_slice())?;
-    let events = counts_of(alloc, network, run, false, needs.events.as_slice())?;
+    let mut values = String::new(alloc);
+    for channel in 0..needs.values.len() {
+        let line = Line::Channel(channel);
+        add_count(&mut values, network, run, line, needs.values[channel])?;
+    }
+    let mut events = String::new(alloc);
+    for instance in 0..needs.events.len() {
+        let line = Line::Print(instance);
+        add_count(&mut events, network, run, line, needs.events[instance])?;
+    }
     text.push_str(" = ")?;
     add_value(text, needs.value)?;
     let lead = needs_word(values.as_str());
@@ -128,17 +108,6 @@ pub(crate) fn add_found(
     }
 }
 
-/// Adds that no value of a line needs one.
-fn add_none(
-    text: &mut String,
-    network: &Network,
-    line: Line,
-    words: &str,
-) -> Result<(), AllocError> {
-    add_line(text, network, line)?;
-    text.push_str(words)
-}
-
 /// Adds the first value of a line that needs one, and what else it needs; or that none does.
 pub(crate) fn add_first(
     alloc: Global,
@@ -149,13 +118,13 @@ pub(crate) fn add_first(
     place: u64,
     found: &Found,
 ) -> Result<(), AllocError> {
-    let bound = ": no value needs it within the bound\n";
-    match found {
-        Found::Needs(_) => add_found(alloc, text, network, run, line, place, found),
-        Found::Never => add_none(text, network, line, ": no value needs it\n"),
-        Found::Ring => add_none(text, network, line, ": no value needs it\n"),
-        Found::Bound => add_none(text, network, line, bound),
-    }
+    let words = match found {
+        Found::Needs(_) => return add_found(alloc, text, network, run, line, place, found),
+        Found::Never | Found::Ring => ": no value needs it\n",
+        Found::Bound => ": no value needs it within the bound\n",
+    };
+    add_line(text, network, line)?;
+    text.push_str(words)
 }
 
 /// How a search ended: only a bound leaves something untold.

@@ -1,67 +1,35 @@
-//! The text of a table of histories: a column for each line, and a row for each place.
+//! The texts of the tables of a run: of histories, a column for each line and a row for each place; and of counts, a row for each channel.
 
-use crate::tracing::column::Column;
+ghost use Rattle.std.specs.Prelude.{◌<◌, length};
+ghost use Rattle.kahn_streams.specs.Network.{network_of};
+
+use crate::tracing::histories::Column;
 use itoa::Buffer;
 use kahn_marks::add;
-use kahn_streams::{Line, Network, Value};
+use kahn_sequential::Recorded;
+use kahn_streams::{Line, Network, Side, Value};
 use kahn_texts::{channel_name, process_name};
 use std::alloc::{AllocError, Global};
-
-/// Adds a number behind a comma.
-fn add_number(text: &mut String, number: u64) -> Result<(), AllocError> {
-    let mut digits = Buffer::new();
-    add(text, &[",", digits.format(number)])
-}
 
 /// Adds numbers, each behind a comma.
 pub(crate) fn add_numbers(text: &mut String, numbers: &[u64]) -> Result<(), AllocError> {
     for number in numbers {
-        add_number(text, *number)?;
+        let mut digits = Buffer::new();
+        add(text, &[",", digits.format(*number)])?;
     }
     Ok(())
 }
 
 /// Adds the name of a channel, or the number and the name of a process.
-pub(crate) fn add_name(
-    text: &mut String,
-    network: &Network,
-    channels: bool,
-    number: usize,
-) -> Result<(), AllocError> {
-    if channels {
-        return text.push_str(channel_name(network, number));
-    }
+pub(crate) fn add_line(text: &mut String, network: &Network, line: Line) -> Result<(), AllocError> {
     let mut digits = Buffer::new();
-    add(
-        text,
-        &[
-            digits.format(number as u128 + 1),
-            " ",
-            process_name(network, number),
-        ],
-    )
-}
-
-/// Adds what heads the column of a line.
-fn add_head(text: &mut String, network: &Network, line: Line) -> Result<(), AllocError> {
     match line {
-        Line::Channel(channel) => {
-            text.push_str(",")?;
-            add_name(text, network, true, channel)
-        }
+        Line::Channel(channel) => text.push_str(channel_name(network, channel)),
         Line::Print(instance) => {
-            text.push_str(",print ")?;
-            add_name(text, network, false, instance)
+            let number = digits.format(instance as u128 + 1);
+            add(text, &[number, " ", process_name(network, instance)])
         }
     }
-}
-
-/// Adds what heads the columns.
-fn add_heads(text: &mut String, network: &Network, columns: &[Column]) -> Result<(), AllocError> {
-    for column in columns {
-        add_head(text, network, column.line)?;
-    }
-    Ok(())
 }
 
 /// Adds a value as it is printed.
@@ -74,46 +42,25 @@ pub(crate) fn add_value(text: &mut String, value: Value) -> Result<(), AllocErro
     }
 }
 
-/// Adds the value of a column at a place, or nothing past its last.
-fn add_cell(text: &mut String, column: &Column, place: usize) -> Result<(), AllocError> {
-    text.push_str(",")?;
-    match column.values.get(place) {
-        Some(value) => add_value(text, *value),
-        None => Ok(()),
-    }
-}
-
-/// Adds the values of the columns at a place.
-fn add_cells(text: &mut String, columns: &[Column], place: usize) -> Result<(), AllocError> {
-    for column in columns {
-        add_cell(text, column, place)?;
-    }
-    Ok(())
-}
-
-/// Adds the row of a place, which is counted from 1.
+/// Adds the row of a place, which is counted from 1: the value of each column there, or nothing past its last.
 fn add_row(text: &mut String, columns: &[Column], place: usize) -> Result<(), AllocError> {
     let mut buffer = Buffer::new();
     text.push_str(buffer.format(place as u128 + 1))?;
-    add_cells(text, columns, place)?;
+    for column in columns {
+        text.push_str(",")?;
+        if let Some(value) = column.values.get(place) {
+            add_value(text, *value)?;
+        }
+    }
     text.push_str("\n")
 }
 
-/// Adds the rows of the first so many places.
-fn add_rows(text: &mut String, columns: &[Column], places: usize) -> Result<(), AllocError> {
-    for place in 0..places {
-        add_row(text, columns, place)?;
+/// What stands before the name that heads the column of a line.
+fn head_of(line: Line) -> &'static str {
+    match line {
+        Line::Channel(_) => ",",
+        Line::Print(_) => ",print ",
     }
-    Ok(())
-}
-
-/// How many values the longest column has.
-fn longest(columns: &[Column]) -> usize {
-    let mut most = 0;
-    for column in columns {
-        most = most.max(column.values.len());
-    }
-    most
 }
 
 /// The table of columns of a network: a row that heads them, the first with the word `place`, and a row for each place, from 1
@@ -125,8 +72,62 @@ pub fn trace_text(
     columns: &[Column],
 ) -> Result<String, AllocError> {
     let mut text = String::from_str(alloc, "place")?;
-    add_heads(&mut text, network, columns)?;
+    let mut places = 0;
+    for column in columns {
+        text.push_str(head_of(column.line))?;
+        add_line(&mut text, network, column.line)?;
+        places = places.max(column.values.len());
+    }
     text.push_str("\n")?;
-    add_rows(&mut text, columns, longest(columns))?;
+    for place in 0..places {
+        add_row(&mut text, columns, place)?;
+    }
+    Ok(text)
+}
+
+/// Adds the number and the name of the process on a side of a channel; nothing where none is there.
+pub(crate) fn add_side(
+    text: &mut String,
+    network: &Network,
+    side: Option<Side>,
+) -> Result<(), AllocError> {
+    match side {
+        Some(side) => add_line(text, network, Line::Print(side.instance)),
+        None => Ok(()),
+    }
+}
+
+/// Adds the row of a channel.
+fn add_count(
+    text: &mut String,
+    network: &Network,
+    run: &Recorded,
+    channel: usize,
+) -> Result<(), AllocError>
+    requires { channel < length (network_of network.now).channels }
+{
+    let Some(count) = run.counts.get(channel) else {
+        return Ok(());
+    };
+    add(text, &[channel_name(network, channel), ","])?;
+    add_side(text, network, network.writer(channel))?;
+    text.push_str(",")?;
+    add_side(text, network, network.reader(channel))?;
+    let left = count.sent.saturating_sub(count.taken);
+    add_numbers(text, &[count.sent, count.taken, left])?;
+    text.push_str("\n")
+}
+
+/// The table of the counts of the channels of a run: a row that heads the columns, and for each channel a row with its name, the
+/// processes that write and read it, and how many values were sent, taken and left.
+pub(crate) fn counts_text(
+    alloc: Global,
+    network: &Network,
+    run: &Recorded,
+) -> Result<String, AllocError> {
+    let mut text = String::from_str(alloc, "channel,from,to,sent,taken,left\n")?;
+    for channel in 0..network.channels() {
+        add_count(&mut text, network, run, channel)?;
+    }
     Ok(text)
 }

@@ -1,6 +1,6 @@
 -- Inner. Texts that grow by the texts of items.
 use Rattle.std.specs.Prelude.{◌≡◌, ℕ, Bool, true, false, ◌==◌, List, ◌∷◌, ◌++◌, Some, slice_get}
-use Rattle.kahn_streams.specs.{declared.tree.Argument.Argument, declared.tree.Instance.Instance, declared.tree.Parameter.Parameter, declared.tree.Program.Program, Network.Network}
+use Rattle.kahn_streams.specs.{declared.tree.Argument.Argument, declared.tree.Instance.Instance, declared.tree.Parameter.Parameter, declared.tree.Program.Program, Network.Schema}
 use Rattle.kahn_chain.specs.{declared.standing.Standing.Standing, declared.standing.Standing.TheVariants.Ended, declared.standing.Standing.TheVariants.Waits, declared.standing.Standing.TheVariants.Faulted, declared.standing.Standing.TheVariants.More, Chain.LeadsOn}
 use Rattle.kahn_graph.specs.Graph.{tip_text, values_text}
 
@@ -18,7 +18,7 @@ abbrev pub IsTip : Program → List ℕ → ℕ → List ℕ → Type 0
 IsTip t source i text = (x : Instance) × (slice_get t.instances.items i ≡ Some x) × (text ≡ tip_text source x.process)
 
 -- the answer tells whether instance p waits on channel c and is on a ring
-abbrev pub IsWaitAt : Network → List Standing → ℕ → ℕ → Bool → Type 0
+abbrev pub IsWaitAt : Schema → List Standing → ℕ → ℕ → Bool → Type 0
 IsWaitAt N ss c p true = (slice_get ss p ≡ Some (Waits c)) × LeadsOn N ss p p
 IsWaitAt N ss c p false = slice_get ss p ≡ Some (Waits c) → LeadsOn N ss p p → ⊥
 

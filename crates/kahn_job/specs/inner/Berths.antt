@@ -1,6 +1,6 @@
 -- Inner. What contracts see of the ends of an instance's channels, of those of all instances, and of the two of each channel.
 use Rattle.std.specs.Prelude.{◌≡◌, ◌⊎◌, ◌<◌, ◌≤◌}
-use Rattle.kahn_job.specs.inner.Words.{ℕ, true, false, List, [], length, map, None, Some, slice_index_or, Unit-prop, props, Program, Side, Input, Network, Actual, Reads, Writes, Hands, network_of, instance_at, actual_at, role_at, Lists, inputs_of, is_output, LaneName, lane_name, name-prop}
+use Rattle.kahn_job.specs.inner.Words.{ℕ, true, false, List, [], length, map, None, Some, slice_index_or, Unit-prop, props, Program, Side, Input, Schema, Actual, Reads, Writes, Hands, network_of, instance_at, actual_at, role_at, Lists, inputs_of, is_output, LaneName, lane_name, name-prop}
 use Rattle.kahn_job.specs.{inner.Ends.TaskEnd, inner.Ends.Identity, inner.Ends.IsSame, inner.Ends.IsReady, inner.Ends.IsBehind, inner.Ends.ShareLane, inner.Ends.identity_of, inner.Ways.no_end}
 
 abbrev pub end_at : List TaskEnd → ℕ → TaskEnd
@@ -68,16 +68,16 @@ abbrev pub end_in : List (List TaskEnd) → ℕ → ℕ → TaskEnd
 end_in rows p q = end_at (slice_index_or rows p []) q
 
 -- `so` holds of the writer's and the reader's end of channel d
-abbrev pub AreSoOn : (TaskEnd → TaskEnd → Type 0) → Network → List (List TaskEnd) → ℕ → Type 0
+abbrev pub AreSoOn : (TaskEnd → TaskEnd → Type 0) → Schema → List (List TaskEnd) → ℕ → Type 0
 AreSoOn so N rows d =
     (p r o q : ℕ) → actual_at (instance_at N p) o ≡ Writes d → actual_at (instance_at N r) q ≡ Reads d → so (end_in rows p o) (end_in rows r q)
 
 -- they are the two ends of one lane, also on a channel from an instance to itself
-abbrev pub AreJoinedOn : Network → List (List TaskEnd) → ℕ → Type 0
+abbrev pub AreJoinedOn : Schema → List (List TaskEnd) → ℕ → Type 0
 AreJoinedOn = AreSoOn ShareLane
 
 -- the reader is behind the writer
-abbrev pub AreBehindOn : Network → List (List TaskEnd) → ℕ → Type 0
+abbrev pub AreBehindOn : Schema → List (List TaskEnd) → ℕ → Type 0
 AreBehindOn = AreSoOn IsBehind
 
 -- the instance and the parameter exist

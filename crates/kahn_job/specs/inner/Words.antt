@@ -10,5 +10,5 @@ pub use Rattle.kahn_lane.specs.Places.{Named, lane_name, moved_to, name-prop, to
 pub use Rattle.kahn_lane.specs.{declared.name.LaneName.LaneName, declared.segments.Receiver.Receiver, declared.segments.Sender.Sender, inner.Settles.IsGrown}
 pub use Rattle.kahn_streams.specs.{Answers.is_output, Meaning.Store, Script.Dry, Script.ScriptOutcome, Solution.AreInputsExtended, Solution.ending, Wiring.side_at, declared.sides.Side.Side, declared.tree.Program.Program}
 pub use Rattle.kahn_streams.specs.Inputs.{Lists, Names, inputs_of}
-pub use Rattle.kahn_streams.specs.Network.{Actual, Hands, Network, Reads, Writes, actual_at, instance_at, network_of, role_at}
+pub use Rattle.kahn_streams.specs.Network.{Actual, Hands, Schema, Reads, Writes, actual_at, instance_at, network_of, role_at}
 pub use Rattle.kahn_streams.specs.declared.tree.Role.TheVariants.{Inner, Input, Output}

@@ -1,18 +1,9 @@
 -- Inner. What is read of a line at a time, and a line of a row.
 use Rattle.std.specs.Prelude.{◌≡◌, ◌≢◌, ◌⊎◌, ℕ, ◌<◌, ⊤, List, [], ◌∷◌, ◌++◌, length, take, All, Option, IfSome, Result, Ok, Err}
-use Rattle.std.specs.Io.KnownBytes.{Consumes, IsAtEnd, Keeps}
-use Rattle.std.specs.Io.BufRead.{DropsThrough}
-use Rattle.kahn_live.specs.Lines.{most_kept}
-use Rattle.kahn_live.specs.Rows.{bytes_in}
-use Rattle.std.specs.declared.alloc.Global.{Global}
-use Rattle.std.specs.declared.vec.Vec.{Vec}
-use Rattle.kahn_session.specs.Live.{IsMeantLine, IsUnfedBy, Live}
-use Rattle.kahn_session.specs.declared.fault.TakeFault.{TakeFault}
-use Rattle.kahn_session.specs.declared.fault.TakeFault.TheVariants.{NoMemory as NoMemoryTake}
-use Rattle.kahn_live.specs.declared.lines.Next.{Next}
+use Rattle.std.specs.{Io.KnownBytes.Consumes, Io.KnownBytes.IsAtEnd, Io.KnownBytes.Keeps, Io.BufRead.DropsThrough, declared.alloc.Global.Global, declared.vec.Vec.Vec}
+use Rattle.kahn_live.specs.{Lines.most_kept, Rows.bytes_in, declared.lines.Next.Next, declared.lines.LinePart.LinePart, declared.lines.LinePart.TheVariants.More, declared.lines.LinePart.TheVariants.Whole, declared.lines.LinePart.TheVariants.End, declared.lines.LinePart.TheVariants.Failed, declared.lines.LinePart.TheVariants.NoMemory}
+use Rattle.kahn_session.specs.{Live.IsMeantLine, Live.IsUnfedBy, Live.Live, declared.fault.TakeFault.TakeFault, declared.fault.TakeFault.TheVariants.NoMemory as NoMemoryTake}
 use Rattle.kahn_live.specs.declared.lines.Next.TheVariants as next
-use Rattle.kahn_live.specs.declared.lines.LinePart.{LinePart}
-use Rattle.kahn_live.specs.declared.lines.LinePart.TheVariants.{More, Whole, End, Failed, NoMemory}
 
 -- bytes without a line feed were read, and kept within the limit
 abbrev pub WasKept : Option (List ℕ) → Option (List ℕ) → List ℕ → List ℕ → List ℕ → Type 0

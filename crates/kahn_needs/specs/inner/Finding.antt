@@ -1,6 +1,6 @@
 -- Inner. What is known in a search for needs.
 use Rattle.std.specs.Prelude.{◌≡◌, ℕ, ◌≤◌, ◌<◌, length, Option, Some, None, slice_get}
-use Rattle.kahn_streams.specs.{Inputs.inputs_of, Network.Network, Network.Reads, Network.Given, Network.Written, Network.actual_at, Network.instance_at, Network.network_of, Solution.Inputs, Solution.input_list, Solution.source, declared.value.Line.Line, declared.value.Line.TheVariants.Channel, declared.value.Line.TheVariants.Print, declared.value.Value.Value}
+use Rattle.kahn_streams.specs.{Inputs.inputs_of, Network.Schema, Network.Reads, Network.Given, Network.Written, Network.actual_at, Network.instance_at, Network.network_of, Solution.Inputs, Solution.input_list, Solution.source, declared.value.Line.Line, declared.value.Line.TheVariants.Channel, declared.value.Line.TheVariants.Print, declared.value.Value.Value}
 use Rattle.kahn_code.specs.{Cells.sent_on, Lines.taken_of, Progress.Paused, Progress.CellView, Progress.told_view, Standing.count, declared.progress.Pause.Pause}
 use Rattle.kahn_needs.specs.{Needs.Cut, Needs.held_in, Finding.IsNetworkLine, Finding.Seeking, inner.Bench.IsStopped, inner.Bench.AreSeatsOf, inner.Bench.Stood, inner.Bench.Seats, declared.search.Chain.Chain, declared.search.Demand.Demand, declared.search.Turn.Turn, declared.search.Sought.Sought}
 use Rattle.kahn_needs.specs.declared.search.Turn.TheVariants as turn
@@ -12,7 +12,7 @@ watch_of (Channel c) = Some c
 watch_of (Print p) = None
 
 -- with that cut there is a value at place k of line c
-abbrev pub HoldsAt : Network → Inputs → Cut → Line → ℕ → Type 0
+abbrev pub HoldsAt : Schema → Inputs → Cut → Line → ℕ → Type 0
 HoldsAt N I y c k = (n : ℕ) × (k < length (held_in N I y n c))
 
 -- the same in the network of seats

@@ -1,13 +1,13 @@
 -- Inner. A run over cells.
 use Rattle.std.specs.Prelude.{◌≡◌, ◌⊎◌, ℕ, ◌+◌, ◌<◌, ◌≤◌, Bool, true, false, List, length, map, sum_by, Option, Some, slice_get, slice_set}
 use Rattle.kahn_streams.specs.Script as script
-use Rattle.kahn_sequential.specs.inner.Below.{StoodBy, exec_on, Bound, Cut, Dry, End, Finished, Inputs, Line, Memory, More, Network, Pause, Paused, Reads, Store, Stream, Verdict, View, actual_at, ending, instance_at, source, stream_line}
+use Rattle.kahn_sequential.specs.inner.Below.{StoodBy, exec_on, Bound, Cut, Dry, End, Finished, Inputs, Line, Memory, More, Schema, Pause, Paused, Reads, Store, Stream, Verdict, View, actual_at, ending, instance_at, source, stream_line}
 use Rattle.kahn_streams.specs.Solution as net
 use Rattle.kahn_code.specs.declared.progress.Pause.TheVariants as pause
 use Rattle.kahn_sequential.specs.inner.Gathered.{view_at, TookAll, TookNoMore, HasUntaken, IsOutcomeOf, IsFrom}
 
 pub record RunState : Type 0 where
-  pub network : Network
+  pub network : Schema
   pub input : Inputs
   pub watch : Option ℕ
   pub cells : List View

@@ -1,6 +1,6 @@
 -- Inner. Ends that were noted, and the instances that were woken since.
 use Rattle.std.specs.Prelude.{◌≡◌, ◌⊎◌, ℕ, ◌<◌, false, true, List, length, Option, Some, None, slice_get}
-use Rattle.kahn_sequential.specs.inner.Below.{End, More, Network, Reads, Tapped, Writes, actual_at, instance_at, waiting_of}
+use Rattle.kahn_sequential.specs.inner.Below.{End, More, Schema, Reads, Tapped, Writes, actual_at, instance_at, waiting_of}
 use Rattle.kahn_sequential.specs.inner.Bench.{HasEndIn, RunState}
 use Rattle.kahn_sequential.specs.inner.Workbench.{IsSpent, IsSpentTap, Table, sight_of}
 use Rattle.kahn_sequential.specs.declared.{rounds.Round.Round, woken.Woken.Woken}
@@ -18,11 +18,11 @@ IsTakenFrom old None new = (new.known ≡ old.known) × ((p : ℕ) → IsWoken o
 IsTakenFrom old (Some r) new = (new.known ≡ old.known) × ((p : ℕ) → IsWoken old p → (p ≡ r) ⊎ IsWoken new p)
 
 -- it reads channel c
-abbrev pub IsReaderOf : Network → ℕ → ℕ → Type 0
+abbrev pub IsReaderOf : Schema → ℕ → ℕ → Type 0
 IsReaderOf N c p = (q : ℕ) × (actual_at (instance_at N p) q ≡ Reads c)
 
 -- nobody else does
-abbrev pub IsOnlyReader : Network → ℕ → Option ℕ → Type 0
+abbrev pub IsOnlyReader : Schema → ℕ → Option ℕ → Type 0
 IsOnlyReader N c None = (p : ℕ) → IsReaderOf N c p → ⊥
 IsOnlyReader N c (Some r) = (p : ℕ) → IsReaderOf N c p → p ≡ r
 

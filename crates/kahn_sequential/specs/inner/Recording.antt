@@ -1,6 +1,6 @@
 -- Inner. What is kept of the channels in a run on one thread, beside its bench.
 use Rattle.std.specs.Prelude.{◌≡◌, ◌⊎◌, ℕ, ◌<◌, ◌≤◌, List, length, Option, Some, slice_get}
-use Rattle.kahn_sequential.specs.inner.Below.{AreKeptTokens, Channel, Inner, Input, Inputs, IsOf, IsReader, IsRight, IsWriter, Lists, Network, Program, Queues, Reads, Side, StoodBy, Stream, Token, Waiting, Writes, actual_at, given_of, inputs_of, instance_at, network_of, role_at, source, taken_of}
+use Rattle.kahn_sequential.specs.inner.Below.{AreKeptTokens, Channel, Inner, Input, Inputs, IsOf, IsReader, IsRight, IsWriter, Lists, Schema, Program, Queues, Reads, Side, StoodBy, Stream, Token, Waiting, Writes, actual_at, given_of, inputs_of, instance_at, network_of, role_at, source, taken_of}
 use Rattle.kahn_sequential.specs.{Recordings.AreCountsIn, Recordings.AreHistoriesIn, declared.counted.Count.Count, declared.counted.Counted.Counted, declared.recorded.Recorded.Recorded, inner.Bench.RunState, inner.Gathered.IsGiven, inner.Gathered.view_at, inner.Streams.IsOpenStream, inner.Workbench.Table}
 
 -- what the cell of p says of its process is true
@@ -10,23 +10,23 @@ StoodIn s p = StoodBy s.network s.input s.watch p (view_at s.cells p)
 -- ---- turns
 
 -- instance p doesn't read channel c
-abbrev pub IsReadByOthers : Network → ℕ → ℕ → Type 0
+abbrev pub IsReadByOthers : Schema → ℕ → ℕ → Type 0
 IsReadByOthers N p c = (r : Side) → IsReader N c r → r.instance ≡ p → ⊥
 
 -- and doesn't write it
-abbrev pub IsWrittenByOthers : Network → ℕ → ℕ → Type 0
+abbrev pub IsWrittenByOthers : Schema → ℕ → ℕ → Type 0
 IsWrittenByOthers N p c = (w : Side) → IsWriter N c w → w.instance ≡ p → ⊥
 
 -- the process that writes channel c doesn't read it
-abbrev pub HasOthers : Network → ℕ → Type 0
+abbrev pub HasOthers : Schema → ℕ → Type 0
 HasOthers N c = (w : Side) → IsWriter N c w → IsReadByOthers N w.instance c
 
 -- no process reads a channel that it writes
-abbrev pub ReadsNoOwn : Network → Type 0
+abbrev pub ReadsNoOwn : Schema → Type 0
 ReadsNoOwn N = (c : ℕ) → c < length N.channels → HasOthers N c
 
 -- a turn has one event at most, or else no process takes in it what it sends
-abbrev pub TakesTurns : Network → ℕ → Type 0
+abbrev pub TakesTurns : Schema → ℕ → Type 0
 TakesTurns N quantum = (quantum ≤ 1) ⊎ ReadsNoOwn N
 
 -- ---- streams

@@ -1,5 +1,5 @@
 -- Inner. What is open behind lexemes: what the code calls the parts of the grammar, and what terminals do to them, one after another.
-use Rattle.std.specs.Prelude.{◌≡◌, ℕ, ℤ, Bool, List, [], ◌∷◌, ◌++◌, Option, Some, None, Result, Ok, Err, is_some, map}
+use Rattle.std.specs.Prelude.{◌≡◌, ◌&&◌, ℕ, ℤ, Bool, List, [], ◌∷◌, ◌++◌, Option, Some, None, Result, Ok, Err, if◌then◌else◌, is_some, length, map, nat_le, slice_range}
 use Rattle.std.specs.Borrow.{Bor}
 use Rattle.kahn_syntax.specs.{declared.lexeme.Class.Class, Grammar.Terminal, Grammar.word, Grammar.numeral, Grammar.name, Texts.sign_terminal}
 use Rattle.kahn_syntax.specs.declared.lexeme.Class.TheVariants as class
@@ -55,15 +55,26 @@ abbrev pub awaited_parts : List Awaited → List Part
 awaited_parts [] = []
 awaited_parts (p ∷ ps) = awaited_parts ps ++ awaited_part p ∷ []
 
-abbrev pub rule_of : Lead × Bor (List Awaited) → Rule
-rule_of r = (lead_of r.0, awaited_parts r.1.now)
+-- the operators that may follow an operand, from a number on, as far as another
+abbrev pub all_operators : List Awaited
+all_operators = awaited.Ors ∷ awaited.Ands ∷ awaited.Comparison ∷ awaited.Signs ∷ awaited.Products ∷ []
 
-abbrev pub rules_as : List (Lead × Bor (List Awaited)) → List Rule
-rules_as rs = map rule_of rs
+abbrev pub operators_between : ℕ → ℕ → List Awaited
+operators_between from to = if nat_le from to && nat_le to (length all_operators) then slice_range all_operators from to else []
 
-abbrev pub rules_by : Result (Bor (List (Lead × Bor (List Awaited)))) Lead → List Rule
-rules_by (Ok rs) = rules_as rs.now
+abbrev pub rule_of : ℕ → Lead × ℕ × Bor (List Awaited) → Rule
+rule_of from r = (lead_of r.0, awaited_parts (operators_between from r.1 ++ r.2.now))
+
+abbrev pub rules_as : ℕ → List (Lead × ℕ × Bor (List Awaited)) → List Rule
+rules_as from rs = map (rule_of from) rs
+
+abbrev pub rules_by : Result (ℕ × Bor (List (Lead × ℕ × Bor (List Awaited)))) Lead → List Rule
+rules_by (Ok r) = rules_as r.0 r.1.now
 rules_by (Err l) = (lead_of l, []) ∷ []
+
+-- what is open behind a lexeme, with the operators behind it
+abbrev pub opened_parts : Bor (List Awaited) × Bor (List Awaited) → List Part
+opened_parts o = awaited_parts (o.0.now ++ o.1.now)
 
 -- what is open behind a terminal: nothing where it can't stand
 abbrev pub left_open : Option (List Part) → List Part

@@ -1,31 +1,82 @@
 //! The causes of a run, each with those that wait because of it, or each instance with its cause.
 
-use crate::why::story::{Story, led_to, source_of};
-use crate::why::waits::channel_waits;
-use crate::why::words::{add_led, add_those, add_wait, add_who, advice, for_ever};
+use crate::why::words::{
+    Story, add_led, add_those, add_wait, add_who, advice, for_ever, led_to, source_of,
+};
 use itoa::Buffer;
 use kahn_chain::{Cause, Reason};
-use kahn_marks::{MOST_NOTES, Other, Sort, add, add_more, first_ones, render, simple};
-use kahn_streams::{Failure, Outcome, Span};
+use kahn_marks::{MOST_NOTES, Other, Sort, add, add_more, first_ones, part_of, render, simple};
+use kahn_streams::{Failure, Outcome, Process, Span};
+use kahn_syntax::{Class, Keyword, Lexeme, SyntaxFault, lex};
 use kahn_texts::process_name;
 use kahn_warnings::fault_places;
-use std::alloc::AllocError;
+use std::alloc::{AllocError, Global};
+
+/// The waits on the parameter of that name in the text of a process, of which these lexemes follow its name.
+fn waits_on(
+    alloc: Global,
+    text: &str,
+    lexemes: &[Lexeme],
+    name: &str,
+) -> Result<Vec<Span>, AllocError> {
+    let mut places = Vec::new(alloc);
+    for (number, lexeme) in lexemes.iter().enumerate() {
+        let waited = lexemes.get(number.saturating_add(2));
+        let close = lexemes.get(number.saturating_add(3));
+        match (lexeme.what, waited, close) {
+            (Class::Word(Keyword::Process), _, _) => return Ok(places),
+            (Class::Word(Keyword::Wait), Some(waited), Some(close)) => {
+                if part_of(text, waited.span) == name {
+                    let (from, to) = (lexeme.span.from, close.span.to);
+                    places.push(Span { from, to })?;
+                }
+            }
+            _ => {}
+        }
+    }
+    Ok(places)
+}
+
+/// Where an instance of a process waits on a channel, in the order of the program text.
+fn channel_waits(
+    story: &Story<'_>,
+    instance: usize,
+    process: &Process,
+    channel: usize,
+) -> Result<Vec<Span>, AllocError> {
+    let none = Vec::new(story.alloc);
+    if channel >= story.network.channels() {
+        return Ok(none);
+    }
+    let parameter = match story.network.reader(channel) {
+        Some(side) if side.instance == instance => process.parameters.get(side.parameter),
+        _ => None,
+    };
+    let lexemes = match lex(story.alloc, story.program) {
+        Ok(lexemes) => lexemes,
+        Err(SyntaxFault::NoMemory) => return Err(AllocError),
+        Err(_) => return Ok(none),
+    };
+    let from = process.name.span.from;
+    let first = lexemes.partition_point(|lexeme| lexeme.span.from < from);
+    match (parameter, lexemes.get(first..)) {
+        (Some(parameter), Some(rest)) => {
+            let name = parameter.name.text.as_str();
+            waits_on(story.alloc, story.program, rest, name)
+        }
+        _ => Ok(none),
+    }
+}
 
 /// Where an instance waits, or where its fault can have come from, in the order of the text.
 fn places_of(story: &Story<'_>, reason: &Reason) -> Result<Vec<Span>, AllocError> {
-    let (network, instance) = (story.network, reason.instance);
-    if instance >= network.instances() {
+    if reason.instance >= story.network.instances() {
         return Ok(Vec::new(story.alloc));
     }
+    let process = story.network.instance(reason.instance).process;
     match reason.end.outcome {
-        Outcome::Waits(channel) if channel < network.channels() => {
-            let (text, lexemes) = (story.program, story.lexemes);
-            channel_waits(story.alloc, network, text, lexemes, instance, channel)
-        }
-        Outcome::Faulted(kind) => {
-            let statements = &network.instance(instance).process.statements;
-            fault_places(story.alloc, kind, statements)
-        }
+        Outcome::Waits(channel) => channel_waits(story, reason.instance, process, channel),
+        Outcome::Faulted(kind) => fault_places(story.alloc, kind, &process.statements),
         _ => Ok(Vec::new(story.alloc)),
     }
 }
@@ -101,15 +152,15 @@ fn add_faulted(
     reason: &Reason,
     kind: Failure,
 ) -> Result<Vec<Span>, AllocError> {
-    add_who(words, story.network, reason.instance)?;
-    words.push_str(match kind {
+    let does = match kind {
         Failure::Overflow => " has a fault, overflow",
         Failure::Division => " has a fault, division",
-    })?;
+    };
+    add_who(words, story.network, reason.instance, &[does])?;
     match told_before(story, reason, kind) {
         Some(before) => {
             words.push_str(": see ")?;
-            add_who(words, story.network, before)?;
+            add_who(words, story.network, before, &[])?;
             Ok(Vec::new(story.alloc))
         }
         None => places_of(story, reason),
@@ -142,7 +193,7 @@ fn add_reason(
         Outcome::More => {
             let mut buffer = Buffer::new();
             let events = reason.end.events;
-            add_who(&mut words, story.network, reason.instance)?;
+            add_who(&mut words, story.network, reason.instance, &[])?;
             add(&mut words, &[" wants more, after ", buffer.format(events)])?;
             words.push_str(if events == 1 { " event" } else { " events" })?;
         }
@@ -179,8 +230,7 @@ fn add_cause(text: &mut String, story: &Story<'_>, instance: usize) -> Result<()
         (Some(reason), _) => add_reason(text, story, reason, &waiting),
         (None, Some(first)) => {
             let mut words = String::new(story.alloc);
-            add_who(&mut words, story.network, instance)?;
-            words.push_str(" has ended")?;
+            add_who(&mut words, story.network, instance, &[" has ended"])?;
             let below = below(story, first, &waiting)?;
             add_error(text, story, words.as_str(), &[], below)
         }

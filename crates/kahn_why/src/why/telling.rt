@@ -7,14 +7,13 @@ ghost use Rattle.kahn_chain.specs.Chain.{AreStandings, stands};
 ghost use Rattle.kahn_why.specs.Why.{AreCauses, BeginsWith, IsExplained, standings_of};
 
 use crate::why::lines::add_causes;
-use crate::why::story::Story;
 use crate::why::told::{Explanation, Finding, came_to, is_silent};
 use crate::why::verdict::finding_words;
+use crate::why::words::Story;
 use itoa::Buffer;
-use kahn_chain::{Reason, reasons};
+use kahn_chain::reasons;
 use kahn_marks::add;
 use kahn_streams::{Answer, End, Input, Network, Verdict};
-use kahn_syntax::{Lexeme, SyntaxFault, lex};
 use std::alloc::{AllocError, Global};
 
 /// Adds the last line of the report of an answer.
@@ -31,54 +30,28 @@ fn add_last(text: &mut String, answer: &Answer) -> Result<(), AllocError>
     add(text, &[word, events, "\n"])
 }
 
-/// The lexemes of a program text, or none where it has a fault.
-fn lexemes_of(alloc: Global, program: &str) -> Result<Vec<Lexeme>, AllocError> {
-    match lex(alloc, program) {
-        Ok(lexemes) => Ok(lexemes),
-        Err(SyntaxFault::NoMemory) => Err(AllocError),
-        Err(_) => Ok(Vec::new(alloc)),
-    }
-}
-
 /// What a run came to, in a line, and each cause once, or each instance.
 fn words(
-    alloc: Global,
-    path: &str,
-    program: &str,
-    network: &Network,
-    fed: Option<&Input>,
-    verdict: Verdict,
-    reasons: &[Reason],
+    story: &Story<'_>,
     finding: Finding,
     instances: usize,
     each: bool,
 ) -> Result<String, AllocError>
     ensures { IfOk result (λ text. BeginsWith finding (string_bytes text)) }
 {
-    let lexemes = lexemes_of(alloc, program)?;
-    let story = Story {
-        alloc,
-        path,
-        program,
-        lexemes: &lexemes,
-        network,
-        fed,
-        verdict,
-        reasons,
-    };
-    let mut text = finding_words(&story, finding)?;
-    let mut behind = String::from_str(alloc, "\n")?;
-    add_causes(&mut behind, &story, instances, each)?;
+    let mut text = finding_words(story, finding)?;
+    let mut behind = String::from_str(story.alloc, "\n")?;
+    add_causes(&mut behind, story, instances, each)?;
     text.push_str(behind.as_str())?;
     Ok(text)
 }
 
 /// Adds how a run with this verdict can go on.
 fn add_way_on(text: &mut String, verdict: Verdict) -> Result<(), AllocError> {
-    match verdict {
-        Verdict::Bound => text.push_str("--bound N with a greater N lets the run go on\n"),
-        _ => Ok(()),
-    }
+    text.push_str(match verdict {
+        Verdict::Bound => "--bound N with a greater N lets the run go on\n",
+        Verdict::Finished | Verdict::Memory => "",
+    })
 }
 
 /// Why the run of an answer stopped, told by its causes or for each instance.
@@ -97,10 +70,16 @@ fn told(
     let verdict = answer.verdict;
     let reasons = reasons(alloc, network, verdict, &answer.ends)?;
     let told = came_to(verdict, &reasons);
-    let count = answer.ends.len();
-    let mut text = words(
-        alloc, path, program, network, fed, verdict, &reasons, told, count, each,
-    )?;
+    let story = Story {
+        alloc,
+        path,
+        program,
+        network,
+        fed,
+        verdict,
+        reasons: &reasons,
+    };
+    let mut text = words(&story, told, answer.ends.len(), each)?;
     add_way_on(&mut text, verdict)?;
     add_last(&mut text, answer)?;
     Ok(Explanation {
@@ -112,11 +91,11 @@ fn told(
 
 /// What came of a run of the network of a program text that ended so, in a line, and each cause, as `explained` tells them; nothing where
 /// all processes have ended or wait for input. It refuses only where memory was refused.
-pub fn causes(
+pub fn causes<'a>(
     alloc: Global,
-    path: &str,
-    program: &str,
-    network: &Network,
+    path: &'a str,
+    program: &'a str,
+    network: &'a Network,
     verdict: Verdict,
     ends: &[End],
 ) -> Result<String, AllocError>
@@ -128,10 +107,17 @@ pub fn causes(
     if is_silent(finding) {
         return Ok(String::new(alloc));
     }
-    let count = ends.len();
-    words(
-        alloc, path, program, network, None, verdict, &reasons, finding, count, false,
-    )
+    let fed: Option<&'a Input> = None;
+    let story = Story {
+        alloc,
+        path,
+        program,
+        network,
+        fed,
+        verdict,
+        reasons: &reasons,
+    };
+    words(&story, finding, ends.len(), false)
 }
 
 /// Why the run of an answer of the network of a program text stopped, by the input that it was fed, where that is known: a line with

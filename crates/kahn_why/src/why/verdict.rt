@@ -3,9 +3,8 @@
 ghost use Rattle.std.specs.Prelude.{◌≡◌, ◌++◌, IfOk, string_bytes};
 ghost use Rattle.kahn_why.specs.Why.{BeginsWith, finding_lead};
 
-use crate::why::story::{Story, led_to};
 use crate::why::told::{Finding, is_fault};
-use crate::why::words::{add_count, add_those};
+use crate::why::words::{Story, add_count, add_those, is_fed, led_to};
 use itoa::Buffer;
 use kahn_chain::{Cause, Reason};
 use kahn_marks::add;
@@ -92,16 +91,12 @@ fn is_all_taken(story: &Story<'_>) -> bool {
     let Some(input) = story.fed else {
         return false;
     };
-    let mut is_some = false;
     for channel in 0..story.network.channels() {
-        if input.count(channel) > 0 {
-            if !is_awaited(story.reasons, channel) {
-                return false;
-            }
-            is_some = true;
+        if input.count(channel) > 0 && !is_awaited(story.reasons, channel) {
+            return false;
         }
     }
-    is_some
+    is_fed(story.network, input)
 }
 
 /// What stands behind the first words.

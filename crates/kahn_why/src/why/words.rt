@@ -1,15 +1,55 @@
-//! How instances stand, in words.
+//! What a run is told by, who waits because of whom, and how instances stand, in words.
 
-use crate::why::story::{Story, source_of};
 use itoa::Buffer;
 use kahn_chain::{Cause, Reason, Standing};
 use kahn_marks::{add, add_spot};
-use kahn_streams::{Network, Span, Verdict};
+use kahn_streams::{Input, Network, Span, Verdict};
 use kahn_texts::{channel_name, process_name};
-use std::alloc::AllocError;
+use std::alloc::{AllocError, Global};
 
 // Of so many instances all are named.
 const MOST_NAMED: usize = 4;
+
+/// What a run is told by.
+#[derive(Clone, Copy)]
+pub(crate) struct Story<'a> {
+    pub alloc: Global,
+    /// What the program text is called.
+    pub path: &'a str,
+    /// The program text.
+    pub program: &'a str,
+    /// Its network.
+    pub network: &'a Network,
+    /// What it was fed, where that is known.
+    pub fed: Option<&'a Input>,
+    /// How it ended.
+    pub verdict: Verdict,
+    /// Why each instance goes no further that hasn't ended.
+    pub reasons: &'a [Reason],
+}
+
+/// The instance at which a cause is.
+pub(crate) fn source_of(cause: Cause) -> usize {
+    match cause {
+        Cause::Input(one, _) | Cause::Stopped(one, _) | Cause::Ring(one) => one,
+    }
+}
+
+/// Those whose waits lead to an instance: the ones on its ring, or the others.
+pub(crate) fn led_to(
+    story: &Story<'_>,
+    instance: usize,
+    is_on_ring: bool,
+) -> Result<Vec<Reason>, AllocError> {
+    let mut those = Vec::new(story.alloc);
+    for reason in story.reasons {
+        let is_led = source_of(reason.cause) == instance && reason.is_on_ring == is_on_ring;
+        if is_led && (is_on_ring || reason.instance != instance) {
+            those.push(*reason)?;
+        }
+    }
+    Ok(those)
+}
 
 /// Adds a number, and a word for one or for several.
 pub(crate) fn add_count(
@@ -23,14 +63,16 @@ pub(crate) fn add_count(
     text.push_str(if count == 1 { one } else { several })
 }
 
-/// Adds an instance, by its number and its process.
+/// Adds an instance, by its number and its process, and what it does.
 pub(crate) fn add_who(
     text: &mut String,
     network: &Network,
     instance: usize,
+    does: &[&str],
 ) -> Result<(), AllocError> {
     add_count(text, instance.saturating_add(1), " ", " ")?;
-    text.push_str(process_name(network, instance))
+    text.push_str(process_name(network, instance))?;
+    add(text, does)
 }
 
 /// Adds instances by their names, or how many they are, where they are many, and what they do.
@@ -46,10 +88,10 @@ pub(crate) fn add_those(
         return text.push_str(several);
     }
     for (place, reason) in those.iter().enumerate() {
-        let left = those.len().saturating_sub(place);
-        let lead = if left == 1 { " and " } else { ", " };
+        let is_last = those.len().saturating_sub(place) == 1;
+        let lead = if is_last { " and " } else { ", " };
         text.push_str(if place == 0 { "" } else { lead })?;
-        add_who(text, network, reason.instance)?;
+        add_who(text, network, reason.instance, &[])?;
     }
     text.push_str(if those.len() == 1 { one } else { several })
 }
@@ -59,20 +101,32 @@ pub(crate) fn for_ever(reason: &Reason) -> &'static str {
     if reason.lasts { ": for ever" } else { "" }
 }
 
+/// Whether there was input.
+pub(crate) fn is_fed(network: &Network, input: &Input) -> bool {
+    for channel in 0..network.channels() {
+        if input.count(channel) > 0 {
+            return true;
+        }
+    }
+    false
+}
+
 /// Adds that one waits on an input, and how many values came, all of which are taken, where that is known.
 fn add_input(text: &mut String, story: &Story<'_>, channel: usize) -> Result<(), AllocError> {
     text.push_str(", an input")?;
-    match (story.verdict, story.fed) {
-        (Verdict::Memory, _) | (_, None) => Ok(()),
-        (_, Some(input)) if input.count(channel) == 0 => {
-            text.push_str(", to which nothing came: --input FILE brings values")
-        }
-        (_, Some(input)) if input.count(channel) == 1 => {
-            text.push_str(", of which the one value is taken")
-        }
-        (_, Some(input)) => {
+    let Some(input) = story.fed else {
+        return Ok(());
+    };
+    match input.count(channel) {
+        _ if matches!(story.verdict, Verdict::Memory) => Ok(()),
+        0 if is_fed(story.network, input) => text.push_str(
+            ", to which nothing came: the input text has no values for it",
+        ),
+        0 => text.push_str(", to which nothing came: --input FILE brings values"),
+        1 => text.push_str(", of which the one value is taken"),
+        count => {
             text.push_str(", of which all ")?;
-            add_count(text, input.count(channel), "", " values are taken")
+            add_count(text, count, "", " values are taken")
         }
     }
 }
@@ -87,16 +141,13 @@ fn writer_of(network: &Network, channel: usize) -> Option<usize> {
 
 /// Adds places, where there are any: the first, and two more or how many more there are.
 fn add_spots(text: &mut String, source: &str, places: &[Span]) -> Result<(), AllocError> {
-    let Some((first, others)) = places.split_first() else {
-        return Ok(());
-    };
-    add_spot(text, " at ", source, first.from)?;
-    if others.len() > 2 {
-        text.push_str(" or ")?;
-        return add_count(text, others.len(), "", " places more");
-    }
-    for place in others {
-        add_spot(text, " or ", source, place.from)?;
+    for (number, place) in places.iter().enumerate() {
+        if number == 1 && places.len() > 3 {
+            text.push_str(" or ")?;
+            return add_count(text, places.len().saturating_sub(1), "", " places more");
+        }
+        let lead = if number == 0 { " at " } else { " or " };
+        add_spot(text, lead, source, place.from)?;
     }
     Ok(())
 }
@@ -109,14 +160,13 @@ pub(crate) fn add_wait(
     channel: usize,
     places: &[Span],
 ) -> Result<(), AllocError> {
-    add_who(text, story.network, instance)?;
-    text.push_str(" waits on ")?;
-    text.push_str(channel_name(story.network, channel))?;
+    let name = channel_name(story.network, channel);
+    add_who(text, story.network, instance, &[" waits on ", name])?;
     add_spots(text, story.program, places)?;
     match writer_of(story.network, channel) {
         Some(writer) => {
             text.push_str(" from ")?;
-            add_who(text, story.network, writer)
+            add_who(text, story.network, writer, &[])
         }
         None => add_input(text, story, channel),
     }
@@ -133,23 +183,18 @@ pub(crate) fn add_led(
         return Ok(());
     }
     text.push_str(", as ")?;
-    add_who(text, network, source)?;
-    match reason.cause {
+    let words = match reason.cause {
         Cause::Input(_, channel) => {
             let name = channel_name(network, channel);
-            add(text, &[" waits on ", name, ", an input"])
+            return add_who(text, network, source, &[" waits on ", name, ", an input"]);
         }
-        Cause::Stopped(_, standing) => {
-            let words = match standing {
-                Standing::Ended => " has ended",
-                Standing::Waits(_) => "",
-                Standing::Faulted => " has a fault",
-                Standing::More => " wants more events",
-            };
-            add(text, &[words, for_ever(reason)])
-        }
-        Cause::Ring(_) => add(text, &[" is in a deadlock", for_ever(reason)]),
-    }
+        Cause::Stopped(_, Standing::Ended) => " has ended",
+        Cause::Stopped(_, Standing::Faulted) => " has a fault",
+        Cause::Stopped(_, Standing::More) => " wants more events",
+        Cause::Stopped(_, Standing::Waits(_)) => "",
+        Cause::Ring(_) => " is in a deadlock",
+    };
+    add_who(text, network, source, &[words, for_ever(reason)])
 }
 
 /// What mends a ring, said of the instance in it with the least number, which waits on the channel.

@@ -1,4 +1,5 @@
-use Rattle.kahn_check.proofs.Common.{arith, ◌≡◌, ◌+◌, ◌∷◌, ◌++◌, [], drop, ap, ◌∙◌, subst, common_steps, append-nil, StandAlike, known, entries, declared_of}
+use Rattle.kahn_check.proofs.Common.{arith, ◌≡◌, ◌+◌, ◌∷◌, [], drop, ◌∙◌, sym, append-nil, common_steps}
+use Rattle.kahn_check.proofs.Global_names.{there}
 use Rattle.kahn_check.proofs.part.add_declarations.Goals as goal
 
 pub loop-number-preserved : goal.loop-number-preserved
@@ -6,14 +7,20 @@ loop-number-preserved c =
     let ds = c.args.program.now.declarations.items in
     let k = c.loop-number.number in
     let split : drop k ds ≡ c.declaration-item.result ∷ drop (k + 1) ds = grind (arith, common_steps) in
+    let at = there k ds c.declaration-item.result (drop (k + 1) ds) split in
     let told = rw split at c.loop-number.invariant.told in
-    let alike = rw split at c.loop-number.invariant.alike in
-    let h = c.in_ok-count.ensures in
-    record { limit = h.limit; told = h.told (drop (k + 1) ds) ∙ told; alike = λ x. h.alike (drop (k + 1) ds) x ∙ alike x }
+    let table = rw split at c.loop-number.invariant.table in
+    let h = c.in_ok-room.ensures in
+    record { told = h.told.told (drop (k + 1) ds) ∙ told; table = h.told.table (drop (k + 1) ds) ∙ table; placed = h.placed ds c.loop-number.invariant.placed at }
 
-pub returns-clause-alike : goal.returns-clause-alike
-returns-clause-alike c =
-    let ds = c.args.program.now.declarations.items in
-    let g = known c.loop-number.globals in
-    let none : drop c.loop-number.number ds ≡ [] = grind (arith, common_steps) in
-    subst (λ z. StandAlike z (entries (declared_of ds))) (ap (λ z. g ++ entries (declared_of z)) none ∙ append-nil g) c.loop-number.invariant.alike
+pub returns-clause-told : goal.returns-clause-told
+returns-clause-told c =
+    let none : drop c.loop-number.number c.args.program.now.declarations.items ≡ [] = grind (arith, common_steps) in
+    let told = rw none at c.loop-number.invariant.told in
+    sym (append-nil _) ∙ told
+
+pub returns-clause-known : goal.returns-clause-known
+returns-clause-known c =
+    let none : drop c.loop-number.number c.args.program.now.declarations.items ≡ [] = grind (arith, common_steps) in
+    let table = rw none at c.loop-number.invariant.table in
+    sym (append-nil _) ∙ table

@@ -1,4 +1,4 @@
-use Rattle.kahn_check.proofs.Common.{◌≡◌, ◌≤◌, ◌++◌, [], drop, declaration_parts, firsts, StandAlike, known, most_channels, entries, declared_of}
+use Rattle.kahn_check.proofs.Common.{◌≡◌, ◌++◌, [], drop, name_parts, firsts, known, most_channels, entries, declared_of, ArePlaced}
 use Rattle.kahn_check.proofs.part.add_declarations.Given as goal
 
 abbrev pub invariant-loop-number : goal.invariant-loop-number
@@ -6,7 +6,7 @@ invariant-loop-number l =
     let ds = l.program.declarations.items in
     let rest = drop l.number ds in
     record {
-      limit : l.count ≤ most_channels;
-      told : l.faults.items ++ firsts (declaration_parts (known l.globals) l.count rest) ≡ l.fn.faults.items ++ firsts (declaration_parts [] 0 ds);
-      alike : StandAlike (known l.globals ++ entries (declared_of rest)) (entries (declared_of ds));
+      told : l.faults.items ++ firsts (name_parts (known l.globals) l.room (declared_of rest)) ≡ l.fn.faults.items ++ firsts (name_parts [] most_channels (declared_of ds));
+      table : known l.globals ++ entries (declared_of rest) ≡ entries (declared_of ds);
+      placed : ArePlaced ds l.globals;
     }

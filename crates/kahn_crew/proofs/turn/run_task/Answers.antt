@@ -1,4 +1,4 @@
-use Rattle.kahn_crew.proofs.Common.{arith, ◌≡◌, ◌⊎◌, ℕ, ◌+◌, ◌-◌, inl, inr, ⊎_elim, refl, sym, ap, ◌∙◌, subst, Result, Ok, Err, OnOk, OnErr, Network, network_of, end_at, IsDelivered, Work, standing_after, IsAtWork, IsPause}
+use Rattle.kahn_crew.proofs.Common.{arith, ◌≡◌, ◌⊎◌, ℕ, ◌+◌, ◌-◌, inl, inr, ⊎_elim, refl, sym, ap, ◌∙◌, subst, Result, Ok, Err, OnOk, OnErr, Schema, network_of, end_at, IsDelivered, Work, standing_after, IsAtWork, IsPause}
 use Rattle.kahn_streams.specs.{Meaning.Store, Script.ScriptOutcome}
 use Rattle.kahn_code.specs.{declared.progress.Pause.Pause, Cells.exec_on}
 use Rattle.kahn_job.specs.inner.Ends.{IsDry, IsReady}
@@ -12,7 +12,7 @@ either_of (Ok u) p q = inr p
 either_of (Err e) p q = inl q
 
 -- after a pause of one that may go on the quantum is used up, or memory was refused
-going_spent : (N : Network) (p : ℕ) (dry ready : ℕ → Type 0) (S H : Type 0) (z : Pause) (o : ScriptOutcome Store) →
+going_spent : (N : Schema) (p : ℕ) (dry ready : ℕ → Type 0) (S H : Type 0) (z : Pause) (o : ScriptOutcome Store) →
     standing_after z ≡ standing.Going → IsPause N p dry ready S z o → (z ≡ pause.NoMemory → H) → S ⊎ H
 going_spent N p dry ready S H pause.Spent o e says halts = inl says.0
 going_spent N p dry ready S H pause.NoMemory o e says halts = inr (halts refl)

@@ -10,7 +10,7 @@ returns-then-found-clause-told c =
     let text = c.args.text.now in
     let faults = c.args.faults.now in
     let shown = c.first_ones.result.0.now in
-    let first : shown ≡ take c.most_told.result c.in_ok-told.told.items = c.first_ones.ensures.first ∙ ap (take c.most_told.result) c.deref-2.ensures.value in
+    let first : shown ≡ take c.most_told.result c.in_ok-told.told.items = c.first_ones.ensures.first ∙ ap (take c.most_told.result) c.deref-4.ensures.value in
     let below : c.loop-fault.fault-index < length shown = omega arith in
     let among = shown_among faults c.in_ok-told.told.items shown c.most_told.result first c.in_ok-told.ensures.among in
     let has = All-get_or (Contains faults) shown c.loop-fault.fault-index (DeclaredTwice (record { from = 0; to = 0 })) below among in
@@ -24,7 +24,7 @@ loop-fault-preserved c =
     let text = c.args.text.now in
     let faults = c.args.faults.now in
     let shown = c.first_ones.result.0.now in
-    let first : shown ≡ take c.most_told.result c.in_ok-told.told.items = c.first_ones.ensures.first ∙ ap (take c.most_told.result) c.deref-2.ensures.value in
+    let first : shown ≡ take c.most_told.result c.in_ok-told.told.items = c.first_ones.ensures.first ∙ ap (take c.most_told.result) c.deref-4.ensures.value in
     let below : c.loop-fault.fault-index < length shown = omega arith in
     let among = shown_among faults c.in_ok-told.told.items shown c.most_told.result first c.in_ok-told.ensures.among in
     let has = All-get_or (Contains faults) shown c.loop-fault.fault-index (DeclaredTwice (record { from = 0; to = 0 })) below among in
@@ -34,7 +34,7 @@ loop-fault-preserved c =
 pub returns-clause-some : goal.returns-clause-some
 returns-clause-some c = λ none.
     let shown = c.first_ones.result.0.now in
-    let first : shown ≡ take c.most_told.result c.in_ok-told.told.items = c.first_ones.ensures.first ∙ ap (take c.most_told.result) c.deref-2.ensures.value in
+    let first : shown ≡ take c.most_told.result c.in_ok-told.told.items = c.first_ones.ensures.first ∙ ap (take c.most_told.result) c.deref-4.ensures.value in
     let zero = c.loop-fault.invariant.1 none in
     let empty : length shown ≡ 0 = omega (arith, zero) in
     c.in_ok-told.ensures.some (none_shown c.in_ok-told.told.items shown c.most_told.result c.most_told.ensures first empty)

@@ -14,4 +14,5 @@ returns c =
     let nine = c.in_ok-arg-9.ensures.shape c.flag_arg-4.ensures.local ∙ ap₂ with_rule eight c.flag_arg-4.ensures.rule in
     let ten = c.in_ok-arg-10.ensures.shape c.flag_arg-5.ensures.local ∙ ap₂ with_rule nine c.flag_arg-5.ensures.rule in
     let eleven = c.in_ok-arg-11.ensures.shape c.text_arg.ensures.local ∙ ap₂ with_rule ten c.text_arg.ensures.rule in
-    IfOk-weaker c.arg-12.result _ _ (λ r h. h.shape c.text_arg-2.ensures.local ∙ ap₂ with_rule eleven c.text_arg-2.ensures.rule) c.arg-12.ensures
+    let twelve = c.in_ok-arg-12.ensures.shape c.text_arg-2.ensures.local ∙ ap₂ with_rule eleven c.text_arg-2.ensures.rule in
+    IfOk-weaker c.arg-13.result _ _ (λ r h. h.shape c.flag_arg-6.ensures.local ∙ ap₂ with_rule twelve c.flag_arg-6.ensures.rule) c.arg-13.ensures

@@ -20,6 +20,7 @@ returns g c =
           (c.in_ok-file_copied.ensures ∙ ap (option_map file_named) c.get_str.ensures) (c.in_ok-file_copied-2.ensures ∙ ap (option_map file_named) c.get_str-2.ensures) c.in_ok-config_of.ensures
           (c.was_given.ensures ∙ ap was_given c.get_str-3.ensures) (c.was_given-2.ensures ∙ ap was_given c.get_str-4.ensures)
           (c.was_given-3.ensures ∙ ap was_given c.get_str-5.ensures) (c.was_given-4.ensures ∙ ap was_given c.get_str-6.ensures)
-          (c.was_given-5.ensures ∙ ap was_given c.get_str-7.ensures) (c.in_ok-copied.ensures ∙ c.get_str-8.ensures) (c.in_ok-copied-2.ensures ∙ c.get_str-9.ensures),
+          (c.was_given-5.ensures ∙ ap was_given c.get_str-7.ensures) (c.in_ok-copied.ensures ∙ c.get_str-8.ensures) (c.in_ok-copied-2.ensures ∙ c.get_str-9.ensures)
+          (c.was_given-6.ensures ∙ ap was_given c.get_str-10.ensures),
       ap (λ (a : App). fault_of a words) (sym is) ∙ faults,
     )

@@ -1,6 +1,4 @@
-use Rattle.std.proofs.Common.{subst}
-use Rattle.kahn_streams.specs.declared.tree.Program.{Program}
-use Rattle.kahn_live.specs.Course.{IsRefusedPart}
+use Rattle.kahn_live.proofs.Common.{subst, Program, IsRefusedPart}
 use Rattle.kahn_live.proofs.complaint.tell_new_refusal.Goals as goal
 
 pub returns : goal.returns

@@ -1,6 +1,4 @@
-use Rattle.std.proofs.Common.{◌∙◌, Bool, subst, sym}
-use Rattle.std.specs.Prelude.{option_copied}
-use Rattle.kahn_live.specs.Course.{IsComplaint, IsHintBy, telling_of}
+use Rattle.kahn_live.proofs.Common.{◌∙◌, Bool, subst, sym, option_copied, IsComplaint, IsHintBy, telling_of}
 use Rattle.kahn_live.proofs.complaint.tell_refused.Goals as goal
 
 pub returns-then-is_again : goal.returns-then-is_again

@@ -1,5 +1,4 @@
-use Rattle.std.proofs.Common.{◌≡◌, ◌-◌, ◌≤◌, length, min, rules, take}
-use Rattle.kahn_live.specs.Lines.{most_kept}
+use Rattle.kahn_live.proofs.Common.{◌≡◌, ◌-◌, ◌≤◌, length, min, rules, take, most_kept}
 use Rattle.kahn_live.proofs.Cutting.{kept_front, kept_where}
 use Rattle.kahn_live.proofs.lines.keep.Goals as goal
 

@@ -1,9 +1,4 @@
-use Rattle.std.proofs.Common.{◌≢◌, ◌∙◌, ◌++◌, List, ℕ, ap, append-nil, arith, length, length-take, subst, take}
-use Rattle.std.proofs.lemmas.List.Elements.{All-append}
-use Rattle.std.proofs.KnownBytes.{Consumes-trans}
-use Rattle.std.specs.Io.KnownBytes.{Consumes}
-use Rattle.kahn_live.specs.Lines.{most_kept}
-use Rattle.kahn_live.specs.inner.Parts.{IsLastRead}
+use Rattle.kahn_live.proofs.Common.{◌≢◌, ◌∙◌, ◌++◌, List, ℕ, ap, append-nil, arith, length, length-take, subst, take, All-append, Consumes-trans, Consumes, most_kept, IsLastRead}
 use Rattle.kahn_live.proofs.Cutting.{ends, kept_more, passes, whole_line}
 use Rattle.kahn_live.proofs.lines.read_line.Goals as goal
 

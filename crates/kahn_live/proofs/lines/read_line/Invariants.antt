@@ -1,7 +1,5 @@
 -- What was read so far has no line feed, and no more of it is kept than the most.
-use Rattle.std.proofs.Common.{◌≡◌, ◌≢◌, ℕ, List, All, take, vec_items}
-use Rattle.std.specs.Io.KnownBytes.{Consumes}
-use Rattle.kahn_live.specs.Lines.{most_kept}
+use Rattle.kahn_live.proofs.Common.{◌≡◌, ◌≢◌, ℕ, List, All, take, vec_items, Consumes, most_kept}
 use Rattle.kahn_live.proofs.lines.read_line.Given as goal
 
 abbrev pub invariant-loop : goal.invariant-loop

@@ -1,10 +1,5 @@
-use Rattle.std.proofs.Common.{◌≡◌, ◌≢◌, ◌∙◌, ◌+◌, ◌<◌, ◌≤◌, [], ap, append-nil, arith, length, min, rules, subst, sym, take, take_all}
-use Rattle.std.proofs.lemmas.List.Elements.{All-nil}
-use Rattle.std.proofs.KnownBytes.{Consumes-kept, Consumes-nil}
+use Rattle.kahn_live.proofs.Common.{◌≡◌, ◌≢◌, ◌∙◌, ◌+◌, ◌<◌, ◌≤◌, [], ap, append-nil, arith, length, min, rules, subst, sym, take, take_all, All-nil, Consumes-kept, Consumes-nil, FillKeeps, Consumes, most_kept}
 use Rattle.std.proofs.BufReadLemmas.{Consumes_shown}
-use Rattle.std.specs.Io.BufRead.{FillKeeps}
-use Rattle.std.specs.Io.KnownBytes.{Consumes}
-use Rattle.kahn_live.specs.Lines.{most_kept}
 use Rattle.kahn_live.proofs.Cutting.{ok_where, shown_more, shown_whole}
 use Rattle.kahn_live.proofs.lines.read_part.Goals as goal
 

@@ -1,6 +1,5 @@
 -- The lines so far are the first ones of the row.
-use Rattle.std.proofs.Common.{◌≡◌, length, map}
-use Rattle.kahn_live.specs.Rows.{IsRowFront, bytes_in, is_wordless}
+use Rattle.kahn_live.proofs.Common.{◌≡◌, length, map, IsRowFront, bytes_in, is_wordless}
 use Rattle.kahn_live.proofs.rows.row_cells.Given as goal
 
 abbrev pub invariant-names : goal.invariant-names

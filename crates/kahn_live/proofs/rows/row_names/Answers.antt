@@ -1,5 +1,4 @@
-use Rattle.std.proofs.Common.{ap}
-use Rattle.std.specs.Prelude.{option_copied}
+use Rattle.kahn_live.proofs.Common.{ap, option_copied}
 use Rattle.kahn_live.proofs.Rowing.{several}
 use Rattle.kahn_live.proofs.rows.row_names.Goals as goal
 

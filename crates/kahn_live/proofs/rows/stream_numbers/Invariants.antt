@@ -1,6 +1,5 @@
 -- The streams so far are those of the first names.
-use Rattle.std.proofs.Common.{length}
-use Rattle.kahn_live.specs.Rows.{HaveStreams}
+use Rattle.kahn_live.proofs.Common.{length, HaveStreams}
 use Rattle.kahn_live.proofs.rows.stream_numbers.Given as goal
 
 abbrev pub invariant-names : goal.invariant-names

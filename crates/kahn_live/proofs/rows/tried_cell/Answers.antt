@@ -1,5 +1,4 @@
-use Rattle.std.proofs.Common.{inr, List, ℕ, subst}
-use Rattle.kahn_session.specs.Live.{IsUnfedBy}
+use Rattle.kahn_live.proofs.Common.{inr, List, ℕ, subst, IsUnfedBy}
 use Rattle.kahn_live.proofs.rows.tried_cell.Goals as goal
 
 pub returns-in-Err : goal.returns-in-Err

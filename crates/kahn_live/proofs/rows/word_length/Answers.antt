@@ -1,6 +1,4 @@
-use Rattle.std.proofs.Common.{◌∙◌, ap, length}
-use Rattle.std.specs.Option.{unwrap_or}
-use Rattle.kahn_texts.proofs.Scanned.{stop_of}
+use Rattle.kahn_live.proofs.Common.{◌∙◌, ap, length, unwrap_or, stop_of}
 use Rattle.kahn_live.proofs.rows.word_length.Goals as goal
 
 pub returns-clause-stop : goal.returns-clause-stop

@@ -1,5 +1,4 @@
-use Rattle.std.proofs.Common.{List, ℕ, subst}
-use Rattle.kahn_live.specs.Rows.{AreNumbered}
+use Rattle.kahn_live.proofs.Common.{List, ℕ, subst, AreNumbered}
 use Rattle.kahn_live.proofs.running.plain_streams.Goals as goal
 
 pub returns-in-Some : goal.returns-in-Some

@@ -1,10 +1,5 @@
-use Rattle.std.proofs.Common.{◌∙◌, inr, List, Option, ℕ, ap, map, subst}
-use Rattle.std.specs.Prelude.{option_copied, string_bytes}
-use Rattle.std.specs.declared.alloc.Global.{Global}
+use Rattle.kahn_live.proofs.Common.{◌∙◌, inr, List, Option, ℕ, ap, map, subst, option_copied, string_bytes, Global, PlainNames, telling_of, HasRunNetwork, Watches, name_watched, names_shown}
 use Rattle.std.specs.declared.string.String.{String}
-use Rattle.kahn_line.specs.declared.parts.PlainNames.{PlainNames}
-use Rattle.kahn_live.specs.Course.{telling_of}
-use Rattle.kahn_live.specs.Running.{HasRunNetwork, Watches, name_watched, names_shown}
 use Rattle.kahn_live.proofs.running.run.Goals as goal
 
 pub returns-in-Ok-checked : goal.returns-in-Ok-checked
@@ -15,9 +10,9 @@ returns-in-Ok-checked g c =
     let text = g.I.Read.remaining c.args.input in
     let out = g.W.Write.contents c.args.output in
     let old = telling_of g.E.Write.contents c.args.teller in
-    let made = g.W.Write.contents c.run_network.result.output in
-    let new = telling_of g.E.Write.contents c.run_network.result.teller in
-    let r = c.run_network.result.ending in
+    let made = g.W.Write.contents c.run_network.result.1 in
+    let new = telling_of g.E.Write.contents c.run_network.result.2 in
+    let r = c.run_network.result.0 in
     let is = c.name_watched-watch.ensures ∙ ap (λ (p : Option PlainNames). name_watched p o.config.watch) c.as_ref-columns.ensures.value in
     let watches = subst (λ (n : Option (List ℕ)). Watches n o.config config) is c.in-Ok.ensures in
     let shown = names_shown o.plain o.config.watch in

@@ -1,7 +1,4 @@
-use Rattle.std.proofs.Common.{inl, inr, ap, map, refl}
-use Rattle.std.specs.Prelude.{option_copied, string_bytes}
-use Rattle.kahn_live.specs.Course.{point_of, telling_of}
-use Rattle.kahn_live.specs.Running.{input_of}
+use Rattle.kahn_live.proofs.Common.{inl, inr, ap, map, refl, option_copied, string_bytes, point_of, telling_of, input_of}
 use Rattle.kahn_live.proofs.Whole.{served_as}
 use Rattle.kahn_live.proofs.running.run_network.Goals as goal
 

@@ -1,8 +1,4 @@
-use Rattle.std.proofs.Common.{Bool, List, ℕ, Option, Ok, refl, subst}
-use Rattle.std.specs.Prelude.{is_some, option_copied, string_bytes}
-use Rattle.kahn_session.specs.Refusals.{unknown_text}
-use Rattle.kahn_live.specs.Course.{WasTold, telling_of}
-use Rattle.kahn_live.specs.Running.{IsUnknownTold}
+use Rattle.kahn_live.proofs.Common.{Bool, List, ℕ, Option, Ok, refl, subst, is_some, option_copied, string_bytes, unknown_text, WasTold, telling_of, IsUnknownTold}
 use Rattle.kahn_live.specs.declared.serving.RunEnding.TheVariants.{Refused}
 use Rattle.kahn_live.proofs.running.unstarted.Goals as goal
 

@@ -1,5 +1,4 @@
-use Rattle.std.proofs.Common.{rules}
-use Rattle.kahn_live.specs.Course.{telling_of}
+use Rattle.kahn_live.proofs.Common.{rules, telling_of}
 use Rattle.kahn_live.proofs.serving.close.Goals as goal
 
 pub returns : goal.returns

@@ -1,8 +1,4 @@
-use Rattle.std.proofs.Common.{◌≡◌, inl, inr, rules, true}
-use Rattle.std.proofs.lemmas.Result.{err_from_is_err_and}
-use Rattle.std.specs.Io.Buffered.{reader_remaining}
-use Rattle.kahn_live.specs.Course.{point_of}
-use Rattle.kahn_live.specs.LinesMet.{lines_given}
+use Rattle.kahn_live.proofs.Common.{◌≡◌, inl, inr, rules, true, err_from_is_err_and, reader_remaining, point_of, lines_given}
 use Rattle.kahn_live.proofs.Whole.{all_there}
 use Rattle.kahn_live.proofs.serving.serve.Goals as goal
 

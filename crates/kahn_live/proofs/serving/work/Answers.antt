@@ -1,7 +1,4 @@
-use Rattle.std.proofs.Common.{inl, List, ℕ, Option, subst}
-use Rattle.kahn_live.specs.Course.{point_of}
-use Rattle.kahn_live.specs.LinesMet.{lines_given}
-use Rattle.kahn_live.specs.Running.{HasServedAll}
+use Rattle.kahn_live.proofs.Common.{inl, List, ℕ, Option, subst, point_of, lines_given, HasServedAll}
 use Rattle.kahn_live.proofs.Whole.{fresh}
 use Rattle.kahn_live.proofs.serving.work.Goals as goal
 

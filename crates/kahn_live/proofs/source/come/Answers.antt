@@ -1,7 +1,4 @@
-use Rattle.std.proofs.Common.{◌∙◌, inr, [], refl, subst, sym}
-use Rattle.std.specs.Io.Buffered.{reader_remaining}
-use Rattle.kahn_live.specs.InputMet.{IsSource}
-use Rattle.kahn_live.specs.Lines.{most_kept}
+use Rattle.kahn_live.proofs.Common.{◌∙◌, inr, [], refl, subst, sym, reader_remaining, IsSource, most_kept}
 use Rattle.kahn_live.proofs.Meeting.{come_read, none_kept}
 use Rattle.kahn_live.proofs.source.come.Goals as goal
 

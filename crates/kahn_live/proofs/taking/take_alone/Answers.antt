@@ -1,6 +1,4 @@
-use Rattle.std.specs.Prelude.{option_copied}
-use Rattle.kahn_live.specs.Course.{point_of}
-use Rattle.kahn_live.specs.Lines.{fed_text}
+use Rattle.kahn_live.proofs.Common.{option_copied, point_of, fed_text}
 use Rattle.kahn_live.proofs.Rowing.{alone_met}
 use Rattle.kahn_live.proofs.taking.take_alone.Goals as goal
 

@@ -1,8 +1,4 @@
-use Rattle.std.proofs.Common.{arith, ◌≡◌, ◌+◌, ◌∷◌, List, ℕ, Err, None, Ok, Option, drop, map, ap, subst}
-use Rattle.std.proofs.lemmas.Grind.{common_steps}
-use Rattle.kahn_session.specs.declared.fault.TakeFault.{TakeFault}
-use Rattle.kahn_live.specs.Course.{IsLineMet, point_of}
-use Rattle.kahn_live.specs.Rows.{bytes_in}
+use Rattle.kahn_live.proofs.Common.{arith, ◌≡◌, ◌+◌, ◌∷◌, List, ℕ, Err, None, Ok, Option, drop, map, ap, subst, common_steps, TakeFault, IsLineMet, point_of, bytes_in}
 use Rattle.kahn_live.proofs.Rowing.{taken_more, torn_more, torn_off, torn_refused}
 use Rattle.kahn_live.proofs.taking.take_cells.Goals as goal
 

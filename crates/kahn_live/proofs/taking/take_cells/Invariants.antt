@@ -1,9 +1,5 @@
 -- Whatever is made of the lines that are left is made of all.
-use Rattle.std.proofs.Common.{◌≡◌, false, drop, map}
-use Rattle.kahn_fault.specs.declared.fault.Fault.{Fault}
-use Rattle.kahn_live.specs.Course.{Point, point_of}
-use Rattle.kahn_live.specs.InputMet.{AreTaken, IsTornOff}
-use Rattle.kahn_live.specs.Rows.{bytes_in}
+use Rattle.kahn_live.proofs.Common.{◌≡◌, false, drop, map, Fault, Point, point_of, AreTaken, IsTornOff, bytes_in}
 use Rattle.kahn_live.proofs.taking.take_cells.Given as goal
 
 abbrev pub invariant-loop-cell : goal.invariant-loop-cell

@@ -1,12 +1,5 @@
-use Rattle.std.proofs.Common.{◌≡◌, inl, inr, List, ℕ, Option, rules, subst, true}
-use Rattle.std.specs.Prelude.{option_copied}
-use Rattle.std.proofs.lemmas.Result.{err_from_is_err_and}
-use Rattle.std.specs.Io.Buffered.{reader_remaining}
-use Rattle.kahn_live.specs.Course.{point_of}
-use Rattle.kahn_live.specs.InputMet.{IsAloneTold}
-use Rattle.kahn_live.specs.LinesMet.{lines_given}
-use Rattle.kahn_live.proofs.Begun.{histories}
-use Rattle.kahn_live.proofs.Feeding.{all_shown, begun_there}
+use Rattle.kahn_live.proofs.Common.{◌≡◌, inl, inr, List, ℕ, Option, rules, subst, true, option_copied, err_from_is_err_and, reader_remaining, point_of, IsAloneTold, lines_given}
+use Rattle.kahn_live.proofs.{Begun.histories, Feeding.all_shown, Feeding.begun_there}
 use Rattle.kahn_live.proofs.taking.take_each.Goals as goal
 
 pub returns-in_err-take_lines-clause-met : goal.returns-in_err-take_lines-clause-met

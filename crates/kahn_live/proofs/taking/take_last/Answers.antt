@@ -1,11 +1,5 @@
-use Rattle.std.proofs.Common.{arith, ◌≡◌, ◌+◌, ◌∷◌, List, ℕ, drop, map, ap, subst}
-use Rattle.std.specs.Prelude.{string_bytes}
-use Rattle.std.proofs.lemmas.Grind.{common_steps}
-use Rattle.std.proofs.lemmas.Result.{err_from_is_err_and}
-use Rattle.kahn_session.specs.Refusals.{at_end_number}
-use Rattle.kahn_live.specs.Course.{IsBrokenOff, WasAnswered, point_of}
-use Rattle.kahn_live.proofs.Feeding.{cut_here, cut_more, fed_more}
-use Rattle.kahn_live.proofs.Meeting.{answered_of}
+use Rattle.kahn_live.proofs.Common.{arith, ◌≡◌, ◌+◌, ◌∷◌, List, ℕ, drop, map, ap, subst, string_bytes, common_steps, err_from_is_err_and, at_end_number, IsBrokenOff, WasAnswered, point_of}
+use Rattle.kahn_live.proofs.{Feeding.cut_here, Feeding.cut_more, Feeding.fed_more, Meeting.answered_of}
 use Rattle.kahn_live.proofs.taking.take_last.Goals as goal
 
 pub returns-in_err-take_line-clause-met : goal.returns-in_err-take_line-clause-met

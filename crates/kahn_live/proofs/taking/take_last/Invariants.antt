@@ -1,9 +1,5 @@
 -- Whatever is made of the lines that are left is made of all.
-use Rattle.std.proofs.Common.{◌≡◌, false, drop, map}
-use Rattle.std.specs.Prelude.{string_bytes}
-use Rattle.kahn_fault.specs.declared.fault.Fault.{Fault}
-use Rattle.kahn_live.specs.Course.{Point, point_of}
-use Rattle.kahn_live.specs.InputMet.{AreFed, IsCutOff}
+use Rattle.kahn_live.proofs.Common.{◌≡◌, false, drop, map, string_bytes, Fault, Point, point_of, AreFed, IsCutOff}
 use Rattle.kahn_live.proofs.taking.take_last.Given as goal
 
 abbrev pub invariant-loop-line : goal.invariant-loop-line

@@ -1,9 +1,4 @@
-use Rattle.std.specs.Prelude.{option_copied}
-use Rattle.std.proofs.Common.{◌≡◌, inl, inr, false, true, ℕ, suc, arith, rules, subst, sym}
-use Rattle.std.proofs.lemmas.Result.{err_from_is_err_and}
-use Rattle.std.specs.Io.Buffered.{reader_remaining}
-use Rattle.kahn_live.specs.Course.{point_of}
-use Rattle.kahn_live.specs.InputMet.{IsStoppedAt}
+use Rattle.kahn_live.proofs.Common.{option_copied, ◌≡◌, inl, inr, false, true, ℕ, suc, arith, rules, subst, sym, err_from_is_err_and, reader_remaining, point_of, IsStoppedAt}
 use Rattle.kahn_live.proofs.Meeting.{next_none, next_read, unmoved}
 use Rattle.kahn_live.proofs.taking.take_lines.Goals as goal
 

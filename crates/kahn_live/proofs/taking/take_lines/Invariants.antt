@@ -1,9 +1,5 @@
 -- As many lines were read and met as have numbers below this one.
-use Rattle.std.specs.Prelude.{option_copied}
-use Rattle.std.proofs.Common.{◌≡◌, ℕ, false, suc}
-use Rattle.std.specs.Io.Buffered.{reader_remaining}
-use Rattle.kahn_live.specs.Course.{point_of}
-use Rattle.kahn_live.specs.InputMet.{AreRead}
+use Rattle.kahn_live.proofs.Common.{option_copied, ◌≡◌, ℕ, false, suc, reader_remaining, point_of, AreRead}
 use Rattle.kahn_live.proofs.taking.take_lines.Given as goal
 
 abbrev pub invariant-loop-number : goal.invariant-loop-number

@@ -1,11 +1,4 @@
-use Rattle.std.specs.Prelude.{option_copied}
-use Rattle.std.proofs.Common.{◌≡◌, ◌∙◌, inl, inr, List, ℕ, Err, Ok, subst, take}
-use Rattle.std.proofs.lemmas.Result.{err_from_is_err_and}
-use Rattle.std.specs.Io.Buffered.{reader_remaining}
-use Rattle.kahn_session.specs.Live.{Live}
-use Rattle.kahn_live.specs.Course.{point_of}
-use Rattle.kahn_live.specs.InputMet.{IsNextCome, IsNoneCome, IsReadMet}
-use Rattle.kahn_live.specs.Lines.{most_kept}
+use Rattle.kahn_live.proofs.Common.{option_copied, ◌≡◌, ◌∙◌, inl, inr, List, ℕ, Err, Ok, subst, take, err_from_is_err_and, reader_remaining, Live, point_of, IsNextCome, IsNoneCome, IsReadMet, most_kept}
 use Rattle.kahn_live.proofs.taking.take_next.Goals as goal
 
 pub returns-in_err-take_read-in-Line-clause-met : goal.returns-in_err-take_read-in-Line-clause-met

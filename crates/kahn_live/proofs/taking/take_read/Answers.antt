@@ -1,7 +1,4 @@
-use Rattle.std.specs.Prelude.{option_copied}
-use Rattle.std.proofs.Common.{◌∙◌, List, Ok, Option, None, Bool, refl, sym, ℕ, subst}
-use Rattle.kahn_live.specs.Course.{point_of}
-use Rattle.kahn_live.specs.InputMet.{IsReadBy, IsReadIn, is_idle}
+use Rattle.kahn_live.proofs.Common.{option_copied, ◌∙◌, List, Ok, Option, None, Bool, refl, sym, ℕ, subst, point_of, IsReadBy, IsReadIn, is_idle}
 use Rattle.kahn_live.proofs.Feeding.{not_idle}
 use Rattle.kahn_live.proofs.taking.take_read.Goals as goal
 

@@ -1,10 +1,4 @@
-use Rattle.std.proofs.Common.{inr, List, ℕ, map, subst}
-use Rattle.std.proofs.lemmas.Result.{err_from_is_err_and}
-use Rattle.std.specs.declared.alloc.Global.{Global}
-use Rattle.std.specs.declared.vec.Vec.{Vec}
-use Rattle.kahn_live.specs.Course.{HasWaited, IsRefused, point_of}
-use Rattle.kahn_live.specs.InputMet.{AreTaken, IsTornOff}
-use Rattle.kahn_live.specs.Rows.{AreRowCells, IsBadRow, bytes_in}
+use Rattle.kahn_live.proofs.Common.{inr, List, ℕ, map, subst, err_from_is_err_and, Global, Vec, HasWaited, IsRefused, point_of, AreTaken, IsTornOff, AreRowCells, IsBadRow, bytes_in}
 use Rattle.kahn_live.proofs.taking.take_row.Goals as goal
 
 pub returns-in_err-take_cells-in-Ok-clause-met : goal.returns-in_err-take_cells-in-Ok-clause-met

@@ -1,5 +1,4 @@
-use Rattle.std.proofs.Common.{refl}
-use Rattle.std.specs.Prelude.{option_copied}
+use Rattle.kahn_live.proofs.Common.{refl, option_copied}
 use Rattle.kahn_live.proofs.taking.tell_alone.Goals as goal
 
 pub returns : goal.returns

@@ -1,6 +1,4 @@
-use Rattle.std.proofs.KnownBytes.{Keeps-refl}
-use Rattle.std.proofs.Common.{refl}
-use Rattle.kahn_live.specs.Course.{telling_of}
+use Rattle.kahn_live.proofs.Common.{Keeps-refl, refl, telling_of}
 use Rattle.kahn_live.proofs.Meeting.{none_told}
 use Rattle.kahn_live.proofs.taking.tell_part.Goals as goal
 

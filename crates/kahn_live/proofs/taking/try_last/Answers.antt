@@ -1,9 +1,4 @@
-use Rattle.std.proofs.Common.{arith, ◌≡◌, ◌+◌, ◌∷◌, inr, List, ℕ, drop, map, ap, subst}
-use Rattle.std.specs.Prelude.{string_bytes}
-use Rattle.std.proofs.lemmas.Grind.{common_steps}
-use Rattle.kahn_session.specs.Live.{IsMeantLine, IsUnfedBy}
-use Rattle.kahn_live.specs.Course.{LiveTelling, telling_of}
-use Rattle.kahn_live.specs.InputMet.{IsLastRefused}
+use Rattle.kahn_live.proofs.Common.{arith, ◌≡◌, ◌+◌, ◌∷◌, inr, List, ℕ, drop, map, ap, subst, string_bytes, common_steps, IsMeantLine, IsUnfedBy, LiveTelling, telling_of, IsLastRefused}
 use Rattle.kahn_live.proofs.Feeding.{meant_more, unmeant_here, unmeant_more}
 use Rattle.kahn_live.proofs.taking.try_last.Goals as goal
 

@@ -1,10 +1,5 @@
 -- Whatever holds of the lines that are left holds of all, and nothing was told.
-use Rattle.std.proofs.Common.{◌≡◌, List, ℕ, drop, map}
-use Rattle.std.specs.Prelude.{string_bytes}
-use Rattle.kahn_session.specs.declared.fault.TakeFault.{TakeFault}
-use Rattle.kahn_live.specs.Course.{telling_of}
-use Rattle.kahn_live.specs.InputMet.{IsFirstUnmeant}
-use Rattle.kahn_live.specs.Rows.{AreMeant}
+use Rattle.kahn_live.proofs.Common.{◌≡◌, List, ℕ, drop, map, string_bytes, TakeFault, telling_of, IsFirstUnmeant, AreMeant}
 use Rattle.kahn_live.proofs.taking.try_last.Given as goal
 
 abbrev pub invariant-loop-line : goal.invariant-loop-line

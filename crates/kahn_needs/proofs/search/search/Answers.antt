@@ -16,13 +16,9 @@ loop-preserved g c =
       same = (a.same.0 ∙ i.same.0, a.same.1 ∙ i.same.1, a.same.2 ∙ i.same.2);
       forced = a.forced;
       root = demand_on c.loop.bench c.act-turn.new.bench a.same c.args.root.line c.args.root.place c.args.root.line c.args.root.place i.root;
-      chain = c.next_chain-chain.ensures;
+      chain = c.in-Ok.ensures;
     }
 
-pub ended_by-requires-clause-chain : goal.ended_by-requires-clause-chain
-ended_by-requires-clause-chain g c =
-    chain_on c.loop.bench c.act-turn.new.bench c.act-turn.ensures.same c.args.root.line c.args.root.place c.loop.chain c.loop.invariant.chain
-
-pub next_chain-chain-requires-clause-chain : goal.next_chain-chain-requires-clause-chain
-next_chain-chain-requires-clause-chain g c =
+pub next_chain-requires-clause-chain : goal.next_chain-requires-clause-chain
+next_chain-requires-clause-chain g c =
     chain_on c.loop.bench c.act-turn.new.bench c.act-turn.ensures.same c.args.root.line c.args.root.place c.loop.chain c.loop.invariant.chain

@@ -15,7 +15,7 @@ concluded-requires c =
     let network = w.network ∙ b.names.0 in
     let all : all_events (sight_of c.in_ok-bench.bench) + c.args.plan.bound ≡ c.args.plan.bound = omega (arith, b.fresh) in
     record {
-      ended = subst (λ n. IsPartEnd c.run_part_alone-part.new.bench n c.in-Some.part) all (rw c.in-Some.is at end.concluded);
+      ended = subst (λ n. IsPartEnd c.run_part_alone-part.new.bench n c.run_part_alone-part.result) all end.concluded;
       whole = w.gone ∙ b.whole ∙ ap (λ t. replicate (length (network_of t).instances) nothing_gone) (sym network);
       ready = rw (network, w.input ∙ b.names.1, w.watch ∙ b.names.2) c.in_ok-streams.ensures;
       counts = subst (λ t. AreCountsOf (sight_of c.run_part_alone-part.new.bench) c.counts_of-counts.result.items (length (network_of t).channels)) (sym network) c.counts_of-counts.ensures;

@@ -1,5 +1,4 @@
-use Rattle.std.proofs.Common.{◌≡◌, ◌++◌, map, take, vec_capacity}
-use Rattle.kahn_sequential.proofs.Common.{token_value}
+use Rattle.kahn_sequential.proofs.Common.{◌≡◌, ◌++◌, map, take, vec_capacity, token_value}
 use Rattle.kahn_sequential.proofs.flow.lend.Given as goal
 
 abbrev pub invariant-loop-number : goal.invariant-loop-number

@@ -16,6 +16,4 @@ loop-instance-preserved c =
 
 pub returns-clause-least : goal.returns-clause-least
 returns-clause-least c p j w k le =
-    let l = slice_get_within c.args.instances.now w.0 p w.1 in
-    let f = c.loop-instance-test.false in
-    c.loop-instance.invariant.each w.0 (omega (arith, l, f)) p w.1 j k le
+    c.loop-instance.invariant.each w.0 (omega (arith, slice_get_within c.args.instances.now w.0 p w.1, c.loop-instance-test.false)) p w.1 j k le

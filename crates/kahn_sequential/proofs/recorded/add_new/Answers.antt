@@ -20,8 +20,7 @@ loop-number-preserved c =
     let P : ℕ → Token → Type 0 = λ k x. IsOf c.args.queues.now.network c.args.queues.now.input x × (x.line ≡ Channel c.args.channel) × (x.place ≡ k) in
     let last : P (length c.loop-number.tokens.items) c.of.result = subst (P (length c.loop-number.tokens.items)) (sym c.of.ensures) (t.names, t.here.0, omega (arith, place, long)) in
     let grown = c.in_ok-push.ensures.items in
-    let size = ap length grown ∙ length-append c.loop-number.tokens.items (c.of.result ∷ []) in
     record {
       right = subst (λ ts. AreTokensOf c.args.queues.now.network c.args.queues.now.input c.args.channel ts) (sym grown) (each_push P c.loop-number.tokens.items c.of.result i.right last);
-      long = omega (arith, size, long);
+      long = omega (arith, ap length grown ∙ length-append c.loop-number.tokens.items (c.of.result ∷ []), long);
     }

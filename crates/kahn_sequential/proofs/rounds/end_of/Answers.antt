@@ -1,5 +1,4 @@
-use Rattle.std.proofs.Common.{inl, subst}
-use Rattle.kahn_sequential.proofs.Common.{IsPaused, events_at, sight_of, exec_on}
+use Rattle.kahn_sequential.proofs.Common.{inl, subst, IsPaused, events_at, sight_of, exec_on}
 use Rattle.kahn_sequential.proofs.Turns.{told_as, told_dry}
 use Rattle.kahn_sequential.proofs.rounds.end_of.Goals as goal
 use Rattle.kahn_sequential.proofs.rounds.end_of.Goals.{in-Spent, in-NoMemory, in-Ended, in-Fault, in-Dry}

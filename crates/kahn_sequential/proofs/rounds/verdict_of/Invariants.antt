@@ -1,6 +1,4 @@
-use Rattle.std.proofs.Common.{◌≡◌, ℕ, false, slice_get, Some, ◌<◌}
-use Rattle.kahn_sequential.proofs.Common.{More}
-use Rattle.kahn_streams.specs.declared.answer.End.{End}
+use Rattle.kahn_sequential.proofs.Common.{◌≡◌, ℕ, false, slice_get, Some, ◌<◌, More, End}
 use Rattle.kahn_sequential.proofs.rounds.verdict_of.Given as goal
 
 abbrev pub invariant-loop-end : goal.invariant-loop-end

@@ -1,5 +1,4 @@
-use Rattle.std.proofs.Common.{◌≡◌, ◌+◌, ◌∙◌, ap, false, refl, true}
-use Rattle.kahn_sequential.proofs.Common.{all_events, sight_of}
+use Rattle.kahn_sequential.proofs.Common.{◌≡◌, ◌+◌, ◌∙◌, ap, false, refl, true, all_events, sight_of}
 use Rattle.kahn_sequential.proofs.Benched.{within}
 use Rattle.kahn_sequential.proofs.settling.part_of.Goals as goal
 

@@ -1,5 +1,4 @@
-use Rattle.std.proofs.Common.{◌+◌}
-use Rattle.kahn_sequential.proofs.Common.{all_events, sight_of}
+use Rattle.kahn_sequential.proofs.Common.{◌+◌, all_events, sight_of}
 use Rattle.kahn_sequential.proofs.Noted.{noted_after}
 use Rattle.kahn_sequential.proofs.settling.run_on.Goals as goal
 

@@ -4,8 +4,6 @@ use Rattle.kahn_sequential.proofs.streams.opening_streams.Goals as goal
 
 pub loop-number-preserved : goal.loop-number-preserved
 loop-number-preserved c =
-    let N = network_of c.args.network.now in
-    let I = inputs_of c.args.input.now in
     let i = c.loop-number.invariant in
     let n = c.loop-number.number in
     let old = c.loop-number.streams.items in
@@ -19,7 +17,7 @@ loop-number-preserved c =
           rw (pushed, add-one n)
           (map-append stream_line old (x ∷ []) ∙ ap (λ ls. ls ++ x.line ∷ []) i.lines ∙ ap (λ d. take n lines ++ d ∷ []) (e.line ∙ c.index.ensures)
           ∙ sym (take-suc lines n c.index.result.now here));
-      given = rw pushed (opens_more N I old x i.given e.given);
+      given = rw pushed (opens_more (network_of c.args.network.now) (inputs_of c.args.input.now) old x i.given e.given);
       size = search rules;
       room = search rules;
     }

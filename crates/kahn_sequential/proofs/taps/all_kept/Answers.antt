@@ -1,6 +1,4 @@
-use Rattle.std.proofs.Common.{arith, ap, sym, ◌∙◌, subst, length, ◌∷◌, []}
-use Rattle.kahn_sequential.proofs.Common.{HaveChanged, IsLeft}
-use Rattle.std.proofs.lemmas.List.{length-append}
+use Rattle.kahn_sequential.proofs.Common.{arith, ap, sym, ◌∙◌, subst, length, ◌∷◌, [], HaveChanged, IsLeft, length-append}
 use Rattle.kahn_sequential.proofs.Lists.{changed_more}
 use Rattle.kahn_sequential.proofs.taps.all_kept.Goals as goal
 

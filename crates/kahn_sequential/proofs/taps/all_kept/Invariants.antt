@@ -1,5 +1,4 @@
-use Rattle.std.proofs.Common.{◌≡◌, length, vec_capacity}
-use Rattle.kahn_sequential.proofs.Common.{HaveChanged, IsLeft}
+use Rattle.kahn_sequential.proofs.Common.{◌≡◌, length, vec_capacity, HaveChanged, IsLeft}
 use Rattle.kahn_sequential.proofs.taps.all_kept.Given as goal
 
 abbrev pub invariant-loop-tap : goal.invariant-loop-tap

@@ -1,5 +1,4 @@
-use Rattle.std.proofs.Common.{arith}
-use Rattle.kahn_sequential.proofs.Common.{AreCounts, Tapped, slice_get_within}
+use Rattle.kahn_sequential.proofs.Common.{arith, AreCounts, Tapped, slice_get_within}
 use Rattle.kahn_sequential.proofs.Lists.{each_more}
 use Rattle.kahn_sequential.proofs.taps.all_sized.Goals as goal
 
@@ -9,7 +8,4 @@ loop-instance-preserved c =
 
 pub returns : goal.returns
 returns c p x at =
-    let most = slice_get_within c.args.taps.now p x at in
-    let end = c.loop-instance.auto.instance-end in
-    let far = c.loop-instance-test.false in
-    c.loop-instance.invariant p (omega (arith, most, end, far)) x at
+    c.loop-instance.invariant p (omega (arith, slice_get_within c.args.taps.now p x at, c.loop-instance.auto.instance-end, c.loop-instance-test.false)) x at

@@ -1,5 +1,4 @@
-use Rattle.std.proofs.Common.{◌≡◌, ℕ, ◌<◌, Some, slice_get}
-use Rattle.kahn_sequential.proofs.Common.{AreCounts, Tapped}
+use Rattle.kahn_sequential.proofs.Common.{◌≡◌, ℕ, ◌<◌, Some, slice_get, AreCounts, Tapped}
 use Rattle.kahn_sequential.proofs.taps.all_sized.Given as goal
 
 abbrev pub invariant-loop-instance : goal.invariant-loop-instance

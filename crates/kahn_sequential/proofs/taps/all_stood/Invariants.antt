@@ -1,5 +1,4 @@
-use Rattle.std.proofs.Common.{◌≡◌, ℕ, ◌<◌, Some, slice_get}
-use Rattle.kahn_sequential.proofs.Common.{Tapped, StandsAsTold}
+use Rattle.kahn_sequential.proofs.Common.{◌≡◌, ℕ, ◌<◌, Some, slice_get, Tapped, StandsAsTold}
 use Rattle.kahn_sequential.proofs.taps.all_stood.Given as goal
 
 abbrev pub invariant-loop-instance : goal.invariant-loop-instance

@@ -1,7 +1,4 @@
-use Rattle.std.proofs.Common.{length}
-use Rattle.kahn_sequential.proofs.Common.{HaveChanged}
-use Rattle.kahn_sequential.specs.inner.Noted.{AreSpentBut}
-use Rattle.kahn_sequential.specs.inner.Workbench.{IsSameTap}
+use Rattle.kahn_sequential.proofs.Common.{length, HaveChanged, AreSpentBut, IsSameTap}
 use Rattle.kahn_sequential.proofs.taps.forget_turned.Given as goal
 
 abbrev pub invariant-turned : goal.invariant-turned

@@ -1,5 +1,4 @@
-use Rattle.std.proofs.Common.{ap, ◌∙◌, replicate, length, map, ◌∷◌, []}
-use Rattle.kahn_sequential.proofs.Common.{map-append, network_of, instance_at, told_in}
+use Rattle.kahn_sequential.proofs.Common.{ap, ◌∙◌, replicate, length, map, ◌∷◌, [], map-append, network_of, instance_at, told_in}
 use Rattle.kahn_sequential.proofs.Laid.{opening_more, whole_more}
 use Rattle.kahn_sequential.proofs.taps.named_taps.Goals as goal
 

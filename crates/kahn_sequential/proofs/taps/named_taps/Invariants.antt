@@ -1,5 +1,4 @@
-use Rattle.std.proofs.Common.{◌≡◌, map, replicate}
-use Rattle.kahn_sequential.proofs.Common.{nothing_gone, AreOpeningCells, gone_in, told_in}
+use Rattle.kahn_sequential.proofs.Common.{◌≡◌, map, replicate, nothing_gone, AreOpeningCells, gone_in, told_in}
 use Rattle.kahn_sequential.proofs.taps.named_taps.Given as goal
 
 abbrev pub ghost-new : goal.ghost-new

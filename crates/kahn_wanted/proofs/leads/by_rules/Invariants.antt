@@ -4,4 +4,4 @@ use Rattle.kahn_wanted.proofs.leads.by_rules.Given as goal
 
 abbrev pub invariant-loop-rule : goal.invariant-loop-rule
 invariant-loop-rule l =
-    (n : List ℕ) (z : ℤ) → enters (rules_as (drop l.rule-index l.rules)) (terminal_with n z l.class) ≡ enters (rules_as l.rules) (terminal_with n z l.class)
+    (n : List ℕ) (z : ℤ) → enters (rules_as l.from (drop l.rule-index l.rules)) (terminal_with n z l.class) ≡ enters (rules_as l.from l.rules) (terminal_with n z l.class)

@@ -1,5 +1,4 @@
-use Rattle.std.proofs.Common.{Bool, subst}
-use Rattle.kahn_session.specs.Live.{IsRinged}
+use Rattle.kahn_live.proofs.Common.{Bool, subst, IsRinged}
 use Rattle.kahn_live.proofs.telling.Teller.is_ring_new.Goals as goal
 
 pub returns-then-not-is_deaf : goal.returns-then-not-is_deaf

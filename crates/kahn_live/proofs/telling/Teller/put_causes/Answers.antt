@@ -1,6 +1,4 @@
-use Rattle.std.proofs.Common.{List, inl, inr, ℕ, subst}
-use Rattle.std.specs.Prelude.{string_bytes}
-use Rattle.kahn_live.specs.Course.{WasTold, telling_of}
+use Rattle.kahn_live.proofs.Common.{List, inl, inr, ℕ, subst, string_bytes, WasTold, telling_of}
 use Rattle.kahn_live.proofs.telling.Teller.put_causes.Goals as goal
 
 pub returns-in-Ok : goal.returns-in-Ok

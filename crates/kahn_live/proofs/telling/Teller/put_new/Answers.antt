@@ -1,8 +1,4 @@
-use Rattle.std.proofs.Common.{◌∙◌, Bool, List, ℕ, ap, refl, subst}
-use Rattle.std.specs.Prelude.{◌||◌, option_copied, string_bytes}
-use Rattle.kahn_streams.specs.Written.{Writes}
-use Rattle.kahn_session.specs.Refusals.{refusal_text}
-use Rattle.kahn_live.specs.Course.{does_count}
+use Rattle.kahn_live.proofs.Common.{◌∙◌, Bool, List, ℕ, ap, refl, subst, ◌||◌, option_copied, string_bytes, Writes, refusal_text, does_count}
 use Rattle.kahn_live.proofs.Meeting.{either, put_as}
 use Rattle.kahn_live.proofs.telling.Teller.put_new.Goals as goal
 

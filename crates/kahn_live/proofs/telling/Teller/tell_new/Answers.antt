@@ -1,5 +1,4 @@
-use Rattle.std.proofs.Common.{Bool, Some, ap₂}
-use Rattle.kahn_live.specs.Course.{Complaints}
+use Rattle.kahn_live.proofs.Common.{Bool, Some, ap₂, Complaints}
 use Rattle.kahn_live.proofs.telling.Teller.tell_new.Goals as goal
 
 pub returns : goal.returns

@@ -1,7 +1,4 @@
-use Rattle.std.proofs.Common.{List, ℕ, refl, subst}
-use Rattle.std.specs.Prelude.{codes, string_bytes}
-use Rattle.kahn_streams.specs.Written.{Writes}
-use Rattle.kahn_session.specs.Refusals.{line_note}
+use Rattle.kahn_live.proofs.Common.{List, ℕ, refl, subst, codes, string_bytes, Writes, line_note}
 use Rattle.kahn_live.proofs.Meeting.{put_as}
 use Rattle.kahn_live.proofs.telling.Teller.tell_step.Goals as goal
 

@@ -2,27 +2,15 @@ use Rattle.kahn_needs.proofs.Common.{arith, refl, sym, ap, ◌∙◌, subst, Has
 use Rattle.kahn_needs.proofs.Benched as Benched
 use Rattle.kahn_needs.proofs.bench.Bench.act.Goals as goal
 
-pub run-pause-requires-clause-code : goal.run-pause-requires-clause-code
-run-pause-requires-clause-code g c =
-    let at = Benched.found c.self.view_is c.self.invariant c.args.instance c.requires.here c.index_mut.ensures.value in
-    Benched.code_is c.self.invariant c.args.instance at
-
-pub run-pause-requires-clause-ports : goal.run-pause-requires-clause-ports
-run-pause-requires-clause-ports g c =
-    let at = Benched.found c.self.view_is c.self.invariant c.args.instance c.requires.here c.index_mut.ensures.value in
-    Benched.ports_are c.self.invariant c.args.instance at c.at.new.self c.at.ensures
-
-pub run-pause-requires-clause-at : goal.run-pause-requires-clause-at
-run-pause-requires-clause-at g c =
-    let at = Benched.found c.self.view_is c.self.invariant c.args.instance c.requires.here c.index_mut.ensures.value in
-    Benched.at_is c.self.invariant c.args.instance at c.at.new.self c.at.ensures
-
-pub run-pause-requires-clause-events : goal.run-pause-requires-clause-events
-run-pause-requires-clause-events g c =
-    let at = Benched.found c.self.view_is c.self.invariant c.args.instance c.requires.here c.index_mut.ensures.value in
-    let e = ap (λ (x : Seats). events_seen (slice_get x.cells c.args.instance)) (sym c.self.view_is) ∙ ap events_seen at in
-    let l = c.requires.bound in
-    omega (arith, e, l)
+pub run-pause-requires : goal.run-pause-requires
+run-pause-requires g c =
+    let here = Benched.found c.self.view_is c.self.invariant c.args.instance c.requires.here c.index_mut.ensures.value in
+    record {
+      code = Benched.code_is c.self.invariant c.args.instance here;
+      ports = Benched.ports_are c.self.invariant c.args.instance here c.at.new.self c.at.ensures;
+      at = Benched.at_is c.self.invariant c.args.instance here c.at.new.self c.at.ensures;
+      events = omega (arith, ap (λ (x : Seats). events_seen (slice_get x.cells c.args.instance)) (sym c.self.view_is) ∙ ap events_seen here, c.requires.bound);
+    }
 
 pub invariant_of-self : goal.invariant_of-self
 invariant_of-self g c =

@@ -4,10 +4,9 @@ use Rattle.kahn_needs.proofs.bench.Bench.value_on.Goals as goal
 
 pub kept-requires : goal.kept-requires
 kept-requires c =
-    let l = parameter_there c.self.view_is c.self.invariant c.args.channel c.in-Some.side c.in-Some.ensures.only.0 c.index-cell.ensures c.sized.ensures in
     let a = c.parameters-parameters.ensures.lists.1 in
     let b = c.parameters-parameters.ensures.lists.2 in
-    omega (arith, l, a, b)
+    omega (arith, parameter_there c.self.view_is c.self.invariant c.args.channel c.in-Some.side c.in-Some.ensures.only.0 c.index-cell.ensures c.sized.ensures, a, b)
 
 pub returns-in-Some : goal.returns-in-Some
 returns-in-Some c =

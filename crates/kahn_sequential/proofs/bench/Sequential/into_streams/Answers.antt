@@ -4,32 +4,27 @@ use Rattle.kahn_sequential.proofs.bench.Sequential.into_streams.Goals as goal
 
 pub all_kept-kept-requires-clause-room : goal.all_kept-kept-requires-clause-room
 all_kept-kept-requires-clause-room c =
-    let l = length-map c.self.inside.taps.items told_in in
-    let n = c.self.invariant.count in
-    let k = ap (λ (x : Table). length (network_of x.network).instances) c.self.view_is in
     let m = c.requires.ready.enough in
-    omega (arith, l, n, k, m)
+    omega (arith, length-map c.self.inside.taps.items told_in, c.self.invariant.count, ap (λ (x : Table). length (network_of x.network).instances) c.self.view_is, m)
 
-pub fill-requires-clause-named : goal.fill-requires-clause-named
-fill-requires-clause-named c =
+pub fill-requires : goal.fill-requires
+fill-requires c =
+    let i = c.self.inside in
     let x = c.args.streams.items in
     let k = c.args.kept in
-    (c.self.inside.watch, (subst (λ (b : Table). AreStreamsReady b.network b.input b.watch x k.items (vec_capacity k)) (sym c.self.view_is) c.requires.ready).begun.lines)
-
-pub fill-requires-clause-lists : goal.fill-requires-clause-lists
-fill-requires-clause-lists c =
-    let i = c.self.inside in
     let ls = c.all_kept-kept.result.items in
     let whole = subst (λ (b : Table). AreWhole (length (network_of b.network).instances) b.gone) (sym c.self.view_is) c.requires.whole in
-    lists_of_cells i.network.now (map told_in i.taps.items) c.self.invariant.count (λ p d e. let s = c.self.invariant.each p d e in (s.network, s.instance)) ls
-    (left_whole i.taps.items ls _ c.all_kept-kept.ensures whole)
+    record {
+      named = (i.watch, (subst (λ (b : Table). AreStreamsReady b.network b.input b.watch x k.items (vec_capacity k)) (sym c.self.view_is) c.requires.ready).begun.lines);
+      lists = lists_of_cells i.network.now (map told_in i.taps.items) c.self.invariant.count (λ p d e. let s = c.self.invariant.each p d e in (s.network, s.instance)) ls
+          (left_whole i.taps.items ls _ c.all_kept-kept.ensures whole);
+    }
 
 pub returns : goal.returns
 returns c =
     let i = c.self.inside in
-    let x = c.args.streams.items in
     let k = c.args.kept in
-    let ready = subst (λ (b : Table). AreStreamsReady b.network b.input b.watch x k.items (vec_capacity k)) (sym c.self.view_is) c.requires.ready in
+    let ready = subst (λ (b : Table). AreStreamsReady b.network b.input b.watch c.args.streams.items k.items (vec_capacity k)) (sym c.self.view_is) c.requires.ready in
     let whole = subst (λ (b : Table). AreWhole (length (network_of b.network).instances) b.gone) (sym c.self.view_is) c.requires.whole in
     subst (λ (b : Table). AreStreams (sight_of b) c.fill.new.streams.items (stream_lines (network_of b.network) b.watch)) c.self.view_is
     (are_streams i.network.now i.input.value i.watch (map told_in i.taps.items) (left_whole i.taps.items c.all_kept-kept.result.items _ c.all_kept-kept.ensures whole) ready.begun c.fill.ensures)

@@ -7,13 +7,11 @@ pub run-pause-requires : goal.run-pause-requires
 run-pause-requires g c =
     let taps = c.self.inside.taps.items in
     let here = Tapping.found taps c.self.view_is c.self.invariant c.args.instance c.requires.here c.index_mut.ensures.value in
-    let e = Tapping.events_here taps c.self.view_is c.self.invariant c.args.instance c.requires.here c.index_mut.ensures.value in
-    let l = c.requires.bound in
     record {
       code = Benched.code_is c.self.invariant c.args.instance here;
       ports = Benched.ports_are c.self.invariant c.args.instance here c.at.new.self c.at.ensures;
       at = Benched.at_is c.self.invariant c.args.instance here c.at.new.self c.at.ensures;
-      events = omega (arith, e, l);
+      events = omega (arith, Tapping.events_here taps c.self.view_is c.self.invariant c.args.instance c.requires.here c.index_mut.ensures.value, c.requires.bound);
     }
 
 pub invariant_of-self : goal.invariant_of-self

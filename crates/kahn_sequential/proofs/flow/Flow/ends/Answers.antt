@@ -1,6 +1,4 @@
-use Rattle.std.proofs.Common.{◌≡◌, List, Some, sym, subst}
-use Rattle.kahn_sequential.proofs.Common.{IsRightSoFar, Flowing, AreEnded, sight_of}
-use Rattle.kahn_streams.specs.declared.answer.End.{End}
+use Rattle.kahn_sequential.proofs.Common.{◌≡◌, List, Some, sym, subst, IsRightSoFar, Flowing, AreEnded, sight_of, End}
 use Rattle.kahn_sequential.proofs.Righted.{right_with}
 use Rattle.kahn_sequential.proofs.flow.Flow.ends.Goals as goal
 

@@ -1,8 +1,5 @@
-use Rattle.std.proofs.Common.{arith, ◌≡◌, ◌+◌, ◌++◌, Bool, true, false, List, [], drop, length, map, slice_get, None, Some, refl, sym, ap, ◌∙◌, subst}
-use Rattle.kahn_sequential.proofs.Common.{err_from_is_err_and, Input, network_of, role_at, Entry, Token, token_value, channel_of, Table, inputs_of, IsMeant, is_watched, meant_input, poured_length, poured_rest, Flowing, HasPouredIn, flow_of}
-use Rattle.kahn_sequential.proofs.Flowed.{flow_stays}
-use Rattle.kahn_sequential.proofs.Noted.{noted_poured, spent_poured}
-use Rattle.kahn_sequential.proofs.Poured_in.{from_there, is_poured, poured_flow, poured_lent, poured_lists, refused_same}
+use Rattle.kahn_sequential.proofs.Common.{arith, ◌≡◌, ◌+◌, ◌++◌, Bool, true, false, List, [], drop, length, map, slice_get, None, Some, refl, sym, ap, ◌∙◌, subst, err_from_is_err_and, Input, network_of, role_at, Entry, Token, token_value, channel_of, Table, inputs_of, IsMeant, is_watched, meant_input, poured_length, poured_rest, Flowing, HasPouredIn, flow_of}
+use Rattle.kahn_sequential.proofs.{Flowed.flow_stays, Noted.noted_poured, Noted.spent_poured, Poured_in.from_there, Poured_in.is_poured, Poured_in.poured_flow, Poured_in.poured_lent, Poured_in.poured_lists, Poured_in.refused_same}
 use Rattle.kahn_sequential.proofs.flow.Flow.feed.Goals as goal
 
 pub pour-poured-requires : goal.pour-poured-requires
@@ -13,9 +10,8 @@ pour-poured-requires c =
     let meant = c.in_ok-number.ensures in
     let role : role_at (network_of b.network) number ≡ Input =
     ap (λ t. role_at (network_of t) number) c.self.invariant.network ∙ ap (λ k. role_at (network_of c.self.inside.network.now) k) meant.0 ∙ meant_input c.self.inside.network.now (c.args.channel.now, vs) meant.1 in
-    let size = poured_length b.input number vs (poured_lists number vs b.input) (is_poured number vs b.input) in
     let few = c.in-Some.ensures.1 in
-    (role, (is_poured number vs b.input, omega (arith, size, few)))
+    (role, (is_poured number vs b.input, omega (arith, poured_length b.input number vs (poured_lists number vs b.input) (is_poured number vs b.input), few)))
 
 pub returns-in_err-poured : goal.returns-in_err-poured
 returns-in_err-poured c =
@@ -69,9 +65,8 @@ returns c =
     let entry : Entry = (c.args.channel.now, vs) in
     let lent = c.lent_of-lent.ensures in
     let is = ap (λ w. is_watched w number) (sym c.self.invariant.watch) in
-    let named = c.in_ok-number.ensures.0 ∙ ap (λ t. channel_of t entry) (sym c.self.invariant.network) in
     let meant = subst (λ t. IsMeant t entry) (sym c.self.invariant.network) c.in_ok-number.ensures.1 in
     subst (λ (f : Flowing). HasPouredIn entry f (flow_of d i.plan None (length us))) c.self.view_is
     (poured_flow b d number vs (poured_lists number vs b.input) (is_poured number vs b.input) c.in_ok-poured.ensures.poured i.given.items us c.self.invariant.lent c.lent_of-lent.result.now
     (λ e. lent.all (is ∙ e)) (λ e. lent.none (is ∙ e)) (c.lend.ensures ∙ ap (λ (l : List Token). map token_value l ++ c.lent_of-lent.result.now) c.make_room.ensures.items)
-    i.plan i.verdict entry named refl meant c.in-Some.ensures.0)
+    i.plan i.verdict entry (c.in_ok-number.ensures.0 ∙ ap (λ t. channel_of t entry) (sym c.self.invariant.network)) refl meant c.in-Some.ensures.0)

@@ -1,7 +1,5 @@
-use Rattle.std.proofs.Common.{inr, length, sym, subst, ap}
-use Rattle.kahn_sequential.proofs.Common.{AreEnded, Flowing, HasLetGo, Table, flow_of}
+use Rattle.kahn_sequential.proofs.Common.{inr, length, sym, subst, ap, AreEnded, Flowing, HasLetGo, Table, flow_of, AreNoted}
 use Rattle.kahn_sequential.proofs.Flowed.{emptied_flow, emptied_state, flow_stays, none_lent}
-use Rattle.kahn_sequential.specs.inner.Noted.{AreNoted}
 use Rattle.kahn_sequential.proofs.flow.Flow.forget.Goals as goal
 
 pub invariant_of-self : goal.invariant_of-self

@@ -1,7 +1,5 @@
-use Rattle.std.proofs.Common.{◌≡◌, ◌<◌, length, sym, subst}
-use Rattle.kahn_sequential.proofs.Common.{Given, Written, Writes, channel_source, network_of, instance_at, actual_at, IsLineOf, AreNew, Flowing}
-use Rattle.kahn_sequential.proofs.Flowed.{line_here, new_given, new_kept, new_printed}
-use Rattle.kahn_sequential.proofs.Named.{HasLine}
+use Rattle.kahn_sequential.proofs.Common.{◌≡◌, ◌<◌, length, sym, subst, Given, Written, Writes, channel_source, network_of, instance_at, actual_at, IsLineOf, AreNew, Flowing}
+use Rattle.kahn_sequential.proofs.{Flowed.line_here, Flowed.new_given, Flowed.new_kept, Flowed.new_printed, Named.HasLine}
 use Rattle.kahn_sequential.proofs.flow.Flow.fresh.Goals as goal
 
 pub writer-requires : goal.writer-requires
@@ -10,14 +8,13 @@ writer-requires c =
     let here = line_here i.bench i.plan i.verdict c.args.line (subst (λ (f : Flowing). IsLineOf f.run c.args.line) (sym c.self.view_is) c.requires) in
     subst (λ t. c.in-Channel.channel < length (network_of t).channels) c.self.invariant.network (subst (HasLine (network_of i.bench.network) i.bench.watch) c.in-Channel.is here).0
 
-pub fresh-requires-clause-here : goal.fresh-requires-clause-here
-fresh-requires-clause-here c =
-    subst (λ t. c.in-Some.side.instance < length (network_of t).instances) (sym c.self.invariant.network) c.in-Some.ensures.only.0.0.0
-
-pub fresh-requires-clause-parameter : goal.fresh-requires-clause-parameter
-fresh-requires-clause-parameter c =
-    let p = c.in-Some.side.instance in
-    subst (λ t. c.in-Some.side.parameter < length (instance_at (network_of t) p).actuals) (sym c.self.invariant.network) c.in-Some.ensures.only.0.0.1
+pub fresh-requires : goal.fresh-requires
+fresh-requires c =
+    let side = c.in-Some.side in
+    record {
+      here = subst (λ t. side.instance < length (network_of t).instances) (sym c.self.invariant.network) c.in-Some.ensures.only.0.0.0;
+      parameter = subst (λ t. side.parameter < length (instance_at (network_of t) side.instance).actuals) (sym c.self.invariant.network) c.in-Some.ensures.only.0.0.1;
+    }
 
 pub fresh_prints-requires : goal.fresh_prints-requires
 fresh_prints-requires c =
@@ -28,14 +25,13 @@ fresh_prints-requires c =
 pub returns-in-Some : goal.returns-in-Some
 returns-in-Some c =
     let i = c.self.inside in
-    let b = i.bench in
     let t = sym c.self.invariant.network in
     let p = c.in-Some.side.instance in
     let q = c.in-Some.side.parameter in
     let d = c.in-Channel.channel in
     let ts = c.fresh.result.now in
     subst (λ (f : Flowing). AreNew f c.args.line ts) c.self.view_is
-    (new_kept b i.plan i.verdict (length i.given.items) c.stood.ensures.laid c.args.line d p q ts c.in-Channel.is
+    (new_kept i.bench i.plan i.verdict (length i.given.items) c.stood.ensures.laid c.args.line d p q ts c.in-Channel.is
     (subst (λ x. channel_source (network_of x) d ≡ Written p) t c.in-Some.ensures.source)
     (subst (λ x. actual_at (instance_at (network_of x) p) q ≡ Writes d) t c.in-Some.ensures.only.0.1) c.fresh.ensures)
 

@@ -1,8 +1,5 @@
-use Rattle.std.proofs.Common.{rules, ◌≡◌, ℕ, ◌<◌, ◌≤◌, length, true, subst, sym}
-use Rattle.kahn_sequential.proofs.Common.{Flowing, flow_of}
+use Rattle.kahn_sequential.proofs.Common.{rules, ◌≡◌, ℕ, ◌<◌, ◌≤◌, length, true, subst, sym, Flowing, flow_of, IsStale, IsNumberOf, is_in}
 use Rattle.kahn_sequential.proofs.Flowed.{stale}
-use Rattle.kahn_sequential.specs.Flows.{IsStale}
-use Rattle.kahn_sequential.specs.inner.Numbers.{IsNumberOf, is_in}
 use Rattle.kahn_sequential.proofs.flow.Flow.next_fresh.Goals as goal
 
 pub returns-clause-stale : goal.returns-clause-stale

@@ -1,16 +1,10 @@
-use Rattle.std.proofs.Common.{arith, ◌+◌, Some, length, subst}
-use Rattle.kahn_sequential.proofs.Common.{Flowing, IsRunOn, flow_of}
-use Rattle.kahn_sequential.proofs.Flowed.{flow_after, flowed_on}
-use Rattle.kahn_sequential.proofs.Righted.{events_seen}
+use Rattle.kahn_sequential.proofs.Common.{arith, ◌+◌, Some, length, subst, Flowing, IsRunOn, flow_of}
+use Rattle.kahn_sequential.proofs.{Flowed.flow_after, Flowed.flowed_on, Righted.events_seen}
 use Rattle.kahn_sequential.proofs.flow.Flow.resume.Goals as goal
 
 pub run_on-part-requires-clause-bound : goal.run_on-part-requires-clause-bound
 run_on-part-requires-clause-bound g c =
-    let l = c.self.invariant.left in
-    let m = c.self.invariant.few in
-    let f = c.if-self-more.false in
-    let s = events_seen c.self.inside.bench.cells in
-    omega (arith, l, m, f, s)
+    omega (arith, c.self.invariant.left, c.self.invariant.few, c.if-self-more.false, events_seen c.self.inside.bench.cells)
 
 pub invariant_of-self : goal.invariant_of-self
 invariant_of-self g c =

@@ -1,10 +1,5 @@
-use Rattle.std.proofs.Common.{ℕ, Option, Some, arith, rules, ◌≡◌, ◌≤◌, slice_get, length, vec_capacity, refl, sym, ◌∙◌, subst}
-use Rattle.kahn_sequential.proofs.Common.{Program, Lists, IsInRange, IsWatched, network_of, inputs_of, AreAllGiven, stream_lines}
-use Rattle.kahn_sequential.proofs.Flowed.{all_lent, none_let_go}
-use Rattle.kahn_sequential.proofs.Righted.{events_seen, none_done}
-use Rattle.kahn_sequential.proofs.Giving.{begun_none}
-use Rattle.kahn_sequential.proofs.Named.{line_declared}
-use Rattle.kahn_sequential.specs.inner.Numbers.{HoldNumbers}
+use Rattle.kahn_sequential.proofs.Common.{ℕ, Option, Some, arith, rules, ◌≡◌, ◌≤◌, slice_get, length, vec_capacity, refl, sym, ◌∙◌, subst, Program, Lists, IsInRange, IsWatched, network_of, inputs_of, AreAllGiven, stream_lines, HoldNumbers}
+use Rattle.kahn_sequential.proofs.{Flowed.all_lent, Flowed.none_let_go, Righted.events_seen, Righted.none_done, Giving.begun_none, Named.line_declared}
 use Rattle.kahn_sequential.proofs.flow.Flow.start.Goals as goal
 
 pub give_watched-requires : goal.give_watched-requires
@@ -23,14 +18,13 @@ invariant_of-result c =
     let r : IsInRange plan.workers plan.quantum plan.bound = rw (p.workers, p.rest.0, p.rest.1) p.allowed in
     let b = c.in_ok-bench.bench in
     let e = c.in_ok-bench.ensures in
-    let fresh = e.fresh in
     let ts = c.give_watched.new.tokens.items in
     let all = subst (λ (x : Program × Lists × Option ℕ). AreAllGiven (network_of x.0) (inputs_of x.1) x.2 ts) (λ i. (sym e.names.0 i, sym e.names.1 i, sym e.names.2 i))
     c.in_ok-give_watched.ensures.all in record {
       network = e.names.0;
       watch = e.names.2;
       some = let q = r.2 in omega (arith, q);
-      left = let s = events_seen b.cells in omega (arith, fresh, s);
+      left = let s = events_seen b.cells in omega (arith, e.fresh, s);
       few = r.4;
       enough = subst (λ t. length (network_of t).instances ≤ vec_capacity c.in_ok-ends.ends) (sym e.names.0) c.in_ok-ends.ensures;
       ended = tt;

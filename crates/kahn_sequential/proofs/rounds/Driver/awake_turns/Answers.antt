@@ -1,5 +1,4 @@
-use Rattle.std.proofs.Common.{sym, subst}
-use Rattle.kahn_sequential.proofs.Common.{HasAdvanced, Table}
+use Rattle.kahn_sequential.proofs.Common.{sym, subst, HasAdvanced, Table}
 use Rattle.kahn_sequential.proofs.Turns.{advanced_none, moved_on, turned}
 use Rattle.kahn_sequential.proofs.rounds.Driver.awake_turns.Goals as goal
 
@@ -9,4 +8,4 @@ loop-preserved g c =
     subst (λ (b : Table). HasAdvanced c.args.bench.now b c.args.last c.visit-end.new.round) (sym c.note_left.ensures) (moved_on before (turned before.may c.in-Some.ensures.here c.visit-end.ensures.turn))
 
 pub loop-init : goal.loop-init
-loop-init g c = advanced_none c.args.last c.requires c.ask_all.ensures.worked c.ask_all.ensures.same
+loop-init g c = subst (λ (b : Table). HasAdvanced c.args.bench.now b c.args.last c.args.last) (sym c.wake_all.ensures) (advanced_none c.args.last c.requires)

@@ -12,4 +12,4 @@ loop-instance-preserved g c =
     record { moved = moved_on i.moved v; count = search rules }
 
 pub loop-instance-init : goal.loop-instance-init
-loop-instance-init g c = record { moved = begun c.requires (search rules) (record { quantum = refl; left = refl; memory = refl; room = refl }); count = search rules }
+loop-instance-init g c = record { moved = begun c.requires (record { quantum = refl; left = refl; memory = refl; room = refl }); count = search rules }

@@ -1,5 +1,4 @@
-use Rattle.std.proofs.Common.{◌≡◌, length}
-use Rattle.kahn_sequential.proofs.Common.{HasAdvanced, sight_of}
+use Rattle.kahn_sequential.proofs.Common.{◌≡◌, length, HasAdvanced, sight_of}
 use Rattle.kahn_sequential.proofs.rounds.Driver.brief_round.Given as goal
 
 abbrev pub invariant-loop-instance : goal.invariant-loop-instance

@@ -1,4 +1,3 @@
-use Rattle.std.proofs.Common.{rules, refl}
 use Rattle.kahn_sequential.proofs.Turns.{advanced_none, moved_on}
 use Rattle.kahn_sequential.proofs.rounds.Driver.brief_rounds.Goals as goal
 
@@ -6,4 +5,4 @@ pub loop-preserved : goal.loop-preserved
 loop-preserved g c = moved_on c.loop.invariant c.rounds_together.ensures
 
 pub loop-init : goal.loop-init
-loop-init g c = advanced_none c.args.last c.requires (search rules) refl
+loop-init g c = advanced_none c.args.last c.requires

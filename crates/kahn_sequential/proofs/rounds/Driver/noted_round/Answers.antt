@@ -1,12 +1,11 @@
-use Rattle.std.proofs.Common.{◌≡◌, ◌<◌, [], add-one, ap, arith, length, refl, rules, slice_get, Some, vec_capacity}
-use Rattle.kahn_sequential.proofs.Common.{sight_of}
+use Rattle.kahn_sequential.proofs.Common.{◌≡◌, ◌<◌, [], add-one, ap, arith, length, refl, rules, slice_get, Some, vec_capacity, sight_of}
 use Rattle.kahn_sequential.proofs.Turns.{begun, noted}
 use Rattle.kahn_sequential.proofs.rounds.Driver.noted_round.Goals as goal
 
 pub loop-instance-init : goal.loop-instance-init
 loop-instance-init g c =
     record {
-      advanced = begun c.requires (search rules) (record { quantum = refl; left = refl; memory = refl; room = c.clear.ensures.capacity });
+      advanced = begun c.requires (record { quantum = refl; left = refl; memory = refl; room = c.clear.ensures.capacity });
       size = ap length c.clear.ensures.items;
       still = λ f k y h. absurd (let e : slice_get [] k ≡ Some y = rw c.clear.ensures.items at h in cc);
     }
@@ -18,12 +17,8 @@ pub push_reserved-requires : goal.push_reserved-requires
 push_reserved-requires g c =
     let i = c.loop-instance.invariant in
     let here : c.loop-instance.instance < length (sight_of c.loop-instance.bench).network.instances = search rules in
-    let size = i.size in
-    let room = i.advanced.may.room in
     let ends = c.visit-end.ensures.turn.marked.ends in
-    let long = ap (λ e. length e.items) ends in
-    let wide = ap vec_capacity ends in
-    omega (arith, here, size, room, long, wide)
+    omega (arith, here, i.size, i.advanced.may.room, ap (λ e. length e.items) ends, ap vec_capacity ends)
 
 pub loop-instance-preserved : goal.loop-instance-preserved
 loop-instance-preserved g c =

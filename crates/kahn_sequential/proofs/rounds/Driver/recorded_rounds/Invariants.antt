@@ -1,5 +1,4 @@
-use Rattle.kahn_sequential.proofs.Common.{HasAdvanced, weight}
-use Rattle.kahn_sequential.specs.inner.Recording.{AreRecorded}
+use Rattle.kahn_sequential.proofs.Common.{HasAdvanced, weight, AreRecorded}
 use Rattle.kahn_sequential.proofs.rounds.Driver.recorded_rounds.Given as goal
 
 abbrev pub invariant-rounds : goal.invariant-rounds

@@ -1,4 +1,3 @@
-use Rattle.std.proofs.Common.{rules, refl}
 use Rattle.kahn_sequential.proofs.Turns.{advanced_none, moved_on}
 use Rattle.kahn_sequential.proofs.rounds.Driver.rounds_together.Goals as goal
 
@@ -9,4 +8,4 @@ pub loop-preserved : goal.loop-preserved
 loop-preserved g c = moved_on c.loop.invariant c.brief_round.ensures
 
 pub loop-init : goal.loop-init
-loop-init g c = advanced_none c.args.round.now c.requires (search rules) refl
+loop-init g c = advanced_none c.args.round.now c.requires

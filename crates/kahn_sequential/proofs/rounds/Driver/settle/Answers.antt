@@ -1,17 +1,16 @@
-use Rattle.std.proofs.Common.{refl, rules, sym, ◌∙◌}
-use Rattle.kahn_sequential.proofs.Common.{sight_of}
-use Rattle.kahn_sequential.proofs.Noted.{all_rest, noted_but}
-use Rattle.kahn_sequential.proofs.Turns.{advanced_none, moved_on}
+use Rattle.kahn_sequential.proofs.Common.{rules, sym, ◌∙◌, sight_of}
+use Rattle.kahn_sequential.proofs.{Noted.all_rest, Noted.noted_but, Turns.advanced_none, Turns.moved_on}
 use Rattle.kahn_sequential.proofs.rounds.Driver.settle.Goals as goal
 
 pub loop-init : goal.loop-init
-loop-init g c = record { advanced = advanced_none c.args.round.now c.requires.may (search rules) refl; noted = c.requires.noted; spent = c.requires.spent }
+loop-init g c = record { advanced = advanced_none c.args.round.now c.requires.may; noted = c.requires.noted; spent = c.requires.spent }
 
-pub settle_one-requires-clause-may : goal.settle_one-requires-clause-may
-settle_one-requires-clause-may g c = c.loop.invariant.advanced.may
-
-pub settle_one-requires-clause-noted : goal.settle_one-requires-clause-noted
-settle_one-requires-clause-noted g c = noted_but (sight_of c.loop.bench) c.loop.woken c.take.new.self c.in-Some.instance c.loop.round.ends.items c.loop.invariant.noted c.in-Some.ensures.taken
+pub settle_one-requires : goal.settle_one-requires
+settle_one-requires g c = record {
+  may = c.loop.invariant.advanced.may;
+  noted = noted_but (sight_of c.loop.bench) c.loop.woken c.take.new.self c.in-Some.instance c.loop.round.ends.items c.loop.invariant.noted c.in-Some.ensures.taken;
+  spent = c.loop.invariant.spent;
+}
 
 pub returns-in_default-clause-rest : goal.returns-in_default-clause-rest
 returns-in_default-clause-rest g c = λ yes.
@@ -25,9 +24,6 @@ loop-preserved g c = record {
   noted = c.settle_one.ensures.noted (search rules);
   spent = c.settle_one.ensures.spent;
 }
-
-pub settle_one-requires-clause-spent : goal.settle_one-requires-clause-spent
-settle_one-requires-clause-spent g c = c.loop.invariant.spent
 
 pub returns-in_default-clause-spent : goal.returns-in_default-clause-spent
 returns-in_default-clause-spent g c = c.loop.invariant.spent

@@ -1,5 +1,4 @@
-use Rattle.kahn_sequential.proofs.Common.{HasAdvanced, sight_of}
-use Rattle.kahn_sequential.specs.inner.Noted.{AreNoted, AreSpent}
+use Rattle.kahn_sequential.proofs.Common.{HasAdvanced, sight_of, AreNoted, AreSpent}
 use Rattle.kahn_sequential.proofs.rounds.Driver.settle.Given as goal
 
 abbrev pub invariant-loop : goal.invariant-loop

@@ -1,5 +1,4 @@
-use Rattle.std.proofs.Common.{◌≡◌, ◌-◌, ◌≤◌, arith, sym}
-use Rattle.kahn_sequential.proofs.Common.{events_at, sight_of}
+use Rattle.kahn_sequential.proofs.Common.{◌≡◌, ◌-◌, ◌≤◌, arith, sym, events_at, sight_of}
 use Rattle.kahn_sequential.proofs.Turns.{turn_bound}
 use Rattle.kahn_sequential.proofs.rounds.Driver.take_turn.Goals as goal
 

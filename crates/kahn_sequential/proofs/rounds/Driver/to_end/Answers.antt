@@ -1,5 +1,4 @@
-use Rattle.std.proofs.Common.{subst}
-use Rattle.kahn_sequential.proofs.Common.{HasComeToRest, IsVerdict}
+use Rattle.kahn_sequential.proofs.Common.{subst, HasComeToRest, IsVerdict}
 use Rattle.kahn_sequential.proofs.Benched.{within}
 use Rattle.kahn_sequential.proofs.rounds.Driver.to_end.Goals as goal
 

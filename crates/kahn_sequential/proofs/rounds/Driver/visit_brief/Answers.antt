@@ -1,5 +1,4 @@
-use Rattle.std.proofs.Common.{◌<◌, length, subst, sym}
-use Rattle.kahn_sequential.proofs.Common.{HasAdvanced, MayRun, Table, sight_of}
+use Rattle.kahn_sequential.proofs.Common.{◌<◌, length, subst, sym, HasAdvanced, MayRun, Table, sight_of}
 use Rattle.kahn_sequential.proofs.Turns.{turned}
 use Rattle.kahn_sequential.proofs.rounds.Driver.visit_brief.Goals as goal
 

@@ -1,6 +1,5 @@
 use Rattle.std.proofs.Common.{arith, refl}
-use Rattle.kahn_sequential.proofs.Benched.{within_get}
-use Rattle.kahn_sequential.proofs.Noted.{popped}
+use Rattle.kahn_sequential.proofs.{Benched.within_get, Noted.popped}
 use Rattle.kahn_sequential.proofs.woken.Woken.take.Goals as goal
 
 pub returns-in-Some-clause-taken : goal.returns-in-Some-clause-taken
@@ -10,8 +9,5 @@ pub returns-in-None-clause-taken : goal.returns-in-None-clause-taken
 returns-in-None-clause-taken c = (
   refl,
   λ p w.
-      let l = within_get c.args.self.now.instances.items w.0 p w.1 in
-      let z = c.in-None.ensures.cases.0 in
-      let o = c.args.self.now.instances.ok.0 in
-      absurd (omega (arith, z, l, o)),
+      absurd (omega (arith, c.in-None.ensures.cases.0, within_get c.args.self.now.instances.items w.0 p w.1, c.args.self.now.instances.ok.0)),
 )

@@ -1,3 +1,0 @@
-mod Granted
-mod Opening
-pub mod Common
