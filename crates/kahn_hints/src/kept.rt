@@ -46,7 +46,8 @@ fn is_told(
     fault: CheckFault,
 ) -> bool {
     let from = check_span(fault).map_or(0, |span| span.from);
-    let Some(instance) = instance_at(&tree.instances, from) else {
+    let instance = instance_at(&tree.instances, from);
+    let Some(instance) = instance.filter(|_| from < limit_of(faults)) else {
         return true;
     };
     let body = text_of(tree, instance.process.text.as_bytes());
@@ -55,7 +56,7 @@ fn is_told(
         || faults
             .iter()
             .any(|other| follows(text, body, fault, *other));
-    from >= limit_of(faults) || !is_held
+    !is_held
 }
 
 /// Adds a fault, if it is told.
