@@ -3,6 +3,7 @@
     pypy3 beside.py WORKLOAD SIZE      pipeline, sample, pipelines or arithmetic
 """
 import collections
+import itertools
 import sys
 
 DRY = object()
@@ -23,30 +24,22 @@ def copy(u, w):
 
 
 def f(u, v, w, n):
-    b = True
-    for _ in range(n):
-        it = u if b else v
+    for it in itertools.islice(itertools.cycle((u, v)), n):
         while not it:
             yield
         w.append(it.popleft())
-        b = not b
 
 
 def g(u, v, w):
-    b = True
-    while True:
+    for it in itertools.cycle((v, w)):
         while not u:
             yield
-        (v if b else w).append(u.popleft())
-        b = not b
+        it.append(u.popleft())
 
 
 def h(u, v, initial):
     v.append(initial)
-    while True:
-        while u:
-            v.append(u.popleft())
-        yield
+    yield from copy(u, v)
 
 
 def total(w, n):
@@ -69,27 +62,19 @@ def run(processes):
         next(it, DRY)
 
 
-def report(name, w):
-    sys.stdout.write(f"{name}:" + "".join(f" {it}" for it in w) + "\n")
-
-
 def main(workload, size):
-    n, w, channel = int(size), collections.deque(), collections.deque
-    if workload == "pipeline":
-        x0, x1, x2 = channel(), channel(), channel()
-        run([count(x0, n), copy(x0, x1), copy(x1, x2), copy(x2, w)])
-        report("W", w)
-    elif workload == "sample":
-        x, y, z, t1, t2 = (channel() for _ in range(5))
-        run([f(y, z, x, n), g(x, t1, t2), h(t1, y, 0), h(t2, z, 1)])
-    elif workload == "pipelines":
-        pairs = [(channel(), channel()) for _ in range(64)]
-        run([it for x, to in pairs for it in (count(x, n), copy(x, to))])
-        for k, (_, to) in enumerate(pairs):
-            report(f"W{k}", to)
-    elif workload == "arithmetic":
-        run([total(w, n)])
-        report("W", w)
+    n, channel = int(size), collections.deque
+    x, y, z, t1, t2, w = (channel() for _ in range(6))
+    pairs = [(channel(), channel()) for _ in range(64)]
+    processes, told = {
+        "pipeline": ([count(x, n), copy(x, y), copy(y, z), copy(z, w)], [w]),
+        "sample": ([f(y, z, x, n), g(x, t1, t2), h(t1, y, 0), h(t2, z, 1)], []),
+        "pipelines": ([it for u, to in pairs for it in (count(u, n), copy(u, to))], [to for _, to in pairs]),
+        "arithmetic": ([total(w, n)], [w]),
+    }[workload]
+    run(processes)
+    for k, to in enumerate(told):
+        print(f"W{k if told[1:] else ''}:", *to)
 
 
 if __name__ == "__main__":

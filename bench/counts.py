@@ -14,7 +14,7 @@ import tempfile
 
 sys.dont_write_bytecode = True
 import workloads
-from common import Tried
+from common import Tried, text_of
 
 ROOM = 1.03
 # name: two sizes, the units of a size, and with how many workers, if not with one alone
@@ -41,7 +41,7 @@ def main(kahn, *words):
     if not shutil.which("valgrind"):
         print("there is no valgrind: nothing is counted\n1 passed, 0 failed")
         return 0
-    rows = [line.split() for line in workloads.text_of("limits.txt").splitlines() if line.strip() and not line.startswith("#")]
+    rows = [line.split() for line in text_of(f"{workloads.HERE}/limits.txt").splitlines() if line.strip() and not line.startswith("#")]
     most, tried = {(name, int(workers)): float(most) for name, workers, most in rows}, Tried()
     with tempfile.TemporaryDirectory() as room:
         for name in [word for word in words if not word.startswith("--")] or WORKLOADS:

@@ -102,7 +102,7 @@ def main(*words):
         for name in names or WORKLOADS:
             workload, *more = WORKLOADS[name]
             sizes = [it for it in more if isinstance(it, int)]
-            path = workloads.put(room, name, workloads.made(workload, *sizes) if sizes else workloads.text_of(workload))
+            path = workloads.put(room, name, workloads.made(workload, *sizes) if sizes else workloads.text_of(f"{workloads.HERE}/{workload}"))
             measure(name, {way: [kahn, path, *more[len(sizes):], "--workers", str(way), *BOUND] for way in WORKERS}, runs)
 
 

@@ -8,13 +8,9 @@ import sys
 HERE = os.path.dirname(os.path.abspath(__file__))
 sys.path.append(f"{HERE}/../tests")
 import texts
+from common import text_of, write
 
 KEPT = {"arithmetic": 10_000_000, "pipeline": 1_000_000, "sample": 200_000}
-
-
-def text_of(name):
-    with open(f"{HERE}/{name}", encoding="utf-8") as it:
-        return it.read()
 
 
 TEXTS = {heading.split()[0]: (heading.split()[1:], lines[""]) for heading, lines in texts.sections(f"{HERE}/workloads.txt")}
@@ -23,7 +19,7 @@ TEXTS = {heading.split()[0]: (heading.split()[1:], lines[""]) for heading, lines
 def made(name, *given):
     """The text of a workload of this size."""
     if name in KEPT:
-        return text_of(f"{name}.kahn").replace(str(KEPT[name]), str(*given))
+        return text_of(f"{HERE}/{name}.kahn").replace(str(KEPT[name]), str(*given))
     words, text = TEXTS[name]
     values = {word.split("=")[0]: given[at] if at < len(given) else int(word.split("=")[1]) for at, word in enumerate(words)}
     return texts.expanded(text, values, texts={other: it for other, (_, it) in TEXTS.items()}) + "\n"
@@ -37,9 +33,7 @@ def instructions(words, room):
 
 def put(room, name, text):
     """A file for a program."""
-    with open(f"{room}/{name}.kahn", "w", encoding="utf-8") as it:
-        it.write(text)
-    return it.name
+    return write(f"{room}/{name}.kahn", text)
 
 
 def used(words, **more):

@@ -41,7 +41,6 @@ class Maker:
     def blank(self):
         return self.pick(" ", " ", " ", "\n", "\t", "\r\n", " comment a; ", "\n  ", "  ")
 
-    # ---- expressions
     def expr(self, kind, depth):
         if depth <= 0 or self.chance(0.3):
             return self.leaf(kind)
@@ -76,7 +75,6 @@ class Maker:
         n = self.r.choice(NUMBERS) if self.chance(0.4) else self.r.randint(0, 9)
         return ("0" if self.chance(0.05) else "") + str(n)
 
-    # ---- statements
     def simple(self, depth):
         form = self.r.random()
         if form < 0.3 and self.outs:
@@ -110,7 +108,6 @@ class Maker:
             return f"while {self.expr('logical', 2)} do {self.statement(depth - 1)}"
         return f"repeat {self.block(depth - 1)}"
 
-    # ---- programs
     def program(self):
         count = self.r.randint(1, self.INSTANCES)
         ends = [[] for _ in range(count)]  # of each instance: (way, kind, channel)
@@ -168,7 +165,6 @@ class Maker:
                 many.append(f"repeat send wait({i}) on {o}")
         return f"process {name}({'; '.join(groups)}); begin {variables}{'; '.join(many)} end"
 
-    # ---- inputs
     def input(self):
         out = []
         for n, kind, role in self.channels:
@@ -224,14 +220,6 @@ def renamed(rng, text):
     return "".join(parts)
 
 
-def deep(rng):
-    """A text near the limit of nesting."""
-    n = rng.randint(62, 66)
-    body = rng.choice((f"print {'(' * n}1{')' * n}", f"logical B; B := {'not ' * n}true", f"integer I; I := {'-' * n}1", f"{'begin ' * n}{'end ' * n}",
-                       f"if true then {' else if false then ' * (n - 1)}", f"print {'if true then ' * n}1{' else 2' * n}", "while false do " * n))
-    return f"begin process p(); begin {body} end; p() end"
-
-
 def bytes_of(rng, text):
     data = bytearray(text.encode())
     if rng.random() < 0.01 and data:
@@ -249,8 +237,6 @@ def case(seed):
         text = renamed(rng, text)
     elif form < 0.53:
         source = broken(rng, source) if source else rng.choice((": 1", "X0", "A: x", "a: +1", "X0: 1", "begin:", "a" * 65 + ": 1"))
-    elif form < 0.56:
-        text = deep(rng)
     names = [n for n, _, _ in maker.channels] + (["Q", "p0"] if rng.random() < 0.2 else [])
     watch = rng.choice(names) if names and rng.random() < 0.3 else None
     bound = rng.choice((None, None, 0, 1, 5, 10, 37, 100, 1000, 3000))
