@@ -1,6 +1,7 @@
 -- The channels and processes of a program by name and by number.
-use Rattle.kahn_streams.proofs.Common.{◌≡◌, ℕ, zero, suc, ◌<◌, Bool, true, false, cond, List, [], ◌∷◌, ◌++◌, map, length, Option, Some, refl, ap, sym, ◌∙◌, subst, arith, bytes_eq, lookup, AllByRecursion, map-append, Name, Kind, Role, Process, Declaration, Scope, place_of, bytes_of, channels_of, process_of, entries, Global, IsChannel, IsProcess, declared_of, declared_channels, processes_of}
+use Rattle.kahn_streams.proofs.Common.{◌≡◌, ◌⊎◌, inl, inr, ℕ, zero, suc, ◌<◌, Bool, true, false, cond, List, [], ◌∷◌, ◌++◌, map, length, Option, Some, refl, ap, sym, ◌∙◌, subst, arith, bytes_eq, lookup, AllByRecursion, map-append, Name, Kind, Role, Process, Declaration, Scope, place_of, bytes_of, channels_of, process_of, entries, Global, IsChannel, IsProcess, declared_of, declared_channels, processes_of}
 use Rattle.std.specs.Prelude.{slice_get, slice_index_or, ◌==◌}
+use Rattle.std.proofs.Math.Logic.{⊎_elim}
 use Rattle.std.proofs.Math.Dec.{eqb-suc-zero, eqb-suc-suc, eqb-zero-suc}
 use Rattle.std.specs.List.{IsDistinct}
 use Rattle.kahn_streams.specs.declared.tree.Declaration.TheVariants as D
@@ -43,17 +44,18 @@ mapped_at f [] (suc c) y h = cc
 mapped_at f (x ∷ xs) zero y h = let same : f x ≡ y = cc in (x, refl, sym same)
 mapped_at f (x ∷ xs) (suc c) y h = mapped_at f xs c y h
 
+-- what is found first, or among the rest
+pub found_in : {X : Type 0} (b : Bool) (x y : X) (o : Option X) → cond b (Some x) o ≡ Some y → ((b ≡ true) × (x ≡ y)) ⊎ ((b ≡ false) × (o ≡ Some y))
+found_in true x y o h = inl (refl, cc)
+found_in false x y o h = inr (refl, h)
+
 -- ---- a process by its name
 
 skip_names : (x : List ℕ) (kind : Kind) (role : Role) (p : Process) (xs : List Name) (rest : Table) → lookup (bytes_eq x) (entries (as_channels kind role xs) ++ rest) ≡ Some (IsProcess p) →
     lookup (bytes_eq x) rest ≡ Some (IsProcess p)
 skip_names x kind role p [] rest h = h
-skip_names x kind role p (n ∷ ns) rest h = by (bytes_eq x (bytes_of n)) h (λ i. skip_names x kind role p ns rest i)
-  where
-    by : (b : Bool) → cond b (Some (IsChannel kind role)) (lookup (bytes_eq x) (entries (as_channels kind role ns) ++ rest)) ≡ Some (IsProcess p) →
-        (lookup (bytes_eq x) (entries (as_channels kind role ns) ++ rest) ≡ Some (IsProcess p) → lookup (bytes_eq x) rest ≡ Some (IsProcess p)) → lookup (bytes_eq x) rest ≡ Some (IsProcess p)
-    by true i go = cc
-    by false i go = go i
+skip_names x kind role p (n ∷ ns) rest h =
+    ⊎_elim (λ (e, f). cc) (λ (e, i). skip_names x kind role p ns rest i) (found_in (bytes_eq x (bytes_of n)) (IsChannel kind role) (IsProcess p) _ h)
 
 split : (x : List ℕ) (g : Option Global) (kind : Kind) (role : Role) (names : List Name) (rest : List Declaration) →
     lookup (bytes_eq x) (entries (as_channels kind role names ++ declared_of rest)) ≡ g → lookup (bytes_eq x) (entries (as_channels kind role names) ++ entries (declared_of rest)) ≡ g
@@ -64,22 +66,16 @@ pub the_process : (x : List ℕ) (p : Process) (ds : List Declaration) → looku
 the_process x p [] h = cc
 the_process x p (D.Channels kind role names ∷ rest) h =
     the_process x p rest (skip_names x kind role p names.items (entries (declared_of rest)) (split x (Some (IsProcess p)) kind role names.items rest h))
-the_process x p (D.Process q ∷ rest) h = by (bytes_eq x (bytes_of q.name)) h (λ i. the_process x p rest i)
-  where
-    by : (b : Bool) → cond b (Some (IsProcess q)) (lookup (bytes_eq x) (entries (declared_of rest))) ≡ Some (IsProcess p) →
-        (lookup (bytes_eq x) (entries (declared_of rest)) ≡ Some (IsProcess p) → process_of rest x ≡ Some p) → cond b (Some q) (process_of rest x) ≡ Some p
-    by true i go = let same : q ≡ p = cc in ap Some same
-    by false i go = go i
+the_process x p (D.Process q ∷ rest) h =
+    ⊎_elim (λ (e, f). let same : q ≡ p = cc in rw e (ap Some same)) (λ (e, i). rw e (the_process x p rest i))
+    (found_in (bytes_eq x (bytes_of q.name)) (IsProcess q) (IsProcess p) _ h)
 
 -- what each process meets, the process of that name meets
 pub of_process : (P : Process → Type 0) (x : List ℕ) (p : Process) (ds : List Declaration) → AllByRecursion P (processes_of ds) → process_of ds x ≡ Some p → P p
 of_process P x p [] all h = cc
 of_process P x p (D.Channels kind role names ∷ rest) all h = of_process P x p rest all h
-of_process P x p (D.Process q ∷ rest) all h = by (bytes_eq x (bytes_of q.name)) h (λ i. of_process P x p rest all.1 i)
-  where
-    by : (b : Bool) → cond b (Some q) (process_of rest x) ≡ Some p → (process_of rest x ≡ Some p → P p) → P p
-    by true i go = let same : q ≡ p = cc in subst P same all.0
-    by false i go = go i
+of_process P x p (D.Process q ∷ rest) all h =
+    ⊎_elim (λ (e, f). subst P f all.0) (λ (e, i). of_process P x p rest all.1 i) (found_in (bytes_eq x (bytes_of q.name)) q p _ h)
 
 -- ---- a channel by its name
 
@@ -88,26 +84,17 @@ place_in_names : (x : List ℕ) (kind j : Kind) (role r : Role) (xs : List Name)
     lookup (bytes_eq x) (entries (as_channels j r xs) ++ rest) ≡ Some (IsChannel kind role) →
     slice_get (map (λ c. c.1) (map (λ n. (bytes_of n, (j, r))) xs ++ cs)) (place_of (map (λ c. c.0) (map (λ n. (bytes_of n, (j, r))) xs ++ cs)) x) ≡ Some (kind, role)
 place_in_names x kind j role r [] rest cs go h = go h
-place_in_names x kind j role r (n ∷ ns) rest cs go h = by (bytes_eq x (bytes_of n)) h (λ i. place_in_names x kind j role r ns rest cs go i)
-  where
-    by : (b : Bool) → cond b (Some (IsChannel j r)) (lookup (bytes_eq x) (entries (as_channels j r ns) ++ rest)) ≡ Some (IsChannel kind role) →
-        (lookup (bytes_eq x) (entries (as_channels j r ns) ++ rest) ≡ Some (IsChannel kind role) → slice_get (map (λ c. c.1) (map (λ n. (bytes_of n, (j, r))) ns ++ cs)) (place_of (map (λ c. c.0) (map (λ n. (bytes_of n, (j, r))) ns ++ cs)) x) ≡ Some (kind, role)) →
-        slice_get ((j, r) ∷ map (λ c. c.1) (map (λ n. (bytes_of n, (j, r))) ns ++ cs)) (cond b 0 (suc (place_of (map (λ c. c.0) (map (λ n. (bytes_of n, (j, r))) ns ++ cs)) x))) ≡ Some (kind, role)
-    by true i later = let same : j ≡ kind = cc in let alike : r ≡ role = cc in (λ k. Some (same k, alike k))
-    by false i later = later i
+place_in_names x kind j role r (n ∷ ns) rest cs go h =
+    ⊎_elim (λ (e, f). let same : j ≡ kind = cc in let alike : r ≡ role = cc in rw e (λ k. Some (same k, alike k)))
+    (λ (e, i). rw e (place_in_names x kind j role r ns rest cs go i)) (found_in (bytes_eq x (bytes_of n)) (IsChannel j r) (IsChannel kind role) _ h)
 
 pub declared_at : (x : List ℕ) (kind : Kind) (role : Role) (ds : List Declaration) → lookup (bytes_eq x) (entries (declared_of ds)) ≡ Some (IsChannel kind role) →
     slice_get (map (λ c. c.1) (channels_of ds)) (place_of (map (λ c. c.0) (channels_of ds)) x) ≡ Some (kind, role)
 declared_at x kind role [] h = cc
 declared_at x kind role (D.Channels j r names ∷ rest) h =
     place_in_names x kind j role r names.items (entries (declared_of rest)) (channels_of rest) (λ i. declared_at x kind role rest i) (split x (Some (IsChannel kind role)) j r names.items rest h)
-declared_at x kind role (D.Process q ∷ rest) h = by (bytes_eq x (bytes_of q.name)) h (λ i. declared_at x kind role rest i)
-  where
-    by : (b : Bool) → cond b (Some (IsProcess q)) (lookup (bytes_eq x) (entries (declared_of rest))) ≡ Some (IsChannel kind role) →
-        (lookup (bytes_eq x) (entries (declared_of rest)) ≡ Some (IsChannel kind role) → slice_get (map (λ c. c.1) (channels_of rest)) (place_of (map (λ c. c.0) (channels_of rest)) x) ≡ Some (kind, role)) →
-        slice_get (map (λ c. c.1) (channels_of rest)) (place_of (map (λ c. c.0) (channels_of rest)) x) ≡ Some (kind, role)
-    by true i go = cc
-    by false i go = go i
+declared_at x kind role (D.Process q ∷ rest) h =
+    ⊎_elim (λ (e, f). cc) (λ (e, i). declared_at x kind role rest i) (found_in (bytes_eq x (bytes_of q.name)) (IsProcess q) (IsChannel kind role) _ h)
 
 -- ---- the channels with and without the places of their names
 

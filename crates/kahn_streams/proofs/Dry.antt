@@ -93,7 +93,7 @@ read_at N [] ks q k h = absurd (no_variable ks q k h)
 read_at N (a ∷ acts) ks zero k h = read_actual N a k h
 read_at N (a ∷ acts) ks (suc q) k h = read_at N acts ks q k h
 
-fit_at : (N : Schema) (is : List Node) (p : ℕ) → AllByRecursion (IsFit N) is → IsFit N (slice_index_or is p idle)
+pub fit_at : (N : Schema) (is : List Node) (p : ℕ) → AllByRecursion (IsFit N) is → IsFit N (slice_index_or is p idle)
 fit_at N [] p h = (tt, tt)
 fit_at N (i ∷ is) zero h = h.0
 fit_at N (i ∷ is) (suc p) h = fit_at N is p h.1

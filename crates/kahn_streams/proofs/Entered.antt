@@ -82,19 +82,13 @@ module _ (t : Program) (given : Bool) (entry : Entry) where
 
 -- ---- the entries that are fit
 
-some_in_none : {A : Type 0} {B : Type 0} (k : ℕ) (x : A) → slice_get [] k ≡ Some x → B
-some_in_none k x e = absurd cc
-
-pub none_fit : (t : Program) → AreFit t []
-none_fit t k e at = some_in_none k e at
-
 Last : (es : List Entry) (x : Entry) (k : ℕ) (e : Entry) → Type 0
 Last es x k e = ((k < length es) × (slice_get es k ≡ Some e)) ⊎ ((k ≡ length es) × (x ≡ e))
 
 last : (es : List Entry) (x : Entry) (k : ℕ) (e : Entry) → slice_get (es ++ x ∷ []) k ≡ Some e → Last es x k e
 unfolding Last
 last [] x zero e at = inr (refl, cc)
-last [] x (suc k) e at = some_in_none k e at
+last [] x (suc k) e at = absurd cc
 last (y ∷ es) x zero e at = inl (omega arith, at)
 last (y ∷ es) x (suc k) e at = elim (last es x k e at) [ inl h ↦ inl (omega (arith, h.0), h.1) | inr h ↦ inr (ap suc h.0, h.1) ]
 

@@ -59,7 +59,7 @@ no_rest (x ∷ xs) (y ∷ ys) zs e = no_rest xs (y ∷ ys) zs (tail e)
     tail : x ∷ xs ≡ x ∷ (xs ++ (y ∷ ys) ++ zs) → xs ≡ xs ++ (y ∷ ys) ++ zs
     tail f = cc
 
-prefix_antisym : (xs ys : List Value) → IsPrefix xs ys → IsPrefix ys xs → ys ≡ xs
+pub prefix_antisym : (xs ys : List Value) → IsPrefix xs ys → IsPrefix ys xs → ys ≡ xs
 prefix_antisym xs ys h g =
     let e : xs ≡ xs ++ h.0 ++ g.0 = g.1 ∙ ap (λ l. l ++ g.0) h.1 in
     h.1 ∙ (ap (λ l. xs ++ l) (no_rest xs h.0 g.0 e) ∙ append-nil xs)

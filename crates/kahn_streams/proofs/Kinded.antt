@@ -107,7 +107,7 @@ kept_by : {A : Type 0} (w : List Taking) (b : Bool) (s t : Script A) → IsKept 
 kept_by w true s t h i = h
 kept_by w false s t h i = i
 
-constant_kept : (c : Constant) → kind_of_value (constant c) ≡ constant_kind c
+pub constant_kept : (c : Constant) → kind_of_value (constant c) ≡ constant_kind c
 constant_kept (Number z) = refl
 constant_kept (Truth b) = refl
 

@@ -1,5 +1,5 @@
 -- The history on X of the sample network.
-use Rattle.kahn_streams.proofs.Common.{◌≡◌, ℕ, zero, suc, ◌+◌, ◌*◌, ◌-◌, ◌%◌, ◌≤◌, true, List, [], ◌∷◌, ◌++◌, length, refl, sym, ap, ◌∙◌, subst, slice_get, Some, pos, arith, fun_ext, Value, Line, Integer, Logical, Channel, Parameter, Printer, Tapes, Script, Give, play, Store, turns_of, script_of, Step, Took, Sent, Turned, Follows, here, took, sent, turned, values_taken, sends_of, and_then, Schema, instance_at, Written, Histories, tapes_of, out, values_at, goes_to, iterate, IsPrefix, Stands, source, le-max_left, le-max_right, max, ne_eqb, ◌==◌, if◌then◌else◌}
+use Rattle.kahn_streams.proofs.Common.{◌≡◌, ℕ, zero, suc, ◌+◌, ◌-◌, ◌%◌, ◌≤◌, true, List, [], ◌∷◌, ◌++◌, length, refl, sym, ap, ◌∙◌, subst, slice_get, Some, pos, arith, fun_ext, Value, Line, Integer, Logical, Channel, Parameter, Printer, Tapes, Script, Give, play, Store, turns_of, script_of, Step, Took, Sent, Turned, Follows, here, took, sent, turned, values_taken, sends_of, and_then, Schema, instance_at, Written, Histories, tapes_of, out, values_at, goes_to, iterate, IsPrefix, Stands, source, le-max_left, le-max_right, max, ne_eqb, ◌==◌, if◌then◌else◌}
 use Rattle.kahn_streams.specs.Syntax as S
 use Rattle.kahn_streams.proofs.{Proved.values_append, Proved.prefix_trans, Proved.prefix_get, Proved.script_at, Proved.solves, Proved.one_value, Proved.iterates_rise, Runs.play_on, Runs.follows_append, Framed.and_more}
 use Rattle.kahn_streams.specs.Sample.{no_input, f_turn, g_turn, h_turn, sample_network, Sample}
@@ -35,21 +35,30 @@ sends_lower N p m H steps s' f le h c =
 abbrev loop : S.Stmt → ℕ → ℕ → Store → Script Store
 loop b m k s = turns_of k (λ r go. go (Logical true)) (λ r go. script_of m b r go) s Give
 
-abbrev twice : ℕ → ℕ → ℕ
-twice zero k = k
-twice (suc a) k = suc (suc (twice a k))
+-- so many more turns of the loop for each of a rounds
+abbrev rounds : (ℕ → ℕ) → ℕ → ℕ → ℕ
+rounds more zero k = k
+rounds more (suc a) k = more (rounds more a k)
+
+abbrev two_more : ℕ → ℕ
+two_more k = suc (suc k)
+
+abbrev one_more : ℕ → ℕ
+one_more k = suc k
+
+more_rounds : (more : ℕ → ℕ) → ((k : ℕ) → k ≤ more k) → (a k : ℕ) → k ≤ rounds more a k
+more_rounds more h zero k = omega arith
+more_rounds more h (suc a) k = omega (arith, h (rounds more a k), more_rounds more h a k)
+
+abbrev repeated : {A : Type 0} → List A → ℕ → List A
+repeated xs zero = []
+repeated xs (suc a) = xs ++ repeated xs a
 
 abbrev alternating : ℕ → List Value
-alternating zero = []
-alternating (suc a) = number 0 ∷ number 1 ∷ alternating a
+alternating a = repeated (number 0 ∷ number 1 ∷ []) a
 
 abbrev all_of : ℕ → ℕ → List Value
-all_of c zero = []
-all_of c (suc a) = number c ∷ all_of c a
-
-abbrev repeated : List Step → ℕ → List Step
-repeated steps zero = []
-repeated steps (suc a) = steps ++ repeated steps a
+all_of c a = repeated (number c ∷ []) a
 
 abbrev f_store : Value → Store
 f_store i = number 0 ∷ number 0 ∷ number 0 ∷ i ∷ Logical true ∷ []
@@ -59,26 +68,10 @@ f_steps =
     Turned ∷ Took 0 (number 0) ∷ Sent Printer (number 0) ∷ Sent (Parameter 2) (number 0) ∷
     Turned ∷ Took 1 (number 1) ∷ Sent Printer (number 1) ∷ Sent (Parameter 2) (number 1) ∷ []
 
-f_pair : (m k : ℕ) (i : Value) → Follows (loop f_turn m (suc (suc k)) (f_store i)) f_steps (loop f_turn m k (f_store (number 1)))
-f_pair m k i = turned (took (sent (sent (turned (took (sent (sent here)))))))
-
-f_pairs : (m a k : ℕ) (i : Value) →
-    (j : Value) × Follows (loop f_turn m (twice a k) (f_store i)) (repeated f_steps a) (loop f_turn m k (f_store j))
-f_pairs m zero k i = (i, here)
-f_pairs m (suc a) k i = let r = f_pairs m a k (number 1) in (r.0, follows_append (f_pair m (twice a k) i) r.1)
-
 abbrev g_steps : List Step
 g_steps =
     Turned ∷ Took 0 (number 0) ∷ Sent (Parameter 1) (number 0) ∷
     Turned ∷ Took 0 (number 1) ∷ Sent (Parameter 2) (number 1) ∷ []
-
-g_pair : (m k : ℕ) (i : Value) → Follows (loop g_turn m (suc (suc k)) (f_store i)) g_steps (loop g_turn m k (f_store (number 1)))
-g_pair m k i = turned (took (sent (turned (took (sent here)))))
-
-g_pairs : (m a k : ℕ) (i : Value) →
-    (j : Value) × Follows (loop g_turn m (twice a k) (f_store i)) (repeated g_steps a) (loop g_turn m k (f_store j))
-g_pairs m zero k i = (i, here)
-g_pairs m (suc a) k i = let r = g_pairs m a k (number 1) in (r.0, follows_append (g_pair m (twice a k) i) r.1)
 
 abbrev h_store : ℕ → Value → Store
 h_store c i = number 0 ∷ number 0 ∷ number c ∷ i ∷ []
@@ -86,74 +79,27 @@ h_store c i = number 0 ∷ number 0 ∷ number c ∷ i ∷ []
 abbrev h_steps : ℕ → List Step
 h_steps c = Turned ∷ Took 0 (number c) ∷ Sent (Parameter 1) (number c) ∷ []
 
-abbrev behind : ℕ → ℕ → ℕ
-behind zero k = k
-behind (suc a) k = suc (behind a k)
-
-h_turns : (m a k c : ℕ) (i : Value) →
-    (j : Value) × Follows (loop h_turn m (behind a k) (h_store c i)) (repeated (h_steps c) a) (loop h_turn m k (h_store c j))
-h_turns m zero k c i = (i, here)
-h_turns m (suc a) k c i =
-    let r = h_turns m a k c (number c) in
-    let one : Follows (loop h_turn m (suc (behind a k)) (h_store c i)) (h_steps c) (loop h_turn m (behind a k) (h_store c (number c))) =
-    turned (took (sent here))
-    in
-    (r.0, follows_append one r.1)
+all_rounds : (b : S.Stmt) (store : Value → Store) (steps : List Step) (more : ℕ → ℕ) (v : Value) (m : ℕ) →
+    ((k : ℕ) (i : Value) → Follows (loop b m (more k) (store i)) steps (loop b m k (store v))) → (a k : ℕ) (i : Value) →
+    (j : Value) × Follows (loop b m (rounds more a k) (store i)) (repeated steps a) (loop b m k (store j))
+all_rounds b store steps more v m one zero k i = (i, here)
+all_rounds b store steps more v m one (suc a) k i =
+    let r = all_rounds b store steps more v m one a k v in (r.0, follows_append (one (rounds more a k) i) r.1)
 
 -- ---- what the steps take and send
 
+-- what each round gives
+along : (f : List Step → List Value) (steps : List Step) (ys : List Value) → f [] ≡ [] → ((rest : List Step) → f (steps ++ rest) ≡ ys ++ f rest) → (a : ℕ) →
+    f (repeated steps a) ≡ repeated ys a
+along f steps ys e one zero = e
+along f steps ys e one (suc a) = one (repeated steps a) ∙ ap (λ l. ys ++ l) (along f steps ys e one a)
+
+none_along : (f : List Step → List Value) (steps : List Step) → f [] ≡ [] → ((rest : List Step) → f (steps ++ rest) ≡ f rest) → (a : ℕ) → f (repeated steps a) ≡ []
+none_along f steps e one zero = e
+none_along f steps e one (suc a) = one (repeated steps a) ∙ none_along f steps e one a
+
 no_take : (q p : ℕ) (v : Value) (xs : List Value) → (q ≡ p → ⊥) → (if q == p then v ∷ xs else xs) ≡ xs
 no_take q p v xs h = rw (ne_eqb q p h) refl
-
-f_takes_u : (a : ℕ) → values_taken (repeated f_steps a) 0 ≡ all_of 0 a
-f_takes_u zero = refl
-f_takes_u (suc a) = ap (λ l. number 0 ∷ l) (f_takes_u a)
-
-f_takes_v : (a : ℕ) → values_taken (repeated f_steps a) 1 ≡ all_of 1 a
-f_takes_v zero = refl
-f_takes_v (suc a) = ap (λ l. number 1 ∷ l) (f_takes_v a)
-
-f_takes_no_more : (a q : ℕ) → values_taken (repeated f_steps a) (suc (suc q)) ≡ []
-f_takes_no_more zero q = refl
-f_takes_no_more (suc a) q =
-    no_take (suc (suc q)) 0 _ _ (omega arith) ∙ (no_take (suc (suc q)) 1 _ _ (omega arith) ∙ f_takes_no_more a q)
-
-g_takes : (a : ℕ) → values_taken (repeated g_steps a) 0 ≡ alternating a
-g_takes zero = refl
-g_takes (suc a) = ap (λ l. number 0 ∷ number 1 ∷ l) (g_takes a)
-
-g_takes_no_more : (a q : ℕ) → values_taken (repeated g_steps a) (suc q) ≡ []
-g_takes_no_more zero q = refl
-g_takes_no_more (suc a) q =
-    no_take (suc q) 0 _ _ (omega arith) ∙ (no_take (suc q) 0 _ _ (omega arith) ∙ g_takes_no_more a q)
-
-h_takes : (a c : ℕ) → values_taken (repeated (h_steps c) a) 0 ≡ all_of c a
-h_takes zero c = refl
-h_takes (suc a) c = ap (λ l. number c ∷ l) (h_takes a c)
-
-h_takes_no_more : (a c q : ℕ) → values_taken (repeated (h_steps c) a) (suc q) ≡ []
-h_takes_no_more zero c q = refl
-h_takes_no_more (suc a) c q = no_take (suc q) 0 _ _ (omega arith) ∙ h_takes_no_more a c q
-
-x_sent : (a : ℕ) → values_at (goes_to sample_network 0 (Channel 0)) (sends_of (repeated f_steps a)) ≡ alternating a
-x_sent zero = refl
-x_sent (suc a) = ap (λ l. number 0 ∷ number 1 ∷ l) (x_sent a)
-
-t1_sent : (a : ℕ) → values_at (goes_to sample_network 1 (Channel 3)) (sends_of (repeated g_steps a)) ≡ all_of 0 a
-t1_sent zero = refl
-t1_sent (suc a) = ap (λ l. number 0 ∷ l) (t1_sent a)
-
-t2_sent : (a : ℕ) → values_at (goes_to sample_network 1 (Channel 4)) (sends_of (repeated g_steps a)) ≡ all_of 1 a
-t2_sent zero = refl
-t2_sent (suc a) = ap (λ l. number 1 ∷ l) (t2_sent a)
-
-y_sent : (a : ℕ) → values_at (goes_to sample_network 2 (Channel 1)) (sends_of (repeated (h_steps 0) a)) ≡ all_of 0 a
-y_sent zero = refl
-y_sent (suc a) = ap (λ l. number 0 ∷ l) (y_sent a)
-
-z_sent : (a : ℕ) → values_at (goes_to sample_network 3 (Channel 2)) (sends_of (repeated (h_steps 1) a)) ≡ all_of 1 a
-z_sent zero = refl
-z_sent (suc a) = ap (λ l. number 1 ∷ l) (z_sent a)
 
 -- ---- the histories grow
 
@@ -171,79 +117,68 @@ lower p m n steps s' f le h c e = (
       (solves sample_network no_input (Channel c) p m n e),
 )
 
-twice_is : (a k : ℕ) → twice a k ≡ a + a + k
-twice_is zero k = omega arith
-twice_is (suc a) k = omega (arith, twice_is a k)
-
-behind_is : (a k : ℕ) → behind a k ≡ a + k
-behind_is zero k = omega arith
-behind_is (suc a) k = omega (arith, behind_is a k)
-
-f_length : (a : ℕ) → length (repeated f_steps a) ≡ 8 * a
-f_length zero = refl
-f_length (suc a) = omega (arith, f_length a)
-
-g_length : (a : ℕ) → length (repeated g_steps a) ≡ 6 * a
-g_length zero = refl
-g_length (suc a) = omega (arith, g_length a)
-
-h_length : (a c : ℕ) → length (repeated (h_steps c) a) ≡ 3 * a
-h_length zero c = refl
-h_length (suc a) c = omega (arith, h_length a c)
-
 nothing : (xs ys : List Value) → xs ≡ [] → IsPrefix xs ys
 nothing xs ys e = (ys, rw e refl)
 
 x_of : (a n : ℕ) → IsPrefix (all_of 0 a) (iterate sample_network no_input n (Channel 1)) →
     IsPrefix (all_of 1 a) (iterate sample_network no_input n (Channel 2)) → Has 0 (alternating a)
 x_of a n y z =
-    subst (Has 0) (x_sent a)
-    (lower 0 (twice a (8 * a)) n (repeated f_steps a) _ (f_pairs (twice a (8 * a)) a (8 * a) (number 0)).1
-    (omega (arith, twice_is a (8 * a), f_length a)) feeds 0 refl)
+    let k = length (repeated f_steps a) in
+    let m = rounds two_more a k in
+    subst (Has 0) (along (λ l. values_at (goes_to sample_network 0 (Channel 0)) (sends_of l)) f_steps (number 0 ∷ number 1 ∷ []) refl (λ l. refl) a)
+    (lower 0 m n (repeated f_steps a) _
+    (all_rounds f_turn f_store f_steps two_more (number 1) m (λ k i. turned (took (sent (sent (turned (took (sent (sent here)))))))) a k (number 0)).1 (more_rounds two_more (λ k. omega arith) a k) feeds 0 refl)
   where
     feeds : (q : ℕ) → IsPrefix (values_taken (repeated f_steps a) q) (tapes_of (instance_at sample_network 0) (iterate sample_network no_input n) q)
-    feeds zero = rw (f_takes_u a) y
-    feeds (suc zero) = rw (f_takes_v a) z
-    feeds (suc (suc q)) = nothing _ _ (f_takes_no_more a q)
+    feeds zero = let e : values_taken (repeated f_steps a) 0 ≡ all_of 0 a = along (λ l. values_taken l 0) f_steps (number 0 ∷ []) refl (λ l. refl) a in rw e y
+    feeds (suc zero) = let e : values_taken (repeated f_steps a) 1 ≡ all_of 1 a = along (λ l. values_taken l 1) f_steps (number 1 ∷ []) refl (λ l. refl) a in rw e z
+    feeds (suc (suc q)) =
+        nothing _ _ (none_along (λ l. values_taken l (suc (suc q))) f_steps refl
+        (λ l. no_take (suc (suc q)) 0 _ _ (omega arith) ∙ no_take (suc (suc q)) 1 _ _ (omega arith)) a)
 
-g_feeds : (a n : ℕ) → IsPrefix (alternating a) (iterate sample_network no_input n (Channel 0)) →
-    (q : ℕ) → IsPrefix (values_taken (repeated g_steps a) q) (tapes_of (instance_at sample_network 1) (iterate sample_network no_input n) q)
-g_feeds a n x zero = rw (g_takes a) x
-g_feeds a n x (suc q) = nothing _ _ (g_takes_no_more a q)
+-- the first tape alone
+fed_first : (p n : ℕ) (steps : List Step) (xs : List Value) → values_taken steps 0 ≡ xs → ((q : ℕ) → values_taken steps (suc q) ≡ []) →
+    IsPrefix xs (tapes_of (instance_at sample_network p) (iterate sample_network no_input n) 0) →
+    (q : ℕ) → IsPrefix (values_taken steps q) (tapes_of (instance_at sample_network p) (iterate sample_network no_input n) q)
+fed_first p n steps xs e f x zero = rw e x
+fed_first p n steps xs e f x (suc q) = nothing _ _ (f q)
 
-t1_of : (a : ℕ) → Has 0 (alternating a) → Has 3 (all_of 0 a)
-t1_of a x =
-    subst (Has 3) (t1_sent a)
-    (lower 1 (twice a (6 * a)) x.0 (repeated g_steps a) _ (g_pairs (twice a (6 * a)) a (6 * a) (number 0)).1
-    (omega (arith, twice_is a (6 * a), g_length a)) (g_feeds a x.0 x.1) 3 refl)
+t_of : (c : ℕ) (xs : List Value) (a : ℕ) → source sample_network (Channel c) ≡ Written 1 →
+    ((l : List Step) → values_at (goes_to sample_network 1 (Channel c)) (sends_of (g_steps ++ l)) ≡ xs ++ values_at (goes_to sample_network 1 (Channel c)) (sends_of l)) →
+    Has 0 (alternating a) → Has c (repeated xs a)
+t_of c xs a written one x =
+    let k = length (repeated g_steps a) in
+    let m = rounds two_more a k in
+    subst (Has c) (along (λ l. values_at (goes_to sample_network 1 (Channel c)) (sends_of l)) g_steps xs refl one a)
+    (lower 1 m x.0 (repeated g_steps a) _
+    (all_rounds g_turn f_store g_steps two_more (number 1) m (λ k i. turned (took (sent (turned (took (sent here)))))) a k (number 0)).1 (more_rounds two_more (λ k. omega arith) a k)
+    (fed_first 1 x.0 (repeated g_steps a) (alternating a) (along (λ l. values_taken l 0) g_steps (number 0 ∷ number 1 ∷ []) refl (λ l. refl) a)
+    (λ q. none_along (λ l. values_taken l (suc q)) g_steps refl (λ l. no_take (suc q) 0 _ _ (omega arith) ∙ no_take (suc q) 0 _ _ (omega arith)) a) x.1) c written)
 
-t2_of : (a : ℕ) → Has 0 (alternating a) → Has 4 (all_of 1 a)
-t2_of a x =
-    subst (Has 4) (t2_sent a)
-    (lower 1 (twice a (6 * a)) x.0 (repeated g_steps a) _ (g_pairs (twice a (6 * a)) a (6 * a) (number 0)).1
-    (omega (arith, twice_is a (6 * a), g_length a)) (g_feeds a x.0 x.1) 4 refl)
+-- what h takes, from a tape with its values
+h_feeds : (p n a c : ℕ) → IsPrefix (all_of c a) (tapes_of (instance_at sample_network p) (iterate sample_network no_input n) 0) →
+    (q : ℕ) → IsPrefix (values_taken (repeated (h_steps c) a) q) (tapes_of (instance_at sample_network p) (iterate sample_network no_input n) q)
+h_feeds p n a c x =
+    fed_first p n (repeated (h_steps c) a) (all_of c a) (along (λ l. values_taken l 0) (h_steps c) (number c ∷ []) refl (λ l. refl) a)
+    (λ q. none_along (λ l. values_taken l (suc q)) (h_steps c) refl (λ l. no_take (suc q) 0 _ _ (omega arith)) a) x
 
 y_of : (a : ℕ) → Has 3 (all_of 0 a) → Has 1 (all_of 0 (suc a))
 y_of a t =
-    subst (Has 1) (ap (λ l. number 0 ∷ l) (y_sent a))
-    (lower 2 (behind a (suc (3 * a))) t.0 (Sent (Parameter 1) (number 0) ∷ repeated (h_steps 0) a) _
-    (sent (h_turns (behind a (suc (3 * a))) a (suc (3 * a)) 0 (number 0)).1)
-    (omega (arith, behind_is a (suc (3 * a)), h_length a 0)) feeds 1 refl)
-  where
-    feeds : (q : ℕ) → IsPrefix (values_taken (repeated (h_steps 0) a) q) (tapes_of (instance_at sample_network 2) (iterate sample_network no_input t.0) q)
-    feeds zero = rw (h_takes a 0) t.1
-    feeds (suc q) = nothing _ _ (h_takes_no_more a 0 q)
+    let k = suc (length (repeated (h_steps 0) a)) in
+    let m = rounds one_more a k in
+    subst (Has 1) (ap (λ l. number 0 ∷ l) (along (λ l. values_at (goes_to sample_network 2 (Channel 1)) (sends_of l)) (h_steps 0) (number 0 ∷ []) refl (λ l. refl) a))
+    (lower 2 m t.0 (Sent (Parameter 1) (number 0) ∷ repeated (h_steps 0) a) _
+    (sent (all_rounds h_turn (h_store 0) (h_steps 0) one_more (number 0) m (λ k i. turned (took (sent here))) a k (number 0)).1)
+    (more_rounds one_more (λ k. omega arith) a k) (h_feeds 2 t.0 a 0 t.1) 1 refl)
 
 z_of : (a : ℕ) → Has 4 (all_of 1 a) → Has 2 (all_of 1 (suc a))
 z_of a t =
-    subst (Has 2) (ap (λ l. number 1 ∷ l) (z_sent a))
-    (lower 3 (behind a (suc (3 * a))) t.0 (Sent (Parameter 1) (number 1) ∷ repeated (h_steps 1) a) _
-    (sent (h_turns (behind a (suc (3 * a))) a (suc (3 * a)) 1 (number 0)).1)
-    (omega (arith, behind_is a (suc (3 * a)), h_length a 1)) feeds 2 refl)
-  where
-    feeds : (q : ℕ) → IsPrefix (values_taken (repeated (h_steps 1) a) q) (tapes_of (instance_at sample_network 3) (iterate sample_network no_input t.0) q)
-    feeds zero = rw (h_takes a 1) t.1
-    feeds (suc q) = nothing _ _ (h_takes_no_more a 1 q)
+    let k = suc (length (repeated (h_steps 1) a)) in
+    let m = rounds one_more a k in
+    subst (Has 2) (ap (λ l. number 1 ∷ l) (along (λ l. values_at (goes_to sample_network 3 (Channel 2)) (sends_of l)) (h_steps 1) (number 1 ∷ []) refl (λ l. refl) a))
+    (lower 3 m t.0 (Sent (Parameter 1) (number 1) ∷ repeated (h_steps 1) a) _
+    (sent (all_rounds h_turn (h_store 1) (h_steps 1) one_more (number 1) m (λ k i. turned (took (sent here))) a k (number 0)).1)
+    (more_rounds one_more (λ k. omega arith) a k) (h_feeds 3 t.0 a 1 t.1) 2 refl)
 
 at_most_max : (c j k : ℕ) (xs : List Value) → IsPrefix xs (iterate sample_network no_input j (Channel c)) → j ≤ k →
     IsPrefix xs (iterate sample_network no_input k (Channel c))
@@ -253,8 +188,8 @@ pub x_all : (a : ℕ) → Has 0 (alternating a)
 x_all zero = (0, ([], refl))
 x_all (suc a) =
     let x = x_all a in
-    let y = y_of a (t1_of a x) in
-    let z = z_of a (t2_of a x) in
+    let y = y_of a (t_of 3 (number 0 ∷ []) a refl (λ l. refl) x) in
+    let z = z_of a (t_of 4 (number 1 ∷ []) a refl (λ l. refl) x) in
     x_of (suc a) (max y.0 z.0)
     (at_most_max 1 y.0 (max y.0 z.0) (all_of 0 (suc a)) y.1 (le-max_left y.0 z.0))
     (at_most_max 2 z.0 (max y.0 z.0) (all_of 1 (suc a)) z.1 (le-max_right y.0 z.0))

@@ -17,8 +17,8 @@ whole : (v : Value) (w : Inside) → word_of v ≡ w → word_of v ≡ restless 
 whole (Integer z) w h = ap restless h
 whole (Logical b) w h = ap restless h
 
-pub canonical_anew : (w : Inside) → IsCanonical w → IsCanonical (record { number = w.number; mark = w.mark; rest = 0 })
-canonical_anew w h = whole (word_value w) w h
+pub without_rest : (w : Inside) → IsCanonical w → IsCanonical (record { number = w.number; mark = w.mark; rest = 0 })
+without_rest w h = whole (word_value w) w h
 
 few : (v : Value) → (word_of v).mark < 256
 few (Integer z) = omega arith

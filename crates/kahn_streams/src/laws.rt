@@ -7,6 +7,7 @@ ghost use Rattle.std.specs.Prelude.{ℕ, List, ◌≡◌, ◌<◌, length};
 ghost use Rattle.std.specs.List.{AllByRecursion};
 
 /// Each iterate is a prefix of the next.
+#[tactic(auto, using(crate::proofs::Proved::chain))]
 pub fn chain()
     ensures { (N : Schema) (I : Inputs) → IsChain N I }
 {}
@@ -22,6 +23,7 @@ pub fn solves()
 {}
 
 /// The limit of the iterates is below any solution, an infinite one too.
+#[tactic(auto, using(crate::proofs::Proved::least))]
 pub fn least()
     ensures { (N : Schema) (I : Inputs) (T : ℕ → Histories) → IsSolution N I T → IsBelow N I T }
 {}
@@ -47,6 +49,7 @@ pub fn sends_stand()
 {}
 
 /// Longer inputs give longer iterates.
+#[tactic(auto, using(crate::proofs::Finished::inputs_grow))]
 pub fn grows()
     ensures { (N : Schema) → InputsGrow N }
 {}
@@ -57,6 +60,7 @@ pub fn replays()
 {}
 
 /// What is reached is reached by steps.
+#[tactic(auto, using(crate::proofs::Runs::ran))]
 pub fn ran_by_steps()
     ensures { (n : ℕ) (s : Script Store) (T : Tapes) → RanBy s T (play n s T) }
 {}
@@ -78,16 +82,19 @@ pub fn counts()
 {}
 
 /// The whole of a line, the end of a process and the size of the solution are determined.
+#[tactic(auto, using(crate::proofs::Finished::determined))]
 pub fn determined()
     ensures { (N : Schema) (I : Inputs) → IsDetermined N I }
 {}
 
 /// If a value is known to stand in the solution, some iterate has it.
+#[tactic(auto, using(crate::proofs::Finding::found))]
 pub fn found()
     ensures { (N : Schema) (I : Inputs) (c : Line) (k : ℕ) (v : Value) → ∥ (Stands N I c k v) ∥₁ → Stands N I c k v }
 {}
 
 /// Every value of an iterate on a channel has the channel's kind, if the program is well wired and the input fits it.
+#[tactic(auto, using(crate::proofs::Kinded_networks::kinds))]
 pub fn kinds()
     ensures { (t : Program) (lists : Lists) → IsWellWired t → IsInputFor (network_of t) lists → AreIteratesKinded (network_of t) (inputs_of lists) }
 {}
@@ -111,6 +118,7 @@ pub fn examples()
 
 /// Each channel of a well wired program has one writer and one reader, but for an input no writer
 /// and for an output no reader.
+#[tactic(auto, using(crate::proofs::Sided::channel_served))]
 pub fn served()
     ensures { (t : Program) → IsWellWired t → (c : ℕ) → c < length (network_of t).channels → IsServed (network_of t) c (role_at (network_of t) c) }
 {}
@@ -118,6 +126,7 @@ pub fn served()
 /// In each instance of a well wired program every name is used as what it stands for: a channel
 /// parameter for the kind and the direction of the channel that is handed to it, a value parameter
 /// for the kind of its value, and a variable for its kind. The channels are those of the network.
+#[tactic(auto, using(crate::proofs::Fitted::instances_fit))]
 pub fn fit()
     ensures { (t : Program) → IsWellWired t → AllByRecursion (IsFit (network_of t)) (network_of t).instances }
 {}

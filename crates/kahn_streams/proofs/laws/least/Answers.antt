@@ -1,5 +1,0 @@
-use Rattle.kahn_streams.proofs.laws.least.Goals as goal
-use Rattle.kahn_streams.proofs.Proved
-
-pub returns : goal.returns
-returns c = Proved.least
