@@ -2,7 +2,7 @@
 pub use Rattle.kahn_check.specs.Parts.{faults_by_part, first_alone, firsts, instance_parts, name_parts, no_room, parts, side_parts, together, unless_empty}
 pub use Rattle.kahn_check.specs.inner.Firsts.{AreNamesTold, HasAdded, HasAddedFirst, HasTold, HaveNumbers, IsWalkOf, fault_alone, first_fault, first_then, made_all, made_of, name_faults}
 pub use Rattle.kahn_check.specs.inner.Globals.{ArePlaced, IsPlaced, global_of, known, option_global}
-pub use Rattle.kahn_check.specs.inner.Names.{AreFound, found, hashed}
+pub use Rattle.kahn_check.specs.inner.Names.{AreFound}
 pub use Rattle.kahn_check.specs.inner.Tables.{Ends, HaveGot, handed_all, handed_to, held, made_in, meant, place_faults, places_faults, seat_faults, seats_parts, side_in, sides_parts, taken}
 pub use Rattle.kahn_check.specs.inner.Wires.{AreWired, HasWired, as_lines, line_in, lines_in}
 pub use Rattle.kahn_streams.proofs.Handed.{AtMostOne, IsServed, Table, as_channels, bytes_self, bytes_true, bytes_turned, ends_append, keys, served}

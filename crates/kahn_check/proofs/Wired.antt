@@ -5,6 +5,8 @@ use Rattle.kahn_streams.specs.declared.tree.Kind.TheVariants as K
 use Rattle.kahn_streams.specs.declared.tree.Taking.TheVariants as T
 use Rattle.kahn_streams.specs.declared.tree.Declaration.TheVariants as D
 use Rattle.kahn_streams.specs.declared.tree.Argument.TheVariants as A
+use Rattle.std.proofs.Math.Logic.{⊎_elim}
+use Rattle.kahn_streams.proofs.By_number.{found_in}
 use Rattle.kahn_check.proofs.Typed.{nil_left, nil_right, both, two, agrees_body, kinds}
 
 -- ---- members of lists
@@ -338,16 +340,9 @@ well_wired t h =
 in_names : (P : Name × (Kind × Role) → Type 0) (c : List ℕ) (kind j : Kind) (role r : Role) (xs : List Name) (rest : Table) → lookup (bytes_eq c) (entries (as_channels j r xs) ++ rest) ≡ Some (IsChannel kind role) →
     AllByRecursion P (map (λ n. (n, (j, r))) xs) → ((n : Name) × (c ≡ bytes_of n) × P (n, (kind, role))) ⊎ (lookup (bytes_eq c) rest ≡ Some (IsChannel kind role))
 in_names P c kind j role r [] rest h all = inr h
-in_names P c kind j role r (x ∷ xs) rest h all = by (bytes_eq c (bytes_of x)) refl h (λ i. in_names P c kind j role r xs rest i all.1)
-  where
-    by : (b : Bool) → bytes_eq c (bytes_of x) ≡ b → cond b (Some (IsChannel j r)) (lookup (bytes_eq c) (entries (as_channels j r xs) ++ rest)) ≡ Some (IsChannel kind role) →
-        (lookup (bytes_eq c) (entries (as_channels j r xs) ++ rest) ≡ Some (IsChannel kind role) → ((n : Name) × (c ≡ bytes_of n) × P (n, (kind, role))) ⊎ (lookup (bytes_eq c) rest ≡ Some (IsChannel kind role))) →
-        ((n : Name) × (c ≡ bytes_of n) × P (n, (kind, role))) ⊎ (lookup (bytes_eq c) rest ≡ Some (IsChannel kind role))
-    by true e i go =
-        let same : j ≡ kind = cc in
-        let alike : r ≡ role = cc in
-        inl (x, bytes_true c (bytes_of x) e, subst (λ z. P (x, (z, role))) same (subst (λ z. P (x, (j, z))) alike all.0))
-    by false e i go = go i
+in_names P c kind j role r (x ∷ xs) rest h all =
+    ⊎_elim (λ (e, f). let same : j ≡ kind = cc in let alike : r ≡ role = cc in inl (x, bytes_true c (bytes_of x) e, subst (λ z. P (x, (z, role))) same (subst (λ z. P (x, (j, z))) alike all.0)))
+    (λ (e, i). in_names P c kind j role r xs rest i all.1) (found_in (bytes_eq c (bytes_of x)) (IsChannel j r) (IsChannel kind role) _ h)
 
 a_channel : (P : Name × (Kind × Role) → Type 0) (c : List ℕ) (kind : Kind) (role : Role) (ds : List Declaration) → lookup (bytes_eq c) (entries (declared_of ds)) ≡ Some (IsChannel kind role) →
     AllByRecursion P (declared_channels ds) → (n : Name) × (c ≡ bytes_of n) × P (n, (kind, role))
@@ -360,12 +355,8 @@ a_channel P c kind role (D.Channels j r names ∷ rest) h all =
       | inl x ↦ x
       | inr i ↦ a_channel P c kind role rest i apart.1
     ]
-a_channel P c kind role (D.Process p ∷ rest) h all = by (bytes_eq c (bytes_of p.name)) h (λ i. a_channel P c kind role rest i all)
-  where
-    by : (b : Bool) → cond b (Some (IsProcess p)) (lookup (bytes_eq c) (entries (declared_of rest))) ≡ Some (IsChannel kind role) →
-        (lookup (bytes_eq c) (entries (declared_of rest)) ≡ Some (IsChannel kind role) → (n : Name) × (c ≡ bytes_of n) × P (n, (kind, role))) → (n : Name) × (c ≡ bytes_of n) × P (n, (kind, role))
-    by true i go = cc
-    by false i go = go i
+a_channel P c kind role (D.Process p ∷ rest) h all =
+    ⊎_elim (λ (e, f). cc) (λ (e, i). a_channel P c kind role rest i all) (found_in (bytes_eq c (bytes_of p.name)) (IsProcess p) (IsChannel kind role) _ h)
 
 -- ---- hand-overs of a well wired program
 

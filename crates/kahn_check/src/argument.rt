@@ -7,6 +7,7 @@ ghost use Rattle.kahn_check.specs.{inner.Globals.known, inner.Tables.HaveGot, in
 use crate::expression::agree;
 use crate::globals::{Entry, Globals};
 use crate::names::ChannelSides;
+use kahn_streams::Direction::{In, Out};
 use kahn_streams::{Argument, CheckFault, Direction, Kind, Name, NoMemory, Role, Side, Taking};
 
 /// Whether no instance may be at that side of the channel.
@@ -14,9 +15,8 @@ pub fn closed(direction: Direction, role: Role) -> bool
     ensures { result ≡ is_closed direction role }
 {
     match (direction, role) {
-        (Direction::Out, Role::Input) | (Direction::In, Role::Output) => true,
-        (Direction::Out, Role::Inner | Role::Output) | (Direction::In, Role::Inner | Role::Input) =>
-            false,
+        (Out, Role::Input) | (In, Role::Output) => true,
+        (Out, Role::Inner | Role::Output) | (In, Role::Inner | Role::Input) => false,
     }
 }
 
@@ -25,8 +25,8 @@ pub fn second(direction: Direction, name: &Name) -> CheckFault
     ensures { result ≡ second_of direction name.now.span }
 {
     match direction {
-        Direction::Out => CheckFault::TwoWriters(name.span),
-        Direction::In => CheckFault::TwoReaders(name.span),
+        Out => CheckFault::TwoWriters(name.span),
+        In => CheckFault::TwoReaders(name.span),
     }
 }
 
@@ -67,19 +67,11 @@ pub fn fits(
     ensures { result ≡ verdict (place_faults (known globals.now) writers.now readers.now taking argument.now) tt }
 {
     match (taking, argument) {
-        (Taking::Channel(Direction::Out, kind), Argument::Channel(name)) => misplaced(
-            globals,
-            writers,
-            Direction::Out,
-            kind,
-            name,
+        (Taking::Channel(Out, kind), Argument::Channel(name)) => misplaced(
+            globals, writers, Out, kind, name,
         ),
-        (Taking::Channel(Direction::In, kind), Argument::Channel(name)) => misplaced(
-            globals,
-            readers,
-            Direction::In,
-            kind,
-            name,
+        (Taking::Channel(In, kind), Argument::Channel(name)) => misplaced(
+            globals, readers, In, kind, name,
         ),
         (Taking::Channel(_, _), Argument::Number(_, span) | Argument::Logical(_, span)) => Err(
             CheckFault::ChannelExpected(*span),
@@ -102,8 +94,8 @@ pub fn keep(
     ensures { OnOk result (HaveGot (handed end taking argument.now) writers.old readers.old writers.new readers.new) }
 {
     match (taking, argument) {
-        (Taking::Channel(Direction::Out, _), Argument::Channel(name)) => writers.keep(name, end),
-        (Taking::Channel(Direction::In, _), Argument::Channel(name)) => readers.keep(name, end),
+        (Taking::Channel(Out, _), Argument::Channel(name)) => writers.keep(name, end),
+        (Taking::Channel(In, _), Argument::Channel(name)) => readers.keep(name, end),
         (_, _) => Ok(()),
     }
 }

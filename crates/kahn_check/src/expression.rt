@@ -5,6 +5,10 @@ ghost use Rattle.kahn_streams.specs.Faults.{verdict, wrong, wrong_first, wrong_s
 ghost use Rattle.kahn_streams.specs.{Wiring.takes, Wiring.gives, View.bytes_of};
 
 use crate::names::Scope;
+use kahn_streams::Operator::{
+    Add, And, AtLeast, AtMost, Divide, Equal, Greater, Less, Multiply, Or, Remainder, Subtract,
+    Unequal,
+};
 use kahn_streams::{CheckFault, Direction, Expression, Form, Kind, Name, Operator, Span, Taking};
 
 /// Returns the kind that an operator takes. The operands of `=` and `<>` are of any one kind.
@@ -12,17 +16,11 @@ pub fn operand_kind(operator: Operator) -> Option<Kind>
     ensures { result ≡ takes operator }
 {
     match operator {
-        Operator::Or | Operator::And => Some(Kind::Logical),
-        Operator::Equal | Operator::Unequal => None,
-        Operator::Less
-        | Operator::AtMost
-        | Operator::Greater
-        | Operator::AtLeast
-        | Operator::Add
-        | Operator::Subtract
-        | Operator::Multiply
-        | Operator::Divide
-        | Operator::Remainder => Some(Kind::Integer),
+        Or | And => Some(Kind::Logical),
+        Equal | Unequal => None,
+        Less | AtMost | Greater | AtLeast | Add | Subtract | Multiply | Divide | Remainder => {
+            Some(Kind::Integer)
+        }
     }
 }
 
@@ -31,19 +29,8 @@ pub fn result_kind(operator: Operator) -> Kind
     ensures { result ≡ gives operator }
 {
     match operator {
-        Operator::Or
-        | Operator::And
-        | Operator::Equal
-        | Operator::Unequal
-        | Operator::Less
-        | Operator::AtMost
-        | Operator::Greater
-        | Operator::AtLeast => Kind::Logical,
-        Operator::Add
-        | Operator::Subtract
-        | Operator::Multiply
-        | Operator::Divide
-        | Operator::Remainder => Kind::Integer,
+        Or | And | Equal | Unequal | Less | AtMost | Greater | AtLeast => Kind::Logical,
+        Add | Subtract | Multiply | Divide | Remainder => Kind::Integer,
     }
 }
 

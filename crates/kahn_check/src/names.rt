@@ -4,21 +4,17 @@ ghost use Rattle.std.specs.Prelude.{◌≡◌, ◌++◌, ◌∷◌, [], List, �
 ghost use Rattle.std.specs.Map.{lookup};
 ghost use Rattle.std.proofs.Common.{bytes_eq};
 ghost use Rattle.kahn_streams.specs.{View.bytes_of, Faults.Declares};
-ghost use Rattle.kahn_check.specs.inner.Names.{hashed};
 
 use kahn_streams::{About, CheckFault, Name, NoMemory, Side, Taking};
 use std::alloc::Global;
 use std::collections::BTreeMap;
-use std::hash::{DefaultHasher, Hash, Hasher};
 use std::marker::{Model, PhantomData};
 
 /// What each name stands for. Contracts see the names in the order in which they were added.
 #[derive(Drop)]
 pub struct NameTable<V> {
-    // By the hash of a name, which is quick to compare, and by its text if another name has that hash. Both are ordered:
-    // chosen names can't make a look-up slow, as they can in a hash table.
-    firsts: BTreeMap<u64, (String, V)>,
-    others: BTreeMap<String, V>,
+    // In the order of their texts: chosen names can't make a look-up slow, as they can in a hash table.
+    by_text: BTreeMap<String, V>,
     listed: About<NameList<V>>,
 }
 
@@ -43,23 +39,14 @@ impl<V> Model for NameList<V> {
 
 impl<V> Model for NameTable<V> {
     ghost use Rattle.std.specs.Prelude.{List, ℕ};
-    ghost use Rattle.std.specs.BTreeMap.{get, get_by_text};
-    ghost use Rattle.std.specs.Ordering.{nat_cmp};
+    ghost use Rattle.std.specs.BTreeMap.{get_by_text};
     ghost use Rattle.kahn_check.specs.inner.Names.{AreFound};
 
     ghost Value = { List (List ℕ × V) };
 
     ghost view = { λ s. s.listed.value };
 
-    ghost invariant = { λ s. AreFound s.listed.value (get nat_cmp s.firsts) (get_by_text s.others) };
-}
-
-fn hashed(name: &Name) -> u64
-    ensures { result ≡ hashed (bytes_of name.now) }
-{
-    let mut hasher = DefaultHasher::new();
-    name.text.as_str().hash(&mut hasher);
-    hasher.finish()
+    ghost invariant = { λ s. AreFound s.listed.value (get_by_text s.by_text) };
 }
 
 // The names that the caller lists.
@@ -76,8 +63,7 @@ impl<V: Copy> NameTable<V> {
         ensures { result ≡ [] }
     {
         NameTable {
-            firsts: BTreeMap::new(alloc),
-            others: BTreeMap::new(alloc),
+            by_text: BTreeMap::new(alloc),
             listed: About::named(),
         }
     }
@@ -86,12 +72,7 @@ impl<V: Copy> NameTable<V> {
     pub fn find(&self, name: &Name) -> Option<V>
         ensures { result ≡ lookup (bytes_eq (bytes_of name.now)) self.now }
     {
-        if let Some(first) = self.firsts.get(&hashed(name)) {
-            if first.0.as_str() == name.text.as_str() {
-                return Some(first.1);
-            }
-        }
-        self.others.get(name.text.as_str()).copied()
+        self.by_text.get(name.text.as_str()).copied()
     }
 
     /// Adds a name that stands for nothing yet.
@@ -99,14 +80,9 @@ impl<V: Copy> NameTable<V> {
         requires { lookup (bytes_eq (bytes_of name.now)) self.old ≡ None }
         ensures { MatchResult result (λ u. self.new ≡ self.old ++ (bytes_of name.now, what) ∷ []) (λ f. f ≡ CheckFault.NoMemory) }
     {
-        let hash = hashed(name);
         let text = name.text.clone()?;
         let listed = in_order(self, name, &what);
-        if self.firsts.contains_key(&hash) {
-            self.others.insert(text, what)?;
-        } else {
-            self.firsts.insert(hash, (text, what))?;
-        }
+        self.by_text.insert(text, what)?;
         self.listed = listed;
         Ok(())
     }

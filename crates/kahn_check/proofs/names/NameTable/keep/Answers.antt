@@ -1,5 +1,5 @@
-use Rattle.kahn_check.proofs.Common.{rules, ◌≡◌, ◌++◌, ◌∷◌, [], ap, ◌∙◌, sym, is_some, true, bytes_eq, nat_cmp, lookup, bytes_of}
-use Rattle.std.specs.BTreeMap.{get, get_by_text}
+use Rattle.kahn_check.proofs.Common.{rules, ◌≡◌, ◌++◌, ◌∷◌, [], ap, ◌∙◌, sym, is_some, true, bytes_eq, lookup, bytes_of}
+use Rattle.std.specs.BTreeMap.{get_by_text}
 use Rattle.kahn_check.proofs.Listed.{still_found}
 use Rattle.kahn_check.proofs.names.NameTable.keep.Goals as goal
 
@@ -10,4 +10,4 @@ invariant_of-self g c =
     let listed : old.listed.value ++ (y, c.args.what) ∷ [] ≡ c.in_order-listed.result.value = ap (λ l. l ++ (y, c.args.what) ∷ []) c.self.view_is ∙ sym c.in_order-listed.ensures in
     let now : is_some (lookup (bytes_eq y) c.args.self.now) ≡ true = search rules in
     let there = ap (λ l. is_some (lookup (bytes_eq y) l)) c.self.view_is ∙ now in
-    rw (← listed) (still_found old.listed.value (get nat_cmp old.firsts) (get_by_text old.others) y c.args.what there c.self.invariant)
+    rw (← listed) (still_found old.listed.value (get_by_text old.by_text) y c.args.what there c.self.invariant)
