@@ -4,7 +4,7 @@ pub use Rattle.std.proofs.Math.Nat.{add-mod_left, mod-eq_of_lt, mod-lt}
 pub use Rattle.std.proofs.lemmas.List.{append_assoc, get_or-map, get_or-set_other, get_or-set_same, get_or_append_left, length-append, length-map, map-append, reverse-append}
 pub use Rattle.std.proofs.lemmas.List.Elements.{All-map, All-push}
 pub use Rattle.std.proofs.lemmas.List.Sums.{sum_by-cons, sum_by_push, get_or-le-sum_by}
-pub use Rattle.std.proofs.lemmas.Option.{slice_get-map, slice_get_read, slice_get_within}
+pub use Rattle.std.proofs.lemmas.Option.{none-some, same_Some, slice_get-map, slice_get_read, slice_get_within}
 pub use Rattle.std.specs.{List.position, Option.option_map, Vec.vec_capacity}
 pub use denote.Param.Send.{FieldsAt, IsSend, IsSync, SyncAt, array_sync_at, recorded_sync, sendable, shr_sync, struct_sync, struct_sync_at}
 pub use lib.ListN.{get_elem?}

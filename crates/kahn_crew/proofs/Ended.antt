@@ -1,11 +1,11 @@
 -- What a closed board says of a run.
-use Rattle.kahn_crew.proofs.Common.{append-nil, ◌++◌, reverse, arith, ◌≡◌, ◌⊎◌, inl, inr, ⊎_elim, ℕ, zero, suc, ◌+◌, ◌<◌, ◌≤◌, true, false, List, [], ◌∷◌, length, sum_by, refl, sym, ap, ◌∙◌, subst, Option, Some, slice_get, some, get_elem?, sum_by-cons, slice_get_within, Program, Schema, Reads, Writes, Given, channel_source, network_of, instance_at, actual_at, role_at, IsWellWired, Lists, is_output, count, end_at, Work, belongs, dealt, wired, events_told, wires, Terms, SeatView, AreReadyTasks, HasBegun, IsTaskOf, Tasked, Continues, IsLater, count_on, handed_to_task, read_by, reads_at, told_tale, waits_on, writes_at, wrote_by, no_writer, ClosesBoard, below}
+use Rattle.kahn_crew.proofs.Common.{none-some, same_Some, append-nil, ◌++◌, reverse, arith, ◌≡◌, ◌⊎◌, inl, inr, ⊎_elim, ℕ, zero, suc, ◌+◌, ◌<◌, ◌≤◌, true, false, List, [], ◌∷◌, length, sum_by, refl, sym, ap, ◌∙◌, subst, Option, Some, slice_get, some, get_elem?, sum_by-cons, slice_get_within, Program, Schema, Reads, Writes, Given, channel_source, network_of, instance_at, actual_at, role_at, IsWellWired, Lists, is_output, count, end_at, Work, belongs, dealt, wired, events_told, wires, Terms, SeatView, AreReadyTasks, HasBegun, IsTaskOf, Tasked, Continues, IsLater, count_on, handed_to_task, read_by, reads_at, told_tale, waits_on, writes_at, wrote_by, no_writer, ClosesBoard, below}
 use Rattle.kahn_streams.specs.declared.tree.Role.{Role}
 use Rattle.kahn_board.specs.declared.closing.Closed.{Closed}
 use Rattle.kahn_crew.specs.inner.Left.{AreAll, AreUntouched, HaveGone, IsQuietTask, IsOver, task_events}
 use Rattle.kahn_job.specs.declared.standing.TaskStanding.{TaskStanding}
 use Rattle.kahn_board.proofs.Opens.{below_first}
-use Rattle.kahn_crew.proofs.{Found.none_some, Found.some_same, Publishing.handed_is, Resting.continues_here, Resting.task_of, Started.both_at, Started.fits_of, Wirings.instances_are, Wirings.read_so, Wirings.reads_first, Wirings.writes_first, Wirings.writer_is}
+use Rattle.kahn_crew.proofs.{Publishing.handed_is, Resting.continues_here, Resting.task_of, Started.both_at, Started.fits_of, Wirings.instances_are, Wirings.read_so, Wirings.reads_first, Wirings.writes_first, Wirings.writer_is}
 use Rattle.kahn_streams.specs.declared.tree.Role.TheVariants as role
 use Rattle.kahn_streams.proofs.Sourced
 use Rattle.kahn_board.specs.Opening as closed
@@ -28,9 +28,9 @@ below_sum f (x ∷ xs) tally h =
 -- ---- what a task waits on
 
 waits_so : (w : Work) (s : TaskStanding) (c : ℕ) → waits_on w s ≡ Some c → (q : ℕ) × (s ≡ standing.Dry q) × (read_by (handed_to_task w q) ≡ Some c)
-waits_so w standing.Going c e = absurd (none_some e)
-waits_so w standing.Ended c e = absurd (none_some e)
-waits_so w (standing.Faulted k) c e = absurd (none_some e)
+waits_so w standing.Going c e = absurd (none-some _ e)
+waits_so w standing.Ended c e = absurd (none-some _ e)
+waits_so w (standing.Faulted k) c e = absurd (none-some _ e)
 waits_so w (standing.Dry q) c e = (q, refl, e)
 
 inner_output : (r : Role) → r ≡ role.Inner → is_output r ≡ false
@@ -154,7 +154,7 @@ Rise xs ys = (p : ℕ) (x y : Tasked) → slice_get xs p ≡ Some x → slice_ge
 -- all together did no less, and where they did no more, none of them did
 sums_rise : (xs ys : List Tasked) → length ys ≡ length xs → Rise xs ys → (sum_by task_events xs ≤ sum_by task_events ys)
     × (sum_by task_events ys ≡ sum_by task_events xs → (p : ℕ) (x y : Tasked) → slice_get xs p ≡ Some x → slice_get ys p ≡ Some y → y.work.cell.events ≡ x.work.cell.events)
-sums_rise [] [] l h = (omega arith, λ s p x y e f. absurd (none_some e))
+sums_rise [] [] l h = (omega arith, λ s p x y e f. absurd (none-some _ e))
 sums_rise [] (y ∷ ys) l h = absurd (omega (arith, l))
 sums_rise (x ∷ xs) [] l h = absurd (omega (arith, l))
 sums_rise (z ∷ xs) (u ∷ ys) l h =
@@ -167,7 +167,7 @@ sums_rise (z ∷ xs) (u ∷ ys) l h =
   where
     by : u.work.cell.events ≡ z.work.cell.events → ((p : ℕ) (x y : Tasked) → slice_get xs p ≡ Some x → slice_get ys p ≡ Some y → y.work.cell.events ≡ x.work.cell.events) →
         (p : ℕ) (x y : Tasked) → slice_get (z ∷ xs) p ≡ Some x → slice_get (u ∷ ys) p ≡ Some y → y.work.cell.events ≡ x.work.cell.events
-    by same others zero x y e f = ap task_events (sym (some_same f)) ∙ same ∙ ap task_events (some_same e)
+    by same others zero x y e f = ap task_events (sym (same_Some _ _ f)) ∙ same ∙ ap task_events (same_Some _ _ e)
     by same others (suc p) x y e f = others p x y e f
 
 -- a run on whose board nobody works, that was made of these tasks for so many events
@@ -215,12 +215,12 @@ untouched_gone t lists watch bound first tasks budget ready same left =
     subst (λ (l : List Tasked). HaveGone t lists watch (bound + events_told told_tale first) first l budget) (sym same) (record {
       ready = ready;
       count = ready.count;
-      later = λ p x y e f. subst (Continues x) (some_same (sym e ∙ f)) (continues_here x);
+      later = λ p x y e f. subst (Continues x) (same_Some _ _ (sym e ∙ f)) (continues_here x);
       events = let a : sum_by task_events first ≡ events_told told_tale first = all_told first in omega (arith, a, left);
     })
 
 pub untouched_here : {bound budget : ℕ} {first tasks : List Tasked} → tasks ≡ first → budget ≡ bound → AreUntouched bound first tasks budget
 untouched_here same left = record {
   unused = left;
-  cells = λ p x y e f. ap (λ (z : Tasked). z.work.cell) (sym (some_same (sym e ∙ subst (λ (l : List Tasked). slice_get l p ≡ Some y) same f)));
+  cells = λ p x y e f. ap (λ (z : Tasked). z.work.cell) (sym (same_Some _ _ (sym e ∙ subst (λ (l : List Tasked). slice_get l p ≡ Some y) same f)));
 }

@@ -1,5 +1,4 @@
 pub mod Common
-pub mod Found
 pub mod Wirings
 pub mod Publishing
 pub mod Heeding

@@ -1,6 +1,6 @@
 -- What is published agrees with what the seat knows.
-use Rattle.kahn_crew.proofs.Common.{arith, ◌≡◌, ◌≢◌, inl, inr, ℕ, ◌+◌, ◌<◌, ◌^◌, false, length, sym, ap, ◌∙◌, subst, Some, None, slice_set, dite, ℕ_discrete, get_or-set_same, get_or-set_other, Program, Actual, Writes, network_of, instance_at, actual_at, role_at, IsWellWired, is_output, count, driven, wires, SeatView, end_at, Work, HasPublished, SeesMore, IsJob, AreCounts, IsTaskOf, Tasked, AgreesWith, IsPublished, handed_to_task, written_by}
-use Rattle.kahn_crew.proofs.{Wirings.so_written, Wirings.writer_is, Wirings.written_inside, Wirings.written_so, Found.none_some}
+use Rattle.kahn_crew.proofs.Common.{none-some, arith, ◌≡◌, ◌≢◌, inl, inr, ℕ, ◌+◌, ◌<◌, ◌^◌, false, length, sym, ap, ◌∙◌, subst, Some, None, slice_set, dite, ℕ_discrete, get_or-set_same, get_or-set_other, Program, Actual, Writes, network_of, instance_at, actual_at, role_at, IsWellWired, is_output, count, driven, wires, SeatView, end_at, Work, HasPublished, SeesMore, IsJob, AreCounts, IsTaskOf, Tasked, AgreesWith, IsPublished, handed_to_task, written_by}
+use Rattle.kahn_crew.proofs.{Wirings.so_written, Wirings.writer_is, Wirings.written_inside, Wirings.written_so}
 
 writes_same : {c d : ℕ} → Writes d ≡ Writes c → d ≡ c
 writes_same e = cc
@@ -18,7 +18,7 @@ module _ (t : Program) (wired : IsWellWired t) where
   -- nothing is to be published where no channel between processes is written
   pub nothing_written : (x : Tasked) (p o : ℕ) → IsTaskOf t p x → written_by (network_of t) (At p o) ≡ None → IsPublished x o
   nothing_written x p o is e c h inner =
-      absurd (none_some (sym e ∙ so_written (network_of t) (At p o) c (sym (handed_is x.work p o is.0 is.1) ∙ h) (sym (inner_is x.work c is.0) ∙ inner)))
+      absurd (none-some _ (sym e ∙ so_written (network_of t) (At p o) c (sym (handed_is x.work p o is.0 is.1) ∙ h) (sym (inner_is x.work c is.0) ∙ inner)))
 
   -- a number that is told
   pub agrees_told : (x : Tasked) (p o c k : ℕ) (old new : SeatView) → IsTaskOf t p x → written_by (network_of t) (At p o) ≡ Some c → o < length x.published →

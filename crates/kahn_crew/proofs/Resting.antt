@@ -1,7 +1,7 @@
 -- A task that is set down.
-use Rattle.kahn_crew.proofs.Common.{arith, ◌≡◌, ◌⊎◌, inl, inr, ⊎_elim, ℕ, ◌+◌, ◌<◌, ◌^◌, List, refl, sym, ap, ◌∙◌, subst, Option, Some, None, slice_index, Program, Lists, Reads, Writes, network_of, instance_at, actual_at, role_at, IsWellWired, is_output, route_of, count, AreCounts, belongs, wired, wires, SeesMore, Terms, SeatView, Fits, Knows, end_at, Work, IsDelivered, FitTogether, IsTaskOf, IsDue, Tasked, Continues, HasStanding, AgreesWith, IsLater, IsPublished, count_on, handed_to_task, read_by, reads_at, told_tale, waits_on, writes_at, wrote_by, is_there, FlushedAll, flushed_of, second_of}
+use Rattle.kahn_crew.proofs.Common.{none-some, same_Some, arith, ◌≡◌, ◌⊎◌, inl, inr, ⊎_elim, ℕ, ◌+◌, ◌<◌, ◌^◌, List, refl, sym, ap, ◌∙◌, subst, Option, Some, None, slice_index, Program, Lists, Reads, Writes, network_of, instance_at, actual_at, role_at, IsWellWired, is_output, route_of, count, AreCounts, belongs, wired, wires, SeesMore, Terms, SeatView, Fits, Knows, end_at, Work, IsDelivered, FitTogether, IsTaskOf, IsDue, Tasked, Continues, HasStanding, AgreesWith, IsLater, IsPublished, count_on, handed_to_task, read_by, reads_at, told_tale, waits_on, writes_at, wrote_by, is_there, FlushedAll, flushed_of, second_of}
 use Rattle.kahn_streams.proofs.Dry.{dry_reads}
-use Rattle.kahn_crew.proofs.{Wirings.reads_first, Wirings.writes_first, Wirings.first_writes, Wirings.reader_is, Wirings.writer_is, Wirings.read_inside, Wirings.written_inside, Publishing.handed_is, Found.none_some, Found.some_same}
+use Rattle.kahn_crew.proofs.{Wirings.reads_first, Wirings.writes_first, Wirings.first_writes, Wirings.reader_is, Wirings.writer_is, Wirings.read_inside, Wirings.written_inside, Publishing.handed_is}
 use Rattle.kahn_job.proofs.Berthed.{same_self, same_then}
 use Rattle.kahn_job.specs.declared.standing.TaskStanding.TheVariants as standing
 use Rattle.kahn_crew.specs.declared.turn.Due.TheVariants as due
@@ -61,12 +61,12 @@ is_published key p y fit lt b = let f = is_there key.cells.value.items p (omega 
 
 -- the parameter that wrote
 flushed_some : (w : Work) (m : Option ℕ) (l : ℕ) → second_of (wrote_by w m) ≡ Some l → (o : ℕ) × (m ≡ Some o) × ((end_at w.ends o).flushed ≡ l)
-flushed_some w None l e = absurd (none_some e)
-flushed_some w (Some o) l e = (o, refl, some_same e)
+flushed_some w None l e = absurd (none-some _ e)
+flushed_some w (Some o) l e = (o, refl, same_Some _ _ e)
 
 wrote_some : (w : Work) (m : Option ℕ) (k l : ℕ) → wrote_by w m ≡ Some (k, l) → (o : ℕ) × (m ≡ Some o) × (count w.cell.sent o ≡ k) × ((end_at w.ends o).flushed ≡ l)
-wrote_some w None k l e = absurd (none_some e)
-wrote_some w (Some o) k l e = let same = some_same e in (o, refl, ap (λ x. x.0) same, ap (λ x. x.1) same)
+wrote_some w None k l e = absurd (none-some _ e)
+wrote_some w (Some o) k l e = let same = same_Some _ _ e in (o, refl, ap (λ x. x.0) same, ap (λ x. x.1) same)
 
 pub sees_two : (a b : ℕ) → SeesMore a b → a ≡ 2 → b ≡ 2
 sees_two a b (inl e) h = e ∙ h
@@ -129,7 +129,7 @@ module _ (t : Program) (wired : IsWellWired t) where
       let w = x.work in
       let r = dry_reads w.cell.network (own w is.0) w.cell.events w.cell.instance q paused.stood.tapes paused.is in
       let at : actual_at (instance_at (network_of t) p) q ≡ Reads r.0 = sym (handed_is t wired w p q is.0 is.1) ∙ r.1 in
-      let same : r.0 ≡ c = some_same (sym (ap route_of at) ∙ route) in
+      let same : r.0 ≡ c = same_Some _ _ (sym (ap route_of at) ∙ route) in
       let here : handed_to_task w q ≡ Reads c = r.1 ∙ ap Reads same in
       let reads : reads_at w c ≡ Some q = reads_first w.cell.network (own w is.0) w.cell.instance q c here in
       let there : actual_at (instance_at (network_of t) p) q ≡ Reads c = at ∙ ap Reads same in (
@@ -144,7 +144,7 @@ module _ (t : Program) (wired : IsWellWired t) where
       let w = x.work in
       let r = dry_reads w.cell.network (own w is.0) w.cell.events w.cell.instance q paused.stood.tapes paused.is in
       let at : actual_at (instance_at (network_of t) p) q ≡ Reads r.0 = sym (handed_is t wired w p q is.0 is.1) ∙ r.1 in
-      none_some (sym route ∙ ap route_of at)
+      none-some _ (sym route ∙ ap route_of at)
 
 -- ---- after a turn
 

@@ -1,9 +1,9 @@
--- The first tasks, and the board that is made of them.
-use Rattle.kahn_crew.proofs.Common.{arith, ◌≡◌, ℕ, zero, suc, ◌+◌, ◌<◌, ◌≤◌, ◌^◌, List, [], ◌∷◌, ◌++◌, length, map, refl, sym, ap, ◌∙◌, subst, true, false, Option, Some, None, slice_get, slice_index, slice_index_or, some, some-injective, some-ne-none, get_elem?, length-map, option_map, slice_get-map, slice_get_read, Program, Side, Writes, network_of, instance_at, actual_at, role_at, IsOnly, IsWriter, IsWellWired, side_at, Lists, inputs_of, is_output, Joins, count, AreCounts, Serves, end_at, IsDelivered, Work, events_told, Opens, wires, Terms, SeatView, woken_task, Tasked, AreReadyTasks, HasBegun, IsNumber, IsReadyTask, FitTogether, AgreesWith, IsLater, IsPublished, task_rows, told_tale, AreJoinedOn, spent}
+-- Idle jobs become tasks, and the board is made of them.
+use Rattle.kahn_crew.proofs.Common.{none-some, same_Some, arith, ◌≡◌, ℕ, zero, suc, ◌+◌, ◌<◌, ◌≤◌, ◌^◌, List, [], ◌∷◌, ◌++◌, length, map, refl, sym, ap, ◌∙◌, subst, true, false, Option, Some, None, slice_get, slice_index, slice_index_or, some, some-injective, some-ne-none, get_elem?, length-map, option_map, slice_get-map, slice_get_read, Program, Side, Writes, network_of, instance_at, actual_at, role_at, IsOnly, IsWriter, IsWellWired, side_at, Lists, inputs_of, is_output, Joins, count, AreCounts, Serves, end_at, IsDelivered, Work, events_told, Opens, wires, Terms, SeatView, woken_task, Tasked, AreReadyTasks, HasBegun, IsNumber, IsReadyTask, FitTogether, AgreesWith, IsLater, IsPublished, task_rows, told_tale, AreJoinedOn, spent}
 use Rattle.kahn_streams.specs.declared.tree.Role.TheVariants.{Input}
-use Rattle.kahn_job.specs.{inner.Idles.AreIdle, inner.Idles.CanGoOn, inner.Idles.HaveSettled, inner.Idles.rows_of, inner.Idles.AreOpening}
+use Rattle.kahn_job.specs.{inner.Idles.AreIdle, inner.Idles.CanGoOn, inner.Idles.HaveSettled, inner.Idles.rows_of}
 use Rattle.kahn_job.proofs.{Idles.idle_goes_on, Idles.row_there, Settles.stood_same}
-use Rattle.kahn_crew.proofs.{Found.none_some, Found.some_same, Publishing.handed_is, Resting.flushed_all, Resting.continues_here, Resting.published_is, Wirings.channels_are, Wirings.instances_are}
+use Rattle.kahn_crew.proofs.{Publishing.handed_is, Resting.flushed_all, Resting.continues_here, Resting.published_is, Wirings.channels_are, Wirings.instances_are}
 use Rattle.kahn_streams.proofs.Sourced
 pub use Rattle.kahn_streams.proofs.By_number.{mapped_at}
 
@@ -15,8 +15,8 @@ at_both (y ∷ ys) zero x e = ap Some (some-injective y x e)
 at_both (y ∷ ys) (suc p) x e = at_both ys p x e
 
 pub both_at : {A : Type 0} (xs : List A) (p : ℕ) (x : A) → slice_get xs p ≡ Some x → get_elem? xs p ≡ some x
-both_at [] p x e = absurd (none_some e)
-both_at (y ∷ ys) zero x e = ap some (some_same e)
+both_at [] p x e = absurd (none-some _ e)
+both_at (y ∷ ys) zero x e = ap some (same_Some _ _ e)
 both_at (y ∷ ys) (suc p) x e = both_at ys p x e
 
 pub at_mapped : {A B : Type 0} (f : A → B) (xs : List A) (p : ℕ) (x : A) → slice_get xs p ≡ Some x → slice_get (map f xs) p ≡ Some (f x)
@@ -26,17 +26,11 @@ pub middle_at : {A : Type 0} (before after : List A) (x : A) → slice_get (befo
 middle_at [] after x = refl
 middle_at (b ∷ before) after x = middle_at before after x
 
--- ---- what is told at the opening
-
-pub no_events : (lists : Lists) (ws : List Work) → ((p : ℕ) (w : Work) → slice_get ws p ≡ Some w → w.cell.events ≡ 0) → events_told told_tale (map (woken_task lists) ws) ≡ 0
-no_events lists [] h = refl
-no_events lists (w ∷ ws) h = let a : w.cell.events ≡ 0 = h 0 w refl in let b = no_events lists ws (λ p. h (suc p)) in omega (arith, a, b)
-
 -- one did no more than all
 pub at_most_all : (xs : List Tasked) (p : ℕ) (x : Tasked) → slice_get xs p ≡ Some x → x.work.cell.events ≤ events_told told_tale xs
-at_most_all [] p x e = absurd (none_some e)
+at_most_all [] p x e = absurd (none-some _ e)
 at_most_all (y ∷ xs) zero x e =
-    let s : y.work.cell.events ≡ x.work.cell.events = ap (λ (z : Tasked). z.work.cell.events) (some_same e) in
+    let s : y.work.cell.events ≡ x.work.cell.events = ap (λ (z : Tasked). z.work.cell.events) (same_Some _ _ e) in
     omega (arith, s)
 at_most_all (y ∷ xs) (suc p) x e = let r : x.work.cell.events ≤ events_told told_tale xs = at_most_all xs p x e in omega (arith, r)
 
@@ -83,14 +77,6 @@ module _ (t : Program) (lists : Lists) (ws : List Work) (idle : AreIdle t lists 
         delivered = delivered p w e;
       }
 
--- before their first events
-module _ (t : Program) (lists : Lists) (watch : Option ℕ) (ws : List Work) (tasks : List Tasked) (opened : AreOpening t lists watch ws) (are : tasks ≡ map (woken_task lists) ws) where
-  pub first_ready : AreReadyTasks t lists watch tasks
-  first_ready = subst (AreReadyTasks t lists watch) (sym are) (woken_ready t lists ws opened.idle opened.settled watch (λ p w e. (opened.each p w e).watched))
-
-  pub first_silent : events_told told_tale tasks ≡ 0
-  first_silent = ap (events_told told_tale) are ∙ no_events lists ws (λ p w e. (opened.each p w e).events)
-
 -- ---- how many tokens are published
 
 module _ {t : Program} (wired : IsWellWired t) {lists : Lists} {watch : Option ℕ} {tasks : List Tasked} (f : AreReadyTasks t lists watch tasks) (c : ℕ) where
@@ -119,7 +105,7 @@ module _ {t : Program} (wired : IsWellWired t) {lists : Lists} {watch : Option �
     given = λ i. absurd (r i);
     sent = λ p o x at w inner.
         let same : side_at p o ≡ s = only.1 (side_at p o) (Sourced.handed_within (network_of t) p o c (subst (λ a. Joins a c) (sym w) refl), w) in
-        let one : x ≡ y = some_same (sym at ∙ (ap (λ (u : Side). slice_get tasks u.instance) same ∙ writer_there s only y is)) in
+        let one : x ≡ y = same_Some _ _ (sym at ∙ (ap (λ (u : Side). slice_get tasks u.instance) same ∙ writer_there s only y is)) in
         e ∙ (ap (λ (z : Tasked). count z.work.cell.sent s.parameter) (sym one) ∙ ap (λ (u : Side). count x.work.cell.sent u.parameter) (sym same));
     few =
         let here = writer_there s only y is in

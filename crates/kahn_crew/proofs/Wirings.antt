@@ -1,7 +1,6 @@
 -- Who reads and who writes a channel, by the numbers of instances and parameters.
-use Rattle.kahn_crew.proofs.Common.{arith, ◌≡◌, ℕ, ◌<◌, ◌==◌, Bool, true, false, length, refl, sym, ap, ◌∙◌, subst, Option, Some, None, eqb-true, if◌then◌else◌, position, Program, Side, Schema, Actual, Reads, Writes, Hands, Written, network_of, instance_at, actual_at, role_at, IsOnly, IsWriter, IsWellWired, is_output, Joins, route_of, joins_within, joins_parameter, reads_once, driven, wires, read_by, written_by, is_channel, nothing, sole_first, sole_reader, sole_writer}
+use Rattle.kahn_crew.proofs.Common.{none-some, same_Some, true≢false, arith, ◌≡◌, ℕ, ◌<◌, ◌==◌, Bool, true, false, length, refl, sym, ap, ◌∙◌, subst, Option, Some, None, eqb-true, if◌then◌else◌, position, Program, Side, Schema, Actual, Reads, Writes, Hands, Written, network_of, instance_at, actual_at, role_at, IsOnly, IsWriter, IsWellWired, is_output, Joins, route_of, joins_within, joins_parameter, reads_once, driven, wires, read_by, written_by, is_channel, nothing, sole_first, sole_reader, sole_writer}
 use Rattle.kahn_streams.proofs.Sourced.{reads_listed, writes_listed}
-use Rattle.kahn_crew.proofs.Found.{apart, none_some, some_same}
 use Rattle.std.proofs.lemmas.List.Quantifiers.{position-Some}
 
 eqb_refl : (d : ℕ) → (d == d) ≡ true
@@ -10,31 +9,31 @@ eqb_refl d = grind arith
 -- ---- actuals
 
 channel_so : (o : Option ℕ) (c : ℕ) → is_channel o c ≡ true → o ≡ Some c
-channel_so None c e = absurd (apart (sym e))
+channel_so None c e = absurd (true≢false (sym e))
 channel_so (Some d) c e = ap Some (eqb-true d c e)
 
 so_channel : (o : Option ℕ) (c : ℕ) → o ≡ Some c → is_channel o c ≡ true
 so_channel o c e = ap (λ k. is_channel k c) e ∙ eqb_refl c
 
 pub read_so : (a : Actual) (c : ℕ) → read_by a ≡ Some c → a ≡ Reads c
-read_so (Reads d) c e = ap Reads (some_same e)
-read_so (Writes d) c e = absurd (none_some e)
-read_so (Hands v) c e = absurd (none_some e)
+read_so (Reads d) c e = ap Reads (same_Some _ _ e)
+read_so (Writes d) c e = absurd (none-some _ e)
+read_so (Hands v) c e = absurd (none-some _ e)
 
 inner_so : (b : Bool) (d c : ℕ) → (if b then None else Some d) ≡ Some c → (d ≡ c) × (b ≡ false)
-inner_so true d c e = absurd (none_some e)
-inner_so false d c e = (some_same e, refl)
+inner_so true d c e = absurd (none-some _ e)
+inner_so false d c e = (same_Some _ _ e, refl)
 
 so_inner : (b : Bool) (c : ℕ) → b ≡ false → (if b then None else Some c) ≡ Some c
-so_inner true c e = absurd (apart e)
+so_inner true c e = absurd (true≢false e)
 so_inner false c e = refl
 
 pub written_so : (N : Schema) (a : Actual) (c : ℕ) → written_by N a ≡ Some c → (a ≡ Writes c) × (is_output (role_at N c) ≡ false)
-written_so N (Reads d) c e = absurd (none_some e)
+written_so N (Reads d) c e = absurd (none-some _ e)
 written_so N (Writes d) c e =
     let f = inner_so (is_output (role_at N d)) d c e in
     (ap Writes f.0, ap (λ k. is_output (role_at N k)) (sym f.0) ∙ f.1)
-written_so N (Hands v) c e = absurd (none_some e)
+written_so N (Hands v) c e = absurd (none-some _ e)
 
 pub so_written : (N : Schema) (a : Actual) (c : ℕ) → a ≡ Writes c → is_output (role_at N c) ≡ false → written_by N a ≡ Some c
 so_written N a c e inner = ap (written_by N) e ∙ so_inner (is_output (role_at N c)) c inner
@@ -106,9 +105,9 @@ module _ (t : Program) (wired : IsWellWired t) where
   routed_inside p q c = by (actual_at (instance_at N p) q) refl
     where
       by : (a : Actual) → actual_at (instance_at N p) q ≡ a → route_of a ≡ Some c → c < length N.channels
-      by (Reads d) e f = reads_listed t wired p q c (e ∙ ap Reads (some_same f))
-      by (Writes d) e f = writes_listed t wired p q c (e ∙ ap Writes (some_same f))
-      by (Hands v) e f = absurd (none_some f)
+      by (Reads d) e f = reads_listed t wired p q c (e ∙ ap Reads (same_Some _ _ f))
+      by (Writes d) e f = writes_listed t wired p q c (e ∙ ap Writes (same_Some _ _ f))
+      by (Hands v) e f = absurd (none-some _ f)
 
   -- a channel that nobody or another parameter writes is not written there
   pub no_target : (p q c : ℕ) (r : Option Side) → route_of (actual_at (instance_at N p) q) ≡ Some c → IsOnly (IsWriter N c) r →
@@ -124,6 +123,6 @@ module _ (t : Program) (wired : IsWellWired t) where
       by : (a : Actual) → actual_at (instance_at N p) q ≡ a → route_of a ≡ Some c → written_by N a ≡ None
       by (Reads d) e g = refl
       by (Writes d) e g =
-          let here : actual_at (instance_at N p) q ≡ Writes c = e ∙ ap Writes (some_same g) in
+          let here : actual_at (instance_at N p) q ≡ Writes c = e ∙ ap Writes (same_Some _ _ g) in
           absurd (found r refl only ((joins_within N p q c (joins_write p q c here), joins_parameter N p q c (joins_write p q c here)), here))
       by (Hands v) e g = refl

@@ -19,4 +19,4 @@ mod worker;
 pub use closing::{CrewFault, Left, rest_all};
 pub use crew::run_tasks;
 pub use crewing::Crewing;
-pub use opening::{first_tasks, wake_all};
+pub use opening::wake_all;

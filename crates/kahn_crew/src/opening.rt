@@ -9,9 +9,8 @@ use crate::boxes::{Boxed, box_all, unbox_all};
 use crate::crewing::Crewing;
 use crate::hints::{Hints, first_hints};
 use kahn_board::{Board, Seat};
-use kahn_code::Code;
-use kahn_job::{Idle, Task, jobs};
-use kahn_streams::{Input, Network, NoMemory, Role};
+use kahn_job::{Idle, Task};
+use kahn_streams::{Input, Network, Role};
 use std::alloc::Global;
 
 /// The tasks of idle jobs that go on with an input for which their ends have settled. The list that is given has room for all. Never allocates.
@@ -30,23 +29,6 @@ pub fn wake_all(
         tasks.push_reserved(Task::woken(idle, input));
     }
     tasks
-}
-
-/// The tasks of all instances before their first events. Fails only if memory was refused.
-pub fn first_tasks(
-    alloc: Global,
-    network: &Network,
-    input: &Input,
-    code: &Code,
-    watch: Option<usize>,
-) -> Result<Vec<Task>, NoMemory>
-    requires { code.now.network.value ≡ network.now }
-    ensures ready { IfOk result (λ tasks. AreReadyTasks network.now input.now watch tasks.items) }
-    ensures none { IfOk result (λ tasks. events_told told_tale tasks.items ≡ 0) }
-{
-    let room = Vec::with_capacity(alloc, network.instances())?;
-    let idles = jobs(alloc, network, input, code, watch)?;
-    Ok(wake_all(network, input, idles, room))
 }
 
 // How many tokens of a channel are published at the start: the whole list of an input, and of another one what its writer sent.

@@ -1,8 +1,8 @@
 -- Jobs before their first events.
-use Rattle.kahn_job.proofs.Common.{arith, ◌≡◌, ℕ, ◌<◌, List, length, refl, sym, ap, ◌∙◌, subst, Option, None, Some, none-some, same_Some, slice_get, slice_index_or, Program, Actual, Reads, Writes, Hands, network_of, instance_at, actual_at, IsWellWired, reads_listed, writes_listed, AreInputsExtended, Lists, inputs_of, prefix_refl, Joins, TaskEnd, Serves, end_at, Work, HaveSettled, IsIdle, cells_of, rows_of, end_in, AreOpening, HaveNoEnds, IsFresh, IsOpening, no_end, Waiting, IsAhead, ServesAt, AreJobsAt, CellView, slice_get-map, option_map, length-map, length-replicate}
+use Rattle.kahn_job.proofs.Common.{arith, ◌≡◌, ℕ, ◌<◌, List, length, refl, sym, ap, ◌∙◌, subst, Option, None, Some, none-some, same_Some, slice_get, Program, Actual, Reads, Writes, Hands, network_of, instance_at, actual_at, IsWellWired, reads_listed, writes_listed, Lists, Joins, TaskEnd, end_at, Work, cells_of, rows_of, end_in, HaveNoEnds, no_end, Waiting, IsAhead, ServesAt, AreJobsAt, CellView, slice_get-map, option_map, length-map, length-replicate}
 use Rattle.kahn_streams.specs.Syntax.{Constant}
 use Rattle.kahn_streams.proofs.Entered.{none_of}
-use Rattle.kahn_job.proofs.{Handed.AreHanded, Idles.cell_there, Idles.cells_count, Idles.each_row, Idles.past, Idles.row_there, Idles.settled_rest}
+use Rattle.kahn_job.proofs.{Handed.AreHanded, Idles.cells_count, Idles.each_row, Idles.past}
 
 pub all_bare : (t : Program) (lists : Lists) (watch : Option ℕ) (so : Actual → TaskEnd → Type 0) (whole : TaskEnd → Type 0) → whole no_end → (ws : List Work) →
     HaveNoEnds t lists watch ws → AreHanded t so whole 0 (rows_of ws)
@@ -20,19 +20,6 @@ all_so : (t : Program) (wired : IsWellWired t) (so : Actual → TaskEnd → Type
 all_so t wired so none p q e (Reads d) i h = h d refl (reads_listed t wired p q d i)
 all_so t wired so none p q e (Writes d) i h = h d refl (writes_listed t wired p q d i)
 all_so t wired so none p q e (Hands v) i h = none v e
-
--- they are ends for this input, on which nothing was put
-pub handed_settled : (t : Program) (wired : IsWellWired t) (lists : Lists) (rows : List (List TaskEnd)) → AreHanded t (Serves t lists) IsFresh (length (network_of t).channels) rows →
-    HaveSettled t lists rows
-handed_settled t wired lists rows h = record {
-  served = λ p. record {
-    count = h.sizes p;
-    each = λ q. all_so t wired (Serves t lists) (λ v e. tt) p q (end_in rows p q) (actual_at (instance_at (network_of t) p) q) refl (h.each p q);
-    behind = λ q. let flushed = (h.every p q).1 in omega (arith, flushed);
-  };
-  flushed = λ p q d i o w. (h.every p q).1 ∙ sym (h.every p q).0;
-  joined = λ d p r o q i j. h.joined d (writes_listed t wired p o d i) p r o q i j;
-}
 
 -- a cell is that of a job
 job_there : (ws : List Work) (p : ℕ) (c : CellView) → slice_get (cells_of ws) p ≡ Some c → (w : Work) × (slice_get ws p ≡ Some w) × (c ≡ w.cell)
@@ -60,32 +47,3 @@ all_at t wired lists watch queues bare ws b cells h = record {
   where
     each : (p q : ℕ) → ServesAt t lists queues (actual_at (instance_at (network_of t) p) q) (end_in (rows_of ws) p q)
     each p q = all_so t wired (ServesAt t lists queues) (λ v e. (tt, tt)) p q (end_in (rows_of ws) p q) (actual_at (instance_at (network_of t) p) q) refl (h.each p q)
-
--- bare jobs that were handed their ends
-pub all_opening : (t : Program) (wired : IsWellWired t) (lists : Lists) (watch : Option ℕ) (bare ws : List Work) → HaveNoEnds t lists watch bare → cells_of ws ≡ cells_of bare →
-    AreHanded t (Serves t lists) IsFresh (length (network_of t).channels) (rows_of ws) → AreOpening t lists watch ws
-all_opening t wired lists watch bare ws b cells h = record {
-  idle = record { count = cells_count ws bare cells ∙ b.count; each = idle; resting = settled_rest t lists (rows_of ws) h.count settled };
-  settled = settled;
-  each = opening;
-}
-  where
-    settled : HaveSettled t lists (rows_of ws)
-    settled = handed_settled t wired lists (rows_of ws) h
-
-    opening : (p : ℕ) (w : Work) → slice_get ws p ≡ Some w → IsOpening t lists watch p w.cell
-    opening p w e = let x = cell_there ws bare cells p w e in subst (IsOpening t lists watch p) (sym x.2) (b.each p x.0 x.1).0
-
-    idle : (p : ℕ) (w : Work) → slice_get ws p ≡ Some w → IsIdle t lists p w
-    idle p w e =
-        let o = opening p w e in
-        let new : (q : ℕ) → (end_at w.ends q).next ≡ 0 = λ q. ap (λ es. (end_at es q).next) (sym (row_there ws p w e)) ∙ (h.every p q).0 in
-        record {
-          network = o.network;
-          grown = subst (λ l. AreInputsExtended (inputs_of l) (inputs_of lists)) (sym o.input) (λ c. prefix_refl (inputs_of lists c));
-          instance = o.instance;
-          at = record {
-            reads = λ q d i. new q ∙ sym (ap (λ x. slice_index_or x q 0) o.taken ∙ none_of _ q 0);
-            writes = λ q d i inner. new q ∙ sym (ap (λ x. slice_index_or x q 0) o.sent ∙ none_of _ q 0);
-          };
-        }

@@ -26,8 +26,7 @@ pub use Rattle.kahn_streams.specs.declared.tree.Role.TheVariants.{Inner, Input, 
 pub use Rattle.kahn_streams.specs.inner.Sources.{IsFed}
 pub use Rattle.kahn_job.specs.inner.Berths.{AreServed, HasStayed, HaveAdvanced, HaveFlushed, IsWithinInput, Serves, end_at, identities, AreBehindOn, AreJoinedOn, AreSoOn, HasPlace, HaveStayed, end_in, end_of_side}
 pub use Rattle.kahn_job.specs.inner.Ends.{TaskEnd, HasRoom, Identity, IsBehind, IsFlushed, IsSame, Lane, ShareLane, identity_of}
-pub use Rattle.kahn_job.specs.inner.Idles.{AreIdle, CanGoOn, HaveMet, HaveSettled, IsIdle, cells_of, rows_of, AreEndsOf, AreEndsSo, AreEndsAt, AreSamePlaces, tolds_of, AreJobsAt, HasNoEnds, HaveNoEnds, IsAhead, ServesAt, StandsByQueue, AreOpening, IsFresh, placed}
-pub use Rattle.kahn_code.specs.inner.Opening.{IsOpening}
+pub use Rattle.kahn_job.specs.inner.Idles.{AreIdle, CanGoOn, HaveMet, HaveSettled, IsIdle, cells_of, rows_of, AreEndsSo, AreEndsAt, AreSamePlaces, tolds_of, AreJobsAt, HasNoEnds, HaveNoEnds, IsAhead, ServesAt, placed}
 pub use Rattle.kahn_job.specs.inner.Settling.{AreElsewhere, AreResting, AreSettled, BothSettle, CanFeed, CanSettle, GoesOrStays, HasExchanged, HasSettled, HasStood, HaveExchanged, HaveStood, IsCarried, IsOfBefore, ServedBefore}
 pub use Rattle.kahn_job.specs.inner.Tasks.{Continues, IsTrueOf, Tasked, standing_after}
 pub use Rattle.kahn_job.specs.inner.Ways.{end_of, feeding, no_end, putting}

@@ -2,12 +2,12 @@
 
 ghost use Rattle.std.specs.Prelude.{◌≡◌, ◌<◌, ◌≤◌, ◌+◌, ◌^◌, vec_capacity};
 ghost use Rattle.kahn_job.specs.inner.Words.{ℕ, Tapped, nothing_gone, [], length, map, replicate, slice_get, IfOk, IfSome, Some, network_of, lane_name, sender_lane, receiver_lane, sender_name, receiver_name, flushed, sent, received, taken_of, waiting_of, given_of};
-ghost use Rattle.kahn_job.specs.{inner.Idles.cells_of, inner.Idles.rows_of, inner.Idles.AreEndsAt, inner.Idles.AreEndsOf, inner.Idles.HaveFewTokens, inner.Idles.AreSamePlaces, inner.Idles.placed, inner.Idles.tolds_of, inner.Berths.HasPlace, inner.Berths.end_of_side};
+ghost use Rattle.kahn_job.specs.{inner.Idles.cells_of, inner.Idles.rows_of, inner.Idles.AreEndsAt, inner.Idles.HaveFewTokens, inner.Idles.AreSamePlaces, inner.Idles.placed, inner.Idles.tolds_of, inner.Berths.HasPlace, inner.Berths.end_of_side};
 
 use crate::idle::Idle;
 use crate::port::TaskPort;
 use kahn_code::{Plain, Tap};
-use kahn_lane::{Receiver, Sender, lane, lane_at};
+use kahn_lane::{Receiver, Sender, lane_at};
 use kahn_streams::{Input, Network, NoMemory, Role, Side};
 use std::alloc::Global;
 
@@ -48,30 +48,6 @@ pub(crate) fn place(idles: &mut Vec<Idle>, side: Option<Side>, port: TaskPort)
 {
     if let Some(side) = side {
         let _none = exchange(idles, side, port);
-    }
-}
-
-/// Makes the ends of a channel, the writer's and the reader's: of an inner channel those of a new lane, of an input channel its
-/// list.
-pub(crate) fn ends_of(
-    alloc: Global,
-    network: &Network,
-    input: &Input,
-    channel: usize,
-) -> Result<(TaskPort, TaskPort), NoMemory>
-    requires { channel < length (network_of network.now).channels }
-    ensures { IfOk result (λ r. AreEndsOf network.now input.now channel r.0 r.1) }
-{
-    match network.channel(channel).role {
-        Role::Inner => match lane(alloc, network, input, channel) {
-            Ok((sender, receiver)) => Ok((TaskPort::puts(sender), TaskPort::takes(receiver))),
-            Err(_) => Err(NoMemory),
-        },
-        Role::Input => Ok((
-            TaskPort::nothing(),
-            TaskPort::feeds(network, input, channel, 0),
-        )),
-        Role::Output => Ok((TaskPort::nothing(), TaskPort::nothing())),
     }
 }
 

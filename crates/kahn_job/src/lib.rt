@@ -14,7 +14,7 @@ mod task;
 // For the crates above.
 pub use handing::{seat, unseat};
 pub use idle::Idle;
-pub use opening::{jobs, jobs_at};
+pub use opening::jobs_at;
 pub use settling::{meet, settle};
 pub use standing::TaskStanding;
 pub use task::Task;

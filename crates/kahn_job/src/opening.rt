@@ -1,10 +1,10 @@
-//! The jobs of a network before their first events.
+//! The jobs of a network, with the ends of its channels.
 
 ghost use Rattle.std.specs.Prelude.{◌≡◌, ◌<◌};
-ghost use Rattle.kahn_job.specs.{inner.Words.length, inner.Words.replicate, inner.Words.IfOk, inner.Words.instance_at, inner.Words.network_of, inner.Words.Lists, inner.Idles.HaveFewTokens, inner.Idles.AreJobsAt, inner.Idles.AreOpening, inner.Idles.HaveNoEnds, inner.Ways.no_end};
+ghost use Rattle.kahn_job.specs.{inner.Words.length, inner.Words.replicate, inner.Words.IfOk, inner.Words.instance_at, inner.Words.network_of, inner.Words.Lists, inner.Idles.HaveFewTokens, inner.Idles.AreJobsAt, inner.Idles.HaveNoEnds, inner.Ways.no_end};
 ghost use Rattle.kahn_code.specs.inner.Opening.{IsOpening};
 
-use crate::handing::{ends_at, ends_of, place};
+use crate::handing::{ends_at, place};
 use crate::idle::Idle;
 use crate::port::TaskPort;
 use kahn_code::{Cell, Code, Plain};
@@ -53,28 +53,6 @@ fn bare_jobs(
     let mut idles = Vec::new(alloc);
     for instance in 0..network.instances() {
         idles.push(bare_job(alloc, network, input, code, instance, watch)?)?;
-    }
-    Ok(idles)
-}
-
-/// Makes the jobs of all instances before their first events, in order. Each inner channel has a new lane, whose ends
-/// are with the channel's writer and reader. Fails only if memory was refused.
-pub fn jobs(
-    alloc: Global,
-    network: &Network,
-    input: &Input,
-    code: &Code,
-    watch: Option<usize>,
-) -> Result<Vec<Idle>, NoMemory>
-    requires { code.now.network.value ≡ network.now }
-    ensures { IfOk result (λ idles. AreOpening network.now input.now watch idles.items) }
-{
-    let _program = network.program();
-    let mut idles = bare_jobs(alloc, network, input, code, watch)?;
-    for channel in 0..network.channels() {
-        let (writer, reader) = ends_of(alloc, network, input, channel)?;
-        place(&mut idles, network.writer(channel), writer);
-        place(&mut idles, network.reader(channel), reader);
     }
     Ok(idles)
 }

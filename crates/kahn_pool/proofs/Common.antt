@@ -9,12 +9,12 @@ pub use Rattle.kahn_code.specs.Standing.{count}
 pub use Rattle.kahn_code.specs.declared.{cell.Kept.Kept, progress.Pause.Pause}
 pub use Rattle.kahn_code.specs.inner.Gone.{Gone, nothing_gone}
 pub use Rattle.kahn_code.specs.inner.Tapped.{Tapped}
-pub use Rattle.kahn_crew.proofs.Ended.{all_told, untouched_gone}
-pub use Rattle.kahn_crew.proofs.Started.{at_mapped, at_most_all, woken_ready}
+pub use Rattle.kahn_crew.proofs.Ended.{all_told}
+pub use Rattle.kahn_crew.proofs.Started.{at_mapped, woken_ready}
 pub use Rattle.kahn_streams.proofs.By_number.{mapped_at}
 pub use Rattle.kahn_crew.specs.declared.{crewing.Crewing.Crewing, closing.CrewFault.CrewFault, closing.CrewFault.TheVariants.NoMemory, closing.CrewFault.TheVariants.NoThread}
 pub use Rattle.kahn_streams.specs.declared.plan.Plan.{Plan}
-pub use Rattle.kahn_crew.specs.inner.Planned.{IsAsConfigured, IsCrew, crew_of}
+pub use Rattle.kahn_crew.specs.inner.Planned.{IsAsConfigured, IsCrew}
 pub use Rattle.kahn_crew.specs.inner.Left.{AreAll, AreUntouched, HaveGone, IsLack, IsOver, IsQuietTask, task_events}
 pub use Rattle.kahn_crew.specs.inner.Tasks.{AreReadyTasks, handed_to_task, is_over, task_rows, told_tale, work_of}
 pub use Rattle.kahn_job.proofs.Berthed.{past_none}
@@ -58,7 +58,7 @@ pub use Rattle.std.proofs.lemmas.Result.{err_from_is_err_and}
 pub use Rattle.kahn_sequential.proofs.Benched.{actual_same, get_map, got, mapped, seated_at, sent_there, taken_there, viewed, within_get}
 pub use Rattle.kahn_sequential.proofs.Filled.{are_streams}
 pub use Rattle.kahn_sequential.proofs.Giving.{begun_none, input_role}
-pub use Rattle.kahn_sequential.proofs.Lists.{ChangedTo, all_changed, map_changed, map_map, next_old, old_item, one_changed, same_writer, sum_over}
+pub use Rattle.kahn_sequential.proofs.Lists.{ChangedTo, all_changed, map_changed, map_map, next_old, old_item, one_changed, one_of_sum, same_writer, sum_over}
 pub use Rattle.kahn_sequential.proofs.Once_written.{input_watched, written_once}
 pub use Rattle.kahn_sequential.proofs.Righted.{answer_right, events_seen, none_done, right_with, seen_there, settled_by}
 pub use Rattle.std.proofs.Common.{Bool, Err, IsOk, List, None, Ok, Option, Result, Some, [], ap, arith, false, inl, inr, length, length-append, map, refl, replicate, rules, slice_get, slice_index_or, subst, suc, sum_by, sym, take, true, true≢false, vec_capacity, zero, ℕ, ◌++◌, ◌+◌, ◌-◌, ◌<◌, ◌^◌, ◌∙◌, ◌∷◌, ◌≡◌, ◌≤◌, ◌⊎◌}

@@ -1,5 +1,5 @@
 -- Jobs that go on from where the cells of a bench stand.
-use Rattle.kahn_pool.proofs.Common.{arith, false, zero, suc, refl, [], ◌∷◌, ◌⊎◌, inl, inr, ◌<◌, ◌≤◌, ◌^◌, ◌≡◌, ℕ, ◌+◌, List, length, map, sym, ap, ◌∙◌, subst, Some, slice_get, slice_index_or, replicate, sum_by, AreCounts, AreWhole, Lists, cell_for, seated_with, vacant_of, HaveFewTokens, AreQueued, MayRun, Round, RunState, View, cases_lt, events_at, given_of, length-map, prefix_refl, none_of, network_of, instance_at, actual_at, role_at, Actual, Reads, Writes, is_output, AreInputsExtended, inputs_of, CellView, Gone, nothing_gone, Tapped, IsIdle, AreJobsAt, AreSamePlaces, StandsByQueue, cells_of, rows_of, row_there, settled_rest, end_at, end_in, Work, AllStandBy, AreHeld, HaveSettled, view_events, told_view, IsLaid, Table, all_events, gone_in, sight_of, get_map, mapped, actual_same, seated_at, sent_there, taken_there, viewed, events_seen, IsServed, slice_get_past}
+use Rattle.kahn_pool.proofs.Common.{arith, false, zero, suc, refl, [], ◌∷◌, ◌⊎◌, inl, inr, ◌<◌, ◌≤◌, ◌^◌, ◌≡◌, ℕ, ◌+◌, List, length, map, sym, ap, ◌∙◌, subst, Some, slice_get, slice_index_or, replicate, sum_by, AreCounts, AreWhole, Lists, cell_for, seated_with, vacant_of, HaveFewTokens, AreQueued, MayRun, Round, RunState, View, cases_lt, events_at, given_of, length-map, prefix_refl, none_of, network_of, instance_at, actual_at, role_at, Actual, Reads, Writes, is_output, AreInputsExtended, inputs_of, CellView, Gone, nothing_gone, Tapped, IsIdle, AreJobsAt, AreSamePlaces, StandsByQueue, cells_of, rows_of, row_there, settled_rest, end_at, end_in, Work, AllStandBy, AreHeld, HaveSettled, view_events, told_view, IsLaid, Table, all_events, gone_in, sight_of, get_map, no_view, one_of_sum, mapped, actual_same, seated_at, sent_there, taken_there, viewed, events_seen, IsServed, slice_get_past}
 use Rattle.kahn_sequential.proofs.Turns.{turn_bound}
 use Rattle.kahn_streams.proofs.Sided.{channel_served}
 
@@ -81,6 +81,10 @@ module _ (b : Table) (laid : IsLaid b) (counted : AreQueued b.queues) (counts : 
 -- a run that may go on has done few events
 pub few_events : (s : RunState) (r : Round) → MayRun s r → (p : ℕ) → events_at s p < 2 ^ 48
 few_events s r may p = let most = turn_bound s r p may in omega (arith, most)
+
+-- one that did none too
+pub few_first : (s : RunState) → all_events s ≡ 0 → (p : ℕ) → events_at s p < 2 ^ 48
+few_first s none p = let most = one_of_sum view_events s.cells p no_view refl in omega (arith, most, none)
 
 -- the cells of this input for this input
 pub same_input : (lists : Lists) (cells : List CellView) → ((p : ℕ) (c : CellView) → slice_get cells p ≡ Some c → c.input ≡ lists) → map (cell_for lists) cells ≡ cells

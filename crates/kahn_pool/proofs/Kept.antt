@@ -1,5 +1,5 @@
 -- What the cells of jobs keep.
-use Rattle.kahn_pool.proofs.Common.{List, length, ap, ◌∙◌, length-map, Program, network_of, Lists, Kept, CellView, AreIdle, cells_of, Work, mapped_at, AreLists, AreKeptOf, count, idle}
+use Rattle.kahn_pool.proofs.Common.{List, ap, ◌∙◌, length-map, Program, network_of, Lists, Kept, CellView, AreIdle, cells_of, Work, mapped_at, AreLists, AreKeptOf, count, idle}
 use Rattle.kahn_sequential.proofs.Kept.{lists_of_cells}
 
 pub idle_lists : {A : Type 0} (t : Program) (lists : Lists) (ws : List Work) → AreIdle t lists ws → (kept : List (Kept A)) → AreKeptOf (cells_of ws) kept →

@@ -7,7 +7,7 @@ ghost use Rattle.std.specs.Prelude.{◌≡◌, ◌<◌, ◌≤◌, ◌+◌, ◌^
 use kahn_code::Tap;
 use kahn_job::{Idle, jobs_at, seat, unseat};
 use kahn_sequential::{Sequential, Vacant};
-use kahn_streams::{Input, NoMemory};
+use kahn_streams::{Input, Network, NoMemory};
 use std::alloc::Global;
 
 /// Jobs that stand where the queues of a bench stand, with copies of the tokens that wait there, for `hand_over`. The bench stays as it is.
@@ -48,6 +48,23 @@ pub(crate) fn hand_over<'n>(bench: Sequential<'n>, mut idles: Vec<Idle>) -> (Vac
     let (vacant, taps) = bench.into_taps();
     seat(&mut idles, taps);
     (vacant, idles)
+}
+
+/// The jobs of all processes at their openings, and the bench that they came from. Fails only if memory was refused.
+pub(crate) fn first_jobs<'n>(
+    alloc: Global,
+    network: &'n Network,
+    input: &Input,
+    watch: Option<usize>,
+) -> Result<(Vacant<'n>, Vec<Idle>), NoMemory>
+    ensures code { IfOk result (λ r. r.0.code ≡ network.now) }
+    ensures held { IfOk result (λ r. (bound : ℕ) → AreHeld network.now input.now watch bound r.1.items bound) }
+{
+    let Ok(bench) = Sequential::new(alloc, network, input, watch) else {
+        return Err(NoMemory);
+    };
+    let idles = lanes(&bench, alloc, input)?;
+    Ok(hand_over(bench, idles))
 }
 
 /// The bench with the cells of jobs that stand where its queues stand. The list that is given has room for all. Never allocates.

@@ -5,7 +5,8 @@ ghost use Rattle.kahn_pool.specs.inner.Below.{Verdict as VerdictOf, cells_of, ne
 ghost use Rattle.kahn_sequential.specs.HeldRuns.{HasFed, HasStarted, IsAnswerOf, IsLineOf, IsResumed, IsRightSoFar, IsUnfed, IsUnresumed, IsUnstarted, seen_events, so_far};
 ghost use Rattle.kahn_sequential.specs.inner.Workbench.{AreKeptOf};
 
-use crate::part::{PartRoom, first_idles, run_part};
+use crate::handover::first_jobs;
+use crate::part::{PartRoom, run_part};
 use crate::plan::RunPart;
 use kahn_code::{Code, Kept, compile};
 use kahn_crew::{CrewFault, Crewing};
@@ -86,15 +87,7 @@ impl<'n> Held<'n> {
         let plan = plan_of(network, &config)?;
         let code = compile(alloc, network)?;
         let crew = Crewing::of(&config, plan.watch);
-        let part = RunPart {
-            network,
-            input: &input,
-            code: &code,
-            crew,
-            bound: plan.bound,
-            left: plan.bound,
-        };
-        let idles = first_idles(alloc, &part)?;
+        let (_, idles) = first_jobs(alloc, network, &input, crew.watch)?;
         Ok(Held {
             alloc,
             network,

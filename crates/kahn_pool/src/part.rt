@@ -7,7 +7,7 @@ ghost use Rattle.kahn_streams.specs.declared.answer.Verdict.TheVariants as verdi
 use crate::ends::ends_of;
 use crate::plan::RunPart;
 use crate::settle::settle_all;
-use kahn_crew::{CrewFault, Left, first_tasks, rest_all, run_tasks, wake_all};
+use kahn_crew::{CrewFault, Left, rest_all, run_tasks, wake_all};
 use kahn_job::{Idle, Task, meet, settle};
 use kahn_sequential::verdict_of;
 use kahn_streams::{End, Gate, NoMemory, Verdict};
@@ -43,18 +43,6 @@ pub(crate) struct Stopped {
     pub(crate) budget: u64,
     pub(crate) ends: Vec<End>,
     pub(crate) outcome: Result<Verdict, CrewFault>,
-}
-
-/// The jobs of all instances before their first events. Fails only if memory was refused.
-pub(crate) fn first_idles(alloc: Global, part: &RunPart<'_>) -> Result<Vec<Idle>, NoMemory>
-    ensures { IfOk result (λ idles. AreHeldBy part.now idles.items part.now.bound) }
-{
-    let (network, input) = (part.network, part.input);
-    let room = Vec::with_capacity(alloc, network.instances())?;
-    let mut tasks = first_tasks(alloc, network, input, part.code, part.crew.watch)?;
-    let _program = network.program();
-    settle_all(&mut tasks, part);
-    Ok(rest_all(tasks, room))
 }
 
 // The jobs, the ends and the verdict of a run that is over: `Memory` exactly if it was halted, and it was halted only if memory

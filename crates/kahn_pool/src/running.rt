@@ -47,44 +47,9 @@ fn hand_room(
     })
 }
 
-// Runs a network at an open gate: at first on the caller's thread alone, over plain queues. If there is work for several, they go on from
-// there, as many as have work. If memory is refused for that, the run goes on alone.
-fn run_first<R: Threads + Wait + Sync, G: Gate + Sync>(
-    rt: &R,
-    alloc: Global,
-    network: &Network,
-    input: &Input,
-    most: Crewing,
-    bound: u64,
-    gate: &G,
-) -> Result<Answer, RunFault>
-    requires fits { length input.now ≡ length (network_of network.now).channels }
-    requires crew { IsCrew most × (bound < 2 ^ 48) }
-    ensures { MatchResult result (IsRight (network_of network.now) (inputs_of input.now) bound most.watch) (IsWant most.workers) }
-{
-    let Ok(ends) = Vec::with_capacity(alloc, network.instances()) else {
-        return Err(RunFault::NoMemory);
-    };
-    let mut bench = Sequential::new(alloc, network, input, most.watch)?;
-    let (streams, kept) = room_for_answer(alloc, network, input, most.watch)?;
-    let plan = most.plan(bound);
-    let blank = Blank::new(1);
-    let run = run_until_wide::<G, Brand>(blank, &mut bench, gate, true, ends, plan);
-    let round = match run {
-        Ok(part) => return Ok(answered(bench, part, streams, kept, bound)),
-        Err(round) => round,
-    };
-    let crew = most.at_open_gate(gate, bench.wide(), QUANTUM);
-    match hand_room(alloc, network, input, &bench) {
-        Err(_) => Ok(run_on_alone(gate, bench, round, streams, kept, plan)),
-        Ok(room) => run_on_workers(
-            rt, alloc, network, input, bench, round, streams, kept, room, crew, bound, gate,
-        ),
-    }
-}
-
 // Runs a network at an open gate by no more workers than instances, or threads that may run side by side. Nobody can tell the quantum
-// there, so it is that of `run_one`.
+// there, so it is that of `run_one`. It begins on the caller's thread alone, over plain queues. If there is work for several, they go on from
+// there, as many as have work. If memory is refused for that, the run goes on alone.
 fn run_open<R: Threads + Wait + Sync, G: Gate + Sync>(
     rt: &R,
     alloc: Global,
@@ -104,7 +69,24 @@ fn run_open<R: Threads + Wait + Sync, G: Gate + Sync>(
     if plan.workers == 1 {
         return Ok(run_watched(alloc, gate, network, input, plan)?);
     }
-    run_first(rt, alloc, network, input, most, bound, gate)
+    let Ok(ends) = Vec::with_capacity(alloc, network.instances()) else {
+        return Err(RunFault::NoMemory);
+    };
+    let mut bench = Sequential::new(alloc, network, input, most.watch)?;
+    let (streams, kept) = room_for_answer(alloc, network, input, most.watch)?;
+    let blank = Blank::new(1);
+    let run = run_until_wide::<G, Brand>(blank, &mut bench, gate, true, ends, plan);
+    let round = match run {
+        Ok(part) => return Ok(answered(bench, part, streams, kept, bound)),
+        Err(round) => round,
+    };
+    let crew = most.at_open_gate(gate, bench.wide(), QUANTUM);
+    match hand_room(alloc, network, input, &bench) {
+        Err(_) => Ok(run_on_alone(gate, bench, round, streams, kept, plan)),
+        Ok(room) => run_on_workers(
+            rt, alloc, network, input, bench, round, streams, kept, room, crew, bound, gate,
+        ),
+    }
 }
 
 /// Runs a network with an input that fits it. Its answer is right, whatever the number of workers and the quantum are. If its

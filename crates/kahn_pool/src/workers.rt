@@ -4,10 +4,10 @@ ghost use Rattle.std.specs.Prelude.{◌≡◌, ◌<◌, ◌≤◌, ◌^◌, [], 
 ghost use Rattle.kahn_pool.specs.{inner.Below.IsAsConfigured, inner.Below.IsCrew, inner.Below.IsRight, inner.Below.cells_of, inner.Below.inputs_of, inner.Below.network_of, inner.Holding.AreHeldBy, inner.Holding.IsWholeAnswer, inner.Holding.HasEnded, inner.Holding.IsHandRoomFor, inner.Holding.IsHeldPart, inner.Holding.IsRoomFor};
 ghost use Rattle.kahn_sequential.specs.{HeldRuns.IsWant, inner.Workbench.AreKeptOf, inner.Workbench.AreStreamsReady, inner.Workbench.IsBenchOf, inner.Workbench.IsWide};
 
-use crate::handover::{hand_over, taken_back};
-use crate::part::{PartRoom, Stopped, first_idles, run_part, run_settled};
+use crate::handover::{first_jobs, hand_over, taken_back};
+use crate::part::{PartRoom, Stopped, run_part, run_settled};
 use crate::plan::RunPart;
-use kahn_code::{Kept, Tap, compile};
+use kahn_code::{Kept, Tap};
 use kahn_crew::{CrewFault, Crewing};
 use kahn_job::Idle;
 use kahn_sequential::{Round, Sequential, fill, room_for_answer, run_on_alone};
@@ -92,18 +92,17 @@ pub(crate) fn run_workers<R: Threads + Wait + Sync, G: Gate + Sync>(
     requires crew { IsCrew crew × (bound < 2 ^ 48) }
     ensures { MatchResult result (IsRight (network_of network.now) (inputs_of input.now) bound crew.watch) (IsWant crew.workers) }
 {
-    let code = compile(alloc, network)?;
+    let (vacant, idles) = first_jobs(alloc, network, input, crew.watch)?;
     let (streams, kept) = room_for_answer(alloc, network, input, crew.watch)?;
     let room = PartRoom::new(alloc, network.instances())?;
     let part = RunPart {
         network,
         input,
-        code: &code,
+        code: vacant.code(),
         crew,
         bound,
         left: bound,
     };
-    let idles = first_idles(alloc, &part)?;
     Ok(run_whole(rt, alloc, &part, idles, room, streams, kept, gate)?)
 }
 

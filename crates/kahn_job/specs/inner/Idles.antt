@@ -39,20 +39,12 @@ pub record HaveSettled (t : Program) (lists : Lists) (rows : List (List TaskEnd)
       IsFlushed (end_in rows p q)
   pub joined : (d : ℕ) → AreJoinedOn (network_of t) rows d
 
--- nothing was taken, put or flushed
-abbrev pub IsFresh : TaskEnd → Type 0
-IsFresh e = (e.next ≡ 0) × (e.flushed ≡ 0)
-
 -- the two ends of a channel, and `so` holds of them; of an inner channel they are those of one lane
 pub record AreEndsSo (t : Program) (so : Actual → TaskEnd → Type 0) (whole : TaskEnd → Type 0) (c : ℕ) (writer reader : TaskEnd) : Type 0 where
   pub puts : (role_at (network_of t) c ≡ Input → ⊥) → so (Writes c) writer
   pub takes : (role_at (network_of t) c ≡ Output → ⊥) → so (Reads c) reader
   pub lane : role_at (network_of t) c ≡ Inner → ShareLane writer reader
   pub every : whole writer × whole reader
-
--- the two ends of a channel on which nothing was taken, put or flushed
-abbrev pub AreEndsOf : Program → Lists → ℕ → TaskEnd → TaskEnd → Type 0
-AreEndsOf t lists c writer reader = AreEndsSo t (Serves t lists) IsFresh c writer reader
 
 -- the end of a channel that is handed over stands where the queue of that stands
 abbrev pub StandsByQueue : Program → List Waiting → Actual → TaskEnd → Type 0
@@ -79,12 +71,6 @@ AreEndsAt t lists queues c writer reader = AreEndsSo t (ServesAt t lists queues)
 abbrev pub placed : List (List TaskEnd) → Option Side → TaskEnd → List (List TaskEnd)
 placed rows None e = rows
 placed rows (Some s) e = slice_set rows s.instance (slice_set (slice_index_or rows s.instance []) s.parameter e)
-
--- the jobs of all instances before their first events
-pub record AreOpening (t : Program) (lists : Lists) (watch : Option ℕ) (ws : List Work) : Type 0 where
-  pub idle : AreIdle t lists ws
-  pub settled : HaveSettled t lists (rows_of ws)
-  pub each : (p : ℕ) (w : Work) → slice_get ws p ≡ Some w → IsOpening t lists watch p w.cell
 
 -- the job of instance p before its first event, whose parameters have no ends yet
 abbrev pub HasNoEnds : Program → Lists → Option ℕ → ℕ → Work → Type 0

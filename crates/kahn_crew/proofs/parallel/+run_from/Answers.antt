@@ -1,4 +1,4 @@
-use Rattle.kahn_crew.proofs.Common.{arith, ◌<◌, ◌==◌, [], ◌∷◌, ◌∙◌, ap, dite, length, length-append, sym, true≢false, ℕ_discrete}
+use Rattle.kahn_crew.proofs.Common.{arith, ◌<◌, ◌==◌, ◌∙◌, ap, dite, length, sym, true≢false, ℕ_discrete}
 use Rattle.kahn_crew.proofs.Crewed.{told_among}
 use Rattle.kahn_crew.proofs.parallel.+run_from.Goals as goal
 

@@ -1,4 +1,4 @@
-use Rattle.kahn_pool.proofs.Common.{arith, rules, ◌≡◌, ℕ, ◌+◌, ◌∙◌, Option, Err, ap, length, map, sym, subst, AreHeld, IsLaid, IsWide, Lists, NoMemory, Plan, Program, Table, CellView, all_events, cell_for, cells_of, network_of, seated_with, sight_of, vacant_of, IsRoomFor}
+use Rattle.kahn_pool.proofs.Common.{arith, rules, ◌≡◌, ℕ, ◌+◌, ◌∙◌, Option, Err, ap, length, map, sym, subst, AreHeld, IsLaid, IsWide, Lists, NoMemory, Plan, Program, Table, all_events, cell_for, cells_of, network_of, seated_with, sight_of, IsRoomFor}
 use Rattle.kahn_pool.proofs.Handing.{same_input, seated_again}
 use Rattle.kahn_pool.proofs.workers.run_on_workers.Goals as goal
 

@@ -1,4 +1,4 @@
-use Rattle.kahn_pool.proofs.Common.{arith, rules, refl, sym, ap, ◌∙◌, subst, Crewing, IsAsConfigured, IsCrew, network_of, inputs_of, cells_of, IsWatched, begun_none, none_done}
+use Rattle.kahn_pool.proofs.Common.{arith, rules, refl, sym, ap, subst, Crewing, IsAsConfigured, IsCrew, network_of, inputs_of, cells_of, IsWatched, begun_none, none_done}
 use Rattle.kahn_pool.proofs.held.Held.start.Goals as goal
 
 pub invariant_of-result : goal.invariant_of-result
@@ -10,7 +10,7 @@ invariant_of-result c =
         code = c.in_ok-code.ensures;
         fits = c.requires.fits;
         few = rw p.rest.1 a.4;
-        held = c.in_ok-idles.ensures;
+        held = c.in_ok-idles.ensures.held _;
         ended = tt;
         begun = λ channel e. begun_none (network_of c.args.network.now) I channel (I channel) c.new-2.result.items (search rules);
         all = λ v e. absurd cc;
@@ -21,7 +21,7 @@ invariant_of-result c =
 pub returns : goal.returns
 returns c =
     let p = c.in_ok-plan.ensures in
-    let none = c.in_ok-idles.ensures.events in
+    let none = (c.in_ok-idles.ensures.held c.in_ok-plan.plan.bound).events in
     record {
       allowed = p.allowed;
       watched = subst (IsWatched c.args.network.now c.args.config.watch) (sym (ap (λ (k : Crewing). k.watch) c.of-crew.ensures)) p.watched;
