@@ -27,9 +27,9 @@ pub use Rattle.kahn_streams.specs.Syntax.{Number}
 pub use Rattle.kahn_streams.specs.inner.Sources.{IsFed}
 pub use Rattle.std.proofs.Common.{Bool, List, None, Option, Some, [], ap, arith, eq-or-lt_of_le, eqb-true, false, get_or, if◌then◌else◌, inl, inr, le_of_suc-le-suc, le_refl, le_trans, length, length-append, length-set, length-take, map, max, not-suc-le-zero, pos, refl, replicate, slice_get, slice_index_or, slice_set, subst, suc, sym, take, true, zero, ℕ, ◌++◌, ◌+◌, ◌<◌, ◌==◌, ◌||◌, ◌↔◌, ◌∙◌, ◌∷◌, ◌≡◌, ◌≤◌, ◌⊎◌}
 pub use Rattle.std.proofs.Math.Nat.{le-max_left, le-max_right}
-pub use Rattle.std.proofs.lemmas.Bool.{cases_lt}
+pub use Rattle.std.proofs.lemmas.Bool.{cases_lt, or_right}
 pub use Rattle.std.proofs.lemmas.List.{get_or_past, length-map, take-append-le}
-pub use Rattle.std.proofs.lemmas.Option.{get_or_from_slice_get, same_Some, slice_get-get_or, slice_get_read, slice_get_within}
+pub use Rattle.std.proofs.lemmas.Option.{get_or_from_slice_get, same_Some, slice_get_past, slice_get-get_or, slice_get_read, slice_get_within}
 pub use mathlib.Core.Path.{fun_ext}
 pub use Rattle.kahn_code.specs.declared.{progress.Pause.Pause}
 pub use Rattle.kahn_streams.specs.declared.{sides.Side.Side, token.Token.Token, tree.Program.Program, tree.Role.TheVariants.Inner, tree.Role.TheVariants.Input, tree.Role.TheVariants.Output, value.Failure.Failure, value.Line.Line, value.Line.TheVariants.Channel, value.Line.TheVariants.Print, value.Value.Value}

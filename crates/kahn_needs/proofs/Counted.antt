@@ -1,7 +1,7 @@
 -- Numbers that are told one after another, and the value that was sent at a place.
-use Rattle.kahn_needs.proofs.Common.{arith, ◌≡◌, ℕ, ◌+◌, ◌<◌, ◌||◌, Bool, true, false, List, [], ◌∷◌, ◌++◌, length, map, refl, sym, ap, ◌∙◌, subst, Some, slice_get, slice_index_or, length-map, same_Some, there, mapped, is_output, is_watched, IsWriter, Writes, Written, actual_at, channel_source, instance_at, network_of, role_at, Side, Token, Line, Channel, Print, Value, none_first, one_first, is_streamed, sent_on, CellView, tokens, AreCounted, HaveSeats, Stood, Seats, HasCome, HasValue}
+use Rattle.kahn_needs.proofs.Common.{arith, ◌≡◌, ℕ, ◌+◌, ◌<◌, ◌||◌, Bool, true, false, List, [], ◌∷◌, ◌++◌, length, map, refl, sym, ap, ◌∙◌, subst, Some, slice_get, slice_index_or, length-map, same_Some, there, mapped, is_output, is_watched, IsWriter, Writes, Written, actual_at, channel_source, instance_at, network_of, role_at, Side, Token, Line, Channel, Print, Value, none_first, one_first, is_streamed, sent_on, CellView, tokens, AreCounted, HaveSeats, Stood, Seats, HasCome, HasValue, or_right}
 use Rattle.kahn_streams.specs.Tokens.{token_value}
-use Rattle.kahn_needs.proofs.{Benched.found, Ways.eqb_refl}
+use Rattle.kahn_needs.proofs.{Benched.found, Searching.same_writer, Ways.eqb_refl}
 
 pub counted_none : (f : ℕ → ℕ) (xs : List ℕ) → xs ≡ [] → AreCounted f xs 0
 counted_none f xs e = let r = none_first (λ d x. x ≡ f d) xs e in record { count = r.count; each = r.each }
@@ -19,13 +19,6 @@ value_of_tokens b c p x s vs ts k n e l less v told =
     let t = there ts k (omega (arith, ap length e, length-map ts token_value, l, less)) in
     subst (λ us. slice_get us k ≡ Some v) e (mapped token_value ts k t.0 t.1 ∙ ap Some (sym (told t.0 t.1)))
 
-same_writer : {p r : ℕ} → Written p ≡ Written r → p ≡ r
-same_writer e = cc
-
-or_true : (x y : Bool) → y ≡ true → (x || y) ≡ true
-or_true true y e = refl
-or_true false y e = e
-
 module _ (b : Seats) (laid : HaveSeats b) (c : ℕ) (s : Side) (writer : IsWriter (network_of b.network) c s) (x : CellView) (at : slice_get b.cells s.instance ≡ Some x)
     (src : channel_source (network_of b.network) c ≡ Written s.instance) (watch : b.watch ≡ Some c) (k : ℕ) (v : Value)
     (told : (t : Token) → slice_get (tokens x.kept s.parameter) k ≡ Some t → v ≡ t.value) where
@@ -34,7 +27,7 @@ module _ (b : Seats) (laid : HaveSeats b) (c : ℕ) (s : Side) (writer : IsWrite
       let same : s.instance ≡ p = same_writer (sym src ∙ is) in
       let e : x ≡ x' = same_Some x x' (sym at ∙ subst (λ i. slice_get b.cells i ≡ Some x') (sym same) at') in
       let w : actual_at (instance_at (network_of b.network) p) s.parameter ≡ Writes c = subst (λ i. actual_at (instance_at (network_of b.network) i) s.parameter ≡ Writes c) same writer.1 in
-      let kept = stood.kept s.parameter c w (or_true (is_output (role_at (network_of b.network) c)) (is_watched b.watch c) (ap (λ w. is_watched w c) watch ∙ eqb_refl c)) in
+      let kept = stood.kept s.parameter c w (or_right (is_output (role_at (network_of b.network) c)) (is_watched b.watch c) (ap (λ w. is_watched w c) watch ∙ eqb_refl c)) in
       value_of_tokens b (Channel c) p x' stood (sent_on (network_of b.network) x'.events p stood.tapes (Channel c)) (tokens x'.kept s.parameter) k come.3.0
       kept.values (come.3.1 p is x' at' stood) come.3.2 v (subst (λ (y : CellView). (t : Token) → slice_get (tokens y.kept s.parameter) k ≡ Some t → v ≡ t.value) e told)
 

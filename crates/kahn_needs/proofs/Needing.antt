@@ -24,15 +24,13 @@ pub take_length : (a : ℕ) (xs : List Value) → length (take a xs) ≤ a
 take_length a xs = let e = length-take a xs in omega (arith, e)
 
 -- this number at one place, and 0 at all others
-only : ℕ → ℕ → ℕ → ℕ
+abbrev only : ℕ → ℕ → ℕ → ℕ
 only p j r = if r == p then j else 0
 
 only_there : (p j : ℕ) → only p j p ≡ j
-unfolding only
 only_there p j = ap (λ b. if b then j else 0) (eqb_refl p)
 
-only_below : (p j : ℕ) (f : ℕ → ℕ) → j ≤ f p → (r : ℕ) → only p j r ≤ f r
-unfolding only
+pub only_below : (p j : ℕ) (f : ℕ → ℕ) → j ≤ f p → (r : ℕ) → (if r == p then j else 0) ≤ f r
 only_below p j f h r = by (r == p) refl
   where
     by : (b : Bool) → (r == p) ≡ b → (if b then j else 0) ≤ f r

@@ -186,7 +186,7 @@ paused_at b b' p z laid a =
 
 -- ---- how much was sent
 
-same_writer : {p r : ℕ} → Written p ≡ Written r → p ≡ r
+pub same_writer : {p r : ℕ} → Written p ≡ Written r → p ≡ r
 same_writer e = cc
 
 module _ {b n : Seats} (is : b ≡ n) (laid : HaveSeats b) (c : ℕ) (s : Side) (writer : IsWriter (network_of b.network) c s) {x : CellView} (value : x ≡ slice_index_or b.cells s.instance x) where

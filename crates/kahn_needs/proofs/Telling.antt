@@ -1,5 +1,5 @@
 -- What all cells did for a value, and nothing more, is what it needs.
-use Rattle.kahn_needs.proofs.Common.{fun_ext, arith, ◌≡◌, ◌⊎◌, inl, inr, ℕ, zero, suc, ◌≤◌, ◌<◌, List, [], ◌∷◌, length, refl, sym, ap, ◌∙◌, subst, le_refl, Option, Some, None, false, slice_get, slice_index_or, length-take, cases_lt, get_or_past, get_or_from_slice_get, slice_get_within, there, grows_play, values_append, script_at, outputs, reads, reads_listed, is_output, Lists, inputs_of, IsServed, Schema, Reads, Writes, Given, Written, Nobody, Source, actual_at, instance_at, network_of, role_at, Tapes, play, Histories, Inputs, fed, goes_to, IsPrefix, out, source, tape_of, tapes_of, values_at, Stands, empty, Program, Inner, Input, Output, Line, Channel, Value, IsFed, sent_stands, stand_in, AllStand, exec_on, sent_on, given_of, next_at, taken_of, CellView, count, AreNeeds, Cut, Suffices, first_values, held_in, IsMadeIn, cut_told, of_input, AreCounted, HaveSeats, Seats, events_in, events_seen, taken_in, AreForced, HasCome, HasValue, HoldsIn, HoldsAt, play_zero}
+use Rattle.kahn_needs.proofs.Common.{fun_ext, arith, ◌≡◌, ◌⊎◌, inl, inr, ℕ, zero, suc, ◌≤◌, ◌<◌, List, [], ◌∷◌, length, refl, sym, ap, ◌∙◌, subst, le_refl, Option, Some, None, false, slice_get, slice_index_or, length-take, cases_lt, get_or_past, get_or_from_slice_get, slice_get_within, there, grows_play, values_append, script_at, outputs, reads, reads_listed, is_output, Lists, inputs_of, IsServed, Schema, Reads, Writes, Given, Written, Nobody, Source, actual_at, instance_at, network_of, role_at, Tapes, play, Histories, Inputs, fed, goes_to, IsPrefix, out, source, tape_of, tapes_of, values_at, Stands, empty, Program, Inner, Input, Output, Line, Channel, Value, IsFed, sent_stands, stand_in, AllStand, exec_on, sent_on, given_of, next_at, taken_of, CellView, count, AreNeeds, Cut, Suffices, first_values, held_in, IsMadeIn, cut_told, of_input, AreCounted, HaveSeats, Seats, events_in, events_seen, taken_in, AreForced, HasCome, HasValue, HoldsIn, HoldsAt, play_zero, slice_get_past}
 use Rattle.kahn_streams.proofs.Sided.{channel_served}
 use Rattle.kahn_streams.specs.declared.tree.Role.{Role}
 use Rattle.kahn_code.proofs.Readers.{joins_within}
@@ -13,11 +13,6 @@ counted_at f xs n h none d = by (cases_lt d (length xs))
     by : (d < length xs) ⊎ (length xs ≤ d) → slice_index_or xs d 0 ≡ f d
     by (inl l) = let g = there xs d l in get_or_from_slice_get xs d g.0 0 g.1 ∙ h.each d g.0 g.1
     by (inr l) = let e = h.count in get_or_past xs d 0 l ∙ sym (none d (omega (arith, l, e)))
-
-past_none : {X : Type 0} (xs : List X) (d : ℕ) → length xs ≤ d → slice_get xs d ≡ None
-past_none [] d l = refl
-past_none (x ∷ xs) zero l = absurd (omega (arith, l))
-past_none (x ∷ xs) (suc d) l = past_none xs d (omega (arith, l))
 
 -- ---- what each instance did
 
@@ -87,10 +82,10 @@ module _ (b : Seats) (laid : HaveSeats b) where
     x = cut_told N values events
 
     value_is : (d : ℕ) → slice_index_or values d 0 ≡ taken_in b d
-    value_is = counted_at (taken_in b) values (length N.channels) of_values (λ d l. ap taken_of (past_none b.queues.queues d (let n = laid.queued.count ∙ ap (λ t. length (network_of t).channels) laid.network in omega (arith, l, n))))
+    value_is = counted_at (taken_in b) values (length N.channels) of_values (λ d l. ap taken_of (slice_get_past b.queues.queues d (let n = laid.queued.count ∙ ap (λ t. length (network_of t).channels) laid.network in omega (arith, l, n))))
 
     event_is : (p : ℕ) → x.events p ≡ events_in b p
-    event_is = counted_at (events_in b) events (length N.instances) of_events (λ p l. ap events_seen (past_none b.cells p (let n = laid.count in omega (arith, l, n))))
+    event_is = counted_at (events_in b) events (length N.instances) of_events (λ p l. ap events_seen (slice_get_past b.cells p (let n = laid.count in omega (arith, l, n))))
 
     given_is : (d : ℕ) → source N (Channel d) ≡ Given → x.values d ≡ taken_in b d
     given_is d s = ap (λ o. of_input o (slice_index_or values d 0)) s ∙ value_is d
@@ -181,7 +176,7 @@ module _ (b : Seats) (laid : HaveSeats b) where
                   let held = (forced y h r.0 z.0 z.1).1 r.1 d j r.2 (omega (arith, taken_there b laid r.0 r.1 d z.0 z.1 r.2, e)) in
                   omega (arith, ap length (held_given N I y held.0 (Channel d) s), take_length (y.values d) (I d), held.1)
               by' (inr l) =
-                  let z = ap taken_of (past_none b.queues.queues d (let n = laid.queued.count ∙ ap (λ t. length (network_of t).channels) laid.network in omega (arith, l, n))) in
+                  let z = ap taken_of (slice_get_past b.queues.queues d (let n = laid.queued.count ∙ ap (λ t. length (network_of t).channels) laid.network in omega (arith, l, n))) in
                   absurd (omega (arith, z, e))
 
           by : (src : Source) → source N (Channel d) ≡ src → x.values d ≤ y.values d

@@ -190,12 +190,8 @@ done N I c k v x h bound verdict ends events run e p end at =
 less_not : (a b : ℕ) → a < b → b ≤ a → ⊥
 less_not a b h g = omega (arith, h, g)
 
-no_less : (a b : ℕ) → a ≤ b → (a < b → ⊥) → b ≤ a
-no_less a b le h = by (eq-or-lt_of_le le)
-  where
-    by : (a ≡ b) ⊎ (a < b) → b ≤ a
-    by (inl e) = omega (arith, e)
-    by (inr l) = absurd (h l)
+no_less : (a b : ℕ) → (a < b → ⊥) → b ≤ a
+no_less a b h = omega (arith, h)
 
 pub tight : (N : Schema) (I : Inputs) → AreTight N I
 tight N I c k v x = (there, back)
@@ -215,8 +211,8 @@ tight N I c k v x = (there, back)
         let hz = needs_of N I c k v s in
         let w = hz.least x t.enough in
         let e : z ≡ x = same_cut z x w (
-          λ d. no_less (z.values d) (x.values d) (w.0 d) (λ l. t.no_value z w d l hz.enough),
-          λ p. no_less (z.events p) (x.events p) (w.1 p) (λ l. t.no_event z w p l hz.enough),
+          λ d. no_less (z.values d) (x.values d) (λ l. t.no_value z w d l hz.enough),
+          λ p. no_less (z.events p) (x.events p) (λ l. t.no_event z w p l hz.enough),
         ) in
         subst (AreNeeds N I c k v) e hz
 

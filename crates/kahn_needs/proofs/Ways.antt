@@ -1,5 +1,5 @@
 -- What the process of an instance does, step by step: on tapes whose values stand all its runs go the same way.
-use Rattle.kahn_needs.proofs.Common.{fun_ext, arith, ◌≡◌, ◌⊎◌, inl, inr, ℕ, zero, suc, ◌+◌, ◌≤◌, ◌<◌, ◌==◌, max, Bool, true, false, if◌then◌else◌, List, [], ◌∷◌, ◌++◌, length, refl, sym, ap, ◌∙◌, subst, le_refl, Option, Some, get_or, slice_get, length-append, le-max_left, le-max_right, cases_lt, slice_get_within, slice_get-get_or, Failure, Value, Line, Channel, Port, Tapes, Script, Give, Fail, Waits, ScriptOutcome, Got, Dry, Fault, Reached, play, Store, Schema, Actual, Reads, Writes, Hands, instance_at, actual_at, Histories, Inputs, IsPrefix, Ending, Waiting, ending, exec_at, goes_to, out, tape_of, tapes_of, values_at, Step, Took, Sent, Turned, Follows, here, took, sent, turned, values_taken, sends_of, and_then, since, RanBy, StoppedAt, and_more, counted, exec_alike, one_value, prefix_get, script_at, play_on, ran, found_in, AllStand, StoodBy, View, exec_on, sent_on, IsShortest}
+use Rattle.kahn_needs.proofs.Common.{fun_ext, arith, ◌≡◌, ◌⊎◌, inl, inr, ℕ, zero, suc, ◌+◌, ◌≤◌, ◌<◌, ◌==◌, max, Bool, true, false, if◌then◌else◌, List, [], ◌∷◌, ◌++◌, length, refl, sym, ap, ◌∙◌, subst, le_refl, Option, Some, get_or, slice_get, length-append, le-max_left, le-max_right, cases_lt, slice_get_within, slice_get-get_or, Failure, Value, Line, Channel, Port, Tapes, Script, Give, Fail, Waits, ScriptOutcome, Got, Dry, Fault, Reached, play, Store, Schema, Actual, Reads, Writes, Hands, instance_at, actual_at, Histories, Inputs, IsPrefix, Ending, Waiting, ending, exec_at, goes_to, out, tape_of, tapes_of, values_at, Step, Took, Sent, Turned, Follows, here, took, sent, turned, values_taken, sends_of, and_then, since, RanBy, StoppedAt, and_more, counted, exec_alike, one_value, prefix_get, script_at, play_on, ran, found_in, AllStand, StoodBy, View, exec_on, sent_on, IsShortest, values_append}
 use Rattle.kahn_streams.specs.Script.{Cut as Unended}
 use Rattle.kahn_streams.proofs.Fuel.{play_alike}
 
@@ -158,21 +158,14 @@ module _ (N : Schema) (I : Inputs) (p m : ℕ) where
     sends_so : (c : Line) → length steps ≤ n → n ≤ m → sends (goes_to N p c) steps ≤ length (sent_on N n p T c)
     sends_so c long le =
         let i = rest steps n long in
-        omega (arith, ap (λ r. length (values_at (goes_to N p c) r.sent)) (there i.0 i.1 le), more (goes_to N p c) (sends_of steps) (play i.0 to (λ q. (begun q).0)).sent)
+        let more = (play i.0 to (λ q. (begun q).0)).sent in
+        let both = ap length (values_append (goes_to N p c) (sends_of steps) more) in
+        omega (arith, ap (λ r. length (values_at (goes_to N p c) r.sent)) (there i.0 i.1 le), both, length-append (values_at (goes_to N p c) (sends_of steps)) (values_at (goes_to N p c) more))
       where
         rest : (a : List Step) (k : ℕ) → length a ≤ k → (i : ℕ) × (k ≡ and_then a i)
         rest [] k l = (k, refl)
         rest (x ∷ a) zero l = absurd (omega (arith, l))
         rest (x ∷ a) (suc k) l = let r = rest a k (omega (arith, l)) in (r.0, ap suc r.1)
-
-        more : (at : Port → Bool) (xs ys : List (Port × Value)) → length (values_at at xs) ≤ length (values_at at (xs ++ ys))
-        more at [] ys = omega arith
-        more at (x ∷ xs) ys = by (at x.0) (more at xs ys)
-          where
-            by : (b : Bool) → length (values_at at xs) ≤ length (values_at at (xs ++ ys)) →
-                length (if b then x.1 ∷ values_at at xs else values_at at xs) ≤ length (if b then x.1 ∷ values_at at (xs ++ ys) else values_at at (xs ++ ys))
-            by true h = omega (arith, h)
-            by false h = h
 
 -- ---- the shortest run to more than k values of a line, beside a run on any other histories
 

@@ -23,21 +23,23 @@ pub use Rattle.kahn_warnings.specs.Faults.{AreNumbersOf64, AreOf64Bits, AreWritt
 pub use Rattle.kahn_warnings.specs.Loops.{IsUnchanged, LoopsHold, is_seen, never_ends}
 pub use Rattle.kahn_warnings.specs.Sites.{action_sites, else_sites, form_sites, level_sites, row_sites, site_at}
 pub use Rattle.kahn_warnings.specs.Telling.{AreNotesOf}
-pub use Rattle.kahn_warnings.specs.Uses.{any_varies_by, assigns, is_assigned_in, is_named, is_used_in, uses_name, varies_by, waits_in}
+pub use Rattle.kahn_warnings.specs.Uses.{any_varies_by, assigned_by, assigns, is_assigned_in, is_named, is_used_in, uses_name, varies_by, waits_in}
 pub use Rattle.kahn_warnings.specs.Warned.{warned}
 pub use Rattle.kahn_warnings.specs.Warnings.{block_items, by_layout, declaration_warnings, first_standing, first_unreached, list_warnings, name_warnings, parameter_warnings, row_warnings, site_warnings, statement_warnings, variable_warnings}
 pub use Rattle.kahn_warnings.specs.declared.{sites.ConstantSite.ConstantSite, warning.Warning.Warning}
 pub use Rattle.kahn_warnings.specs.declared.warning.WarningKind.TheVariants.{LongComment, Unreached}
 pub use Rattle.kahn_warnings.specs.inner.Collecting.{contains}
-pub use Rattle.std.proofs.Common.{All, Bool, Err, List, None, Ok, Option, Result, Some, [], ap, append-nil, append_assoc, arith, bytes_eq, cond, drop, false, flat_map, get_or, if◌then◌else◌, int_div, int_rem, is_some, length, nat_eq, nat_lt, neg_ℤ, negsuc, not, pos, refl, slice_set, string_bytes, subst, suc, sym, take, true, true≢false, zero, ℕ, ℤ, ◌&&◌, ◌*ℤ◌, ◌++◌, ◌+ℤ◌, ◌+◌, ◌-ℤ◌, ◌/◌, ◌<◌, ◌==◌, ◌^◌, ◌||◌, ◌∙◌, ◌∷◌, ◌≡◌, ◌≤◌, Equal, Greater, Less, rules}
+pub use Rattle.std.proofs.Common.{All, Bool, Err, List, None, Ok, Option, Result, Some, [], ap, append-nil, append_assoc, arith, bytes_eq, cond, drop, false, flat_map, get_or, if◌then◌else◌, int_div, int_rem, is_some, length, nat_eq, nat_lt, neg_ℤ, negsuc, not, pos, refl, slice_set, string_bytes, subst, suc, sym, take, true, true≢false, zero, ℕ, ℤ, ◌&&◌, ◌*ℤ◌, ◌++◌, ◌+ℤ◌, ◌+◌, ◌-ℤ◌, ◌/◌, ◌<◌, ◌==◌, ◌^◌, ◌||◌, ◌∙◌, ◌∷◌, ◌≡◌, ◌≤◌, ⊎_elim, Equal, Greater, Less, rules}
+pub use Rattle.std.proofs.Math.Bool.{or-false, or_assoc}
 pub use Rattle.std.proofs.Math.Nat.{div-le_self, div-lt_self}
+pub use Rattle.std.proofs.lemmas.Bool.{and_parts, or_cases, or_left, or_parts, or_right}
 pub use Rattle.std.proofs.lemmas.Grind.{common_steps}
 pub use Rattle.std.proofs.lemmas.Int.{ints, rem_below}
 pub use Rattle.std.proofs.lemmas.List.{at_drop_all, get_or-set_other, take_all}
 pub use Rattle.std.proofs.lemmas.List.Elements.{All-push, Contains-get_or}
 pub use Rattle.std.proofs.lemmas.Option.{none-some, same_Some}
 pub use Rattle.std.specs.Cmp.Lexicographic.{nat_list_eq_equiv}
-pub use Rattle.std.specs.List.{AllByRecursion}
+pub use Rattle.std.specs.List.{AllByRecursion, list_any}
 pub use Rattle.std.specs.Map.{lookup}
 pub use Rattle.std.specs.Option.{option_or}
 pub use Rattle.std.specs.Ordering.{is_eq}

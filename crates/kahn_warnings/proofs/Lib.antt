@@ -2,8 +2,8 @@ mod Common
 mod Lists
 mod Getting
 mod Folding
-mod Holding
+pub mod Holding
 mod Unchanged
-mod Unseen
+pub mod Unseen
 mod Innocent
-mod Nowhere
+pub mod Nowhere

@@ -1,80 +1,78 @@
 -- The operands of a level and the statements of a block and of a body, one after another.
-use Rattle.kahn_warnings.proofs.Common.{Action, Bool, Expr, List, None, Operand, Option, Row_of-Operand, Row_of-Statement, Scope, Some, Span, Statement, Stmt, Unreached, Warning, [], any_varies_by, ap, append_assoc, at_drop_all, block_items, body_of, drop, end_of-Operand, end_of-Statement, expr_of, expression_of, false, first_standing, first_unreached, flat_map, if◌then◌else◌, is_assigned_in, is_named, is_seen, is_used_in, items-the_row-Operand, items-the_row-Statement, length, level_of, list_warnings, more_of-Operand, more_of-Statement, never_ends, option_or, refl, row_of, row_warnings, statement_of, statement_warnings, stmt_of, sym, take, take_all, true, varies_by, waits_in, warned, ℕ, ◌++◌, ◌||◌, ◌∙◌, ◌∷◌, ◌≡◌, ◌≤◌}
+use Rattle.kahn_warnings.proofs.Common.{Binary, Bool, Bracket', Conditional', Expr, Form, Level', List, Negate', None, Not', Operand, Option, Row_of-Operand, Row_of-Statement, Scope, Some, Span, Statement, Stmt, Unreached, Warning, [], any_varies_by, ap, append_assoc, at_drop_all, block_items, body_of, drop, end_of-Operand, end_of-Statement, expr_of, expression_of, false, first_standing, first_unreached, flat_map, if◌then◌else◌, is_assigned_in, is_named, is_seen, is_used_in, items-the_row-Operand, items-the_row-Statement, length, level_of, list_any, list_warnings, more_of-Operand, more_of-Statement, never_ends, option_or, refl, row_of, row_warnings, statement_of, statement_warnings, stmt_of, sym, take, take_all, true, varies_by, waits_in, warned, ℕ, ◌++◌, ◌||◌, ◌∙◌, ◌∷◌, ◌≡◌, ◌≤◌, or-false, or_assoc}
+use Rattle.kahn_streams.specs.declared.tree.Form as form
 
-pub or_false : (b : Bool) → b || false ≡ b
-or_false true = refl
-or_false false = refl
+-- one more of a list, and no more, where they are tried from the left
+module _ {X : Type 0} (f : X → Bool) (l : List X) (all had : Bool) (so_far : had || list_any f l ≡ all) where
+  pub any_next : (x : X) (rest : List X) (has : Bool) → l ≡ x ∷ rest → has ≡ had || f x → has || list_any f rest ≡ all
+  any_next x rest has next is = ap (λ b. b || list_any f rest) is ∙ or_assoc had (f x) (list_any f rest) ∙ ap (λ k. had || list_any f k) (sym next) ∙ so_far
 
-pub or_assoc : (a b c : Bool) → ((a || b) || c) ≡ (a || (b || c))
-or_assoc true b c = refl
-or_assoc false b c = refl
+  pub any_done : l ≡ [] → had ≡ all
+  any_done none = sym (or-false had) ∙ ap (λ k. had || list_any f k) (sym none) ∙ so_far
 
 -- operands
 
-abbrev pub operands_named : Scope → List Operand → Bool
-operands_named names [] = false
-operands_named names (o ∷ rest) = is_named 0 (expression_of names o.expression) || operands_named names rest
+abbrev pub is_named_in : Scope → Operand → Bool
+is_named_in names o = is_named 0 (expression_of names o.expression)
 
 pub level_named : {m : _} (names : Scope) (first : Expr) (row : Row_of-Operand m) →
-    is_named 0 (level_of names first row) ≡ is_named 0 first || operands_named names (items-the_row-Operand m row)
-level_named names first end_of-Operand = sym (or_false (is_named 0 first))
+    is_named 0 (level_of names first row) ≡ is_named 0 first || list_any (is_named_in names) (items-the_row-Operand m row)
+level_named names first end_of-Operand = sym (or-false (is_named 0 first))
 level_named names first (more_of-Operand o at e rest) = level_named names _ rest ∙ or_assoc (is_named 0 first) (is_named 0 (expr_of names e)) _
 
-abbrev pub operands_wait : Scope → List Operand → Bool
-operands_wait names [] = false
-operands_wait names (o ∷ rest) = waits_in (expression_of names o.expression) || operands_wait names rest
+abbrev pub varies_with : (List ℕ → Bool) → Operand → Bool
+varies_with these o = varies_by these o.expression.form
 
-pub level_waits : {m : _} (names : Scope) (first : Expr) (row : Row_of-Operand m) →
-    waits_in (level_of names first row) ≡ waits_in first || operands_wait names (items-the_row-Operand m row)
-level_waits names first end_of-Operand = sym (or_false (waits_in first))
-level_waits names first (more_of-Operand o at e rest) = level_waits names _ rest ∙ or_assoc (waits_in first) (waits_in (expr_of names e)) _
+pub row_varies : {m : _} (these : List ℕ → Bool) (row : Row_of-Operand m) → any_varies_by these row ≡ list_any (varies_with these) (items-the_row-Operand m row)
+row_varies these end_of-Operand = refl
+row_varies these (more_of-Operand o at e rest) = ap (λ b. varies_by these e || b) (row_varies these rest)
 
-abbrev pub any_vary : Action → List Operand → Bool
-any_vary a [] = false
-any_vary a (o ∷ rest) = varies_by a o.expression.form || any_vary a rest
+-- an expression that varies by no name waits
+mutual
+  pub form_waits : (names : Scope) (f : Form) → varies_by (λ x. false) f ≡ waits_in (expr_of names f)
+  form_waits names (form.Number z) = refl
+  form_waits names (form.Logical b) = refl
+  form_waits names (form.Variable x) = refl
+  form_waits names (form.Wait q) = refl
+  form_waits names (Negate' p at e) = form_waits names e
+  form_waits names (Not' p at e) = form_waits names e
+  form_waits names (Bracket' p at e) = form_waits names e
+  form_waits names (Level' p at e shape row) = level_waits names _ _ row (form_waits names e)
+  form_waits names (Conditional' p at t q at' a r at'' b) = λ i. form_waits names t i || form_waits names a i || form_waits names b i
 
-pub row_varies : {m : _} (a : Action) (row : Row_of-Operand m) → any_varies_by a row ≡ any_vary a (items-the_row-Operand m row)
-row_varies a end_of-Operand = refl
-row_varies a (more_of-Operand o at e rest) = ap (λ b. varies_by a e || b) (row_varies a rest)
+  level_waits : {m : _} (names : Scope) (before : Bool) (first : Expr) (row : Row_of-Operand m) → before ≡ waits_in first
+      → before || any_varies_by (λ x. false) row ≡ waits_in (level_of names first row)
+  level_waits names before first end_of-Operand h = or-false before ∙ h
+  level_waits names before first (more_of-Operand o at e rest) h =
+      sym (or_assoc before _ _) ∙ level_waits names _ (Binary o first (expr_of names e)) rest (λ i. h i || form_waits names e i)
 
 -- statements
 
-abbrev pub any_in : (Stmt → Bool) → Scope → List Statement → Bool
-any_in f names [] = false
-any_in f names (s ∷ rest) = f (statement_of names s) || any_in f names rest
+abbrev pub is_so : (Stmt → Bool) → Scope → Statement → Bool
+is_so f names s = f (statement_of names s)
 
--- one statement more, and no more, where they are tried from the left
-module _ (f : Stmt → Bool) (names : Scope) (l : List Statement) (all : Bool) where
-  pub any_next : (s : Statement) (rest : List Statement) (had one : Bool) → l ≡ s ∷ rest → one ≡ f (statement_of names s) → had || any_in f names l ≡ all
-      → (had || one) || any_in f names rest ≡ all
-  any_next s rest had one next is so_far =
-      or_assoc had one (any_in f names rest) ∙ ap (λ b. had || (b || any_in f names rest)) is ∙ ap (λ k. had || any_in f names k) (sym next) ∙ so_far
-
-  pub any_done : (had : Bool) → l ≡ [] → had || any_in f names l ≡ all → had ≡ all
-  any_done had none so_far = sym (or_false had) ∙ ap (λ k. had || any_in f names k) (sym none) ∙ so_far
-
-pub block_is_used_in : {m : _} (names : Scope) (row : Row_of-Statement m) → is_used_in 0 (row_of names row) ≡ any_in (is_used_in 0) names (items-the_row-Statement m row)
+pub block_is_used_in : {m : _} (names : Scope) (row : Row_of-Statement m) → is_used_in 0 (row_of names row) ≡ list_any (is_so (is_used_in 0) names) (items-the_row-Statement m row)
 block_is_used_in names end_of-Statement = refl
 block_is_used_in names (more_of-Statement at a rest) = ap (λ b. is_used_in 0 (stmt_of names a) || b) (block_is_used_in names rest)
 
-pub body_is_used_in : (names : Scope) (ss : List Statement) → is_used_in 0 (body_of names ss) ≡ any_in (is_used_in 0) names ss
+pub body_is_used_in : (names : Scope) (ss : List Statement) → is_used_in 0 (body_of names ss) ≡ list_any (is_so (is_used_in 0) names) ss
 body_is_used_in names [] = refl
 body_is_used_in names (s ∷ rest) = ap (λ b. is_used_in 0 (statement_of names s) || b) (body_is_used_in names rest)
 
 pub block_is_assigned_in : {m : _} (names : Scope) (row : Row_of-Statement m) →
-    is_assigned_in 0 (row_of names row) ≡ any_in (is_assigned_in 0) names (items-the_row-Statement m row)
+    is_assigned_in 0 (row_of names row) ≡ list_any (is_so (is_assigned_in 0) names) (items-the_row-Statement m row)
 block_is_assigned_in names end_of-Statement = refl
 block_is_assigned_in names (more_of-Statement at a rest) = ap (λ b. is_assigned_in 0 (stmt_of names a) || b) (block_is_assigned_in names rest)
 
-pub body_is_assigned_in : (names : Scope) (ss : List Statement) → is_assigned_in 0 (body_of names ss) ≡ any_in (is_assigned_in 0) names ss
+pub body_is_assigned_in : (names : Scope) (ss : List Statement) → is_assigned_in 0 (body_of names ss) ≡ list_any (is_so (is_assigned_in 0) names) ss
 body_is_assigned_in names [] = refl
 body_is_assigned_in names (s ∷ rest) = ap (λ b. is_assigned_in 0 (statement_of names s) || b) (body_is_assigned_in names rest)
 
-pub block_never_ends : {m : _} (names : Scope) (row : Row_of-Statement m) → never_ends (row_of names row) ≡ any_in never_ends names (items-the_row-Statement m row)
+pub block_never_ends : {m : _} (names : Scope) (row : Row_of-Statement m) → never_ends (row_of names row) ≡ list_any (is_so never_ends names) (items-the_row-Statement m row)
 block_never_ends names end_of-Statement = refl
 block_never_ends names (more_of-Statement at a rest) = ap (λ b. never_ends (stmt_of names a) || b) (block_never_ends names rest)
 
-pub block_is_seen : {m : _} (names : Scope) (row : Row_of-Statement m) → is_seen (row_of names row) ≡ any_in is_seen names (items-the_row-Statement m row)
+pub block_is_seen : {m : _} (names : Scope) (row : Row_of-Statement m) → is_seen (row_of names row) ≡ list_any (is_so is_seen names) (items-the_row-Statement m row)
 block_is_seen names end_of-Statement = refl
 block_is_seen names (more_of-Statement at a rest) = ap (λ b. is_seen (stmt_of names a) || b) (block_is_seen names rest)
 

@@ -269,7 +269,7 @@ mutual
       let are = parted k (form_sites e) _ h in
       none_level k names (expr_of names e) rest (none_form k names e are.0) (ap (λ l. places k (level_sites l rest)) (same_constant names e) ∙ are.1)
   none_form k names (Conditional' p at t q at' a r at'' b) h =
-      let are = parted k (form_sites t) (form_sites a ++ form_sites b) h in
+      let are = parted k (form_sites t) _ h in
       let both = parted k (form_sites a) _ are.1 in
       (none_form k names t are.0, none_form k names a both.0, none_form k names b both.1)
 
@@ -291,11 +291,11 @@ mutual
   none_action k names (action.Print e) h = none_form k names e.form h
   none_action k names (Block' shape row) h = none_row k names row h
   none_action k names (If' t p at a b) h =
-      let are = parted k (form_sites t.form) (action_sites a ++ else_sites b) h in
+      let are = parted k (form_sites t.form) _ h in
       let both = parted k (action_sites a) _ are.1 in
       (none_form k names t.form are.0, none_action k names a both.0, none_else k names b both.1)
   none_action k names (While' t p at a) h =
-      let are = parted k (form_sites t.form) (action_sites a) h in
+      let are = parted k (form_sites t.form) _ h in
       (none_form k names t.form are.0, none_action k names a are.1)
   none_action k names (Repeat' p at a) h = none_action k names a h
 

@@ -1,25 +1,9 @@
 -- A loop that gives no value to a name of its test, which doesn't wait, never ends once that came true; and a name that gets no value keeps
 -- the one that it has.
-use Rattle.kahn_warnings.proofs.Common.{Assign, Binary, Bool, Conditional, Constant, Cut, Dry, Err, Expr, Failure, Fault, Give, Got, If, Integer, IsUnchanged, Literal, Logical, Negate, None, Not, Ok, Option, Parameter, Print, Printer, Repeat, Result, Script, ScriptOutcome, Send, Sends, Seq, Skip, Some, Stmt, Store, Tapes, Turns, Value, Variable, Wait, While, ap, apply, arith, at_once, constant, eval, exec, false, fun_ext, get_or-set_other, is_assigned_in, is_named, nat_eq, neg_ℤ, none-some, not, number, play, pos, ranged, read, refl, same_Some, script_of, settle, slice_set, subst, suc, sym, true, true≢false, truth, turns_of, value_of, waits_in, zero, ℕ, ◌||◌, ◌∙◌, ◌≡◌}
-
-left : (x y : Bool) → x ≡ true → (x || y) ≡ true
-left true y h = refl
-left false y h = absurd cc
-
-right : (x y : Bool) → y ≡ true → (x || y) ≡ true
-right true y h = refl
-right false y h = h
-
-pub neither : (x y : Bool) → (x || y) ≡ false → (x ≡ false) × (y ≡ false)
-neither true y h = absurd cc
-neither false y h = (refl, h)
+use Rattle.kahn_warnings.proofs.Common.{Assign, Binary, Bool, Conditional, Constant, Cut, Dry, Err, Expr, Failure, Fault, Give, Got, If, Integer, IsUnchanged, Literal, Logical, Negate, None, Not, Ok, Option, Parameter, Print, Printer, Repeat, Result, Script, ScriptOutcome, Send, Sends, Seq, Skip, Some, Stmt, Store, Tapes, Turns, Value, Variable, Wait, While, ap, apply, arith, at_once, constant, eval, exec, false, fun_ext, get_or-set_other, is_assigned_in, is_named, nat_eq, neg_ℤ, none-some, not, number, play, pos, ranged, read, refl, same_Some, script_of, settle, slice_set, subst, suc, sym, true, true≢false, truth, turns_of, value_of, waits_in, zero, ℕ, ◌||◌, ◌∙◌, ◌≡◌, or_left, or_parts, or_right}
 
 itself : (x : ℕ) → nat_eq x x ≡ true
-itself x = by (nat_eq x x) refl
-  where
-    by : (b : Bool) → nat_eq x x ≡ b → b ≡ true
-    by true h = refl
-    by false h = absurd (grind (arith, h))
+itself x = grind arith
 
 apart : (y x : ℕ) → nat_eq y x ≡ false → y ≡ x → ⊥
 apart y x h e = true≢false (sym (itself y) ∙ (ap (nat_eq y) e ∙ h))
@@ -57,18 +41,18 @@ comes_to (Negate e) s r next h is =
 comes_to (Not e) s r next h is =
     comes_to e s r (λ v. next (Logical (not (truth v)))) h is ∙ settle_then (result_of e s) (λ v. Ok (Logical (not (truth v)))) next
 comes_to (Binary o a b) s r next h is =
-    let clear = neither (waits_in a) (waits_in b) h in
-    comes_to a s r (λ v. value_of b r (λ w. settle (apply o v w) next)) clear.0 (λ x n. is x (left (is_named x a) (is_named x b) n))
-    ∙ (ap (settle (result_of a s)) (fun_ext (λ v. comes_to b s r (λ w. settle (apply o v w) next) clear.1 (λ x n. is x (right (is_named x a) (is_named x b) n))
+    let clear = or_parts (waits_in a) (waits_in b) h in
+    comes_to a s r (λ v. value_of b r (λ w. settle (apply o v w) next)) clear.0 (λ x n. is x (or_left (is_named x a) (is_named x b) n))
+    ∙ (ap (settle (result_of a s)) (fun_ext (λ v. comes_to b s r (λ w. settle (apply o v w) next) clear.1 (λ x n. is x (or_right (is_named x a) (is_named x b) n))
     ∙ settle_then (result_of b s) (λ w. apply o v w) next))
     ∙ settle_then (result_of a s) (λ v. then (result_of b s) (λ w. apply o v w)) next)
 comes_to {A = A} (Conditional t a b) s r next h is =
-    let clear = neither (waits_in t || waits_in a) (waits_in b) h in
-    let nor = neither (waits_in t) (waits_in a) clear.0 in
-    let first = comes_to a s r next nor.1 (λ x n. is x (left (is_named x t || is_named x a) (is_named x b) (right (is_named x t) (is_named x a) n))) in
-    let second = comes_to b s r next clear.1 (λ x n. is x (right (is_named x t || is_named x a) (is_named x b) n)) in
+    let clear = or_parts (waits_in t || waits_in a) (waits_in b) h in
+    let nor = or_parts (waits_in t) (waits_in a) clear.0 in
+    let first = comes_to a s r next nor.1 (λ x n. is x (or_left (is_named x t || is_named x a) (is_named x b) (or_right (is_named x t) (is_named x a) n))) in
+    let second = comes_to b s r next clear.1 (λ x n. is x (or_right (is_named x t || is_named x a) (is_named x b) n)) in
     comes_to t s r (λ v. elim (truth v) [ true ↦ value_of a r next | false ↦ value_of b r next ]) nor.0
-    (λ x n. is x (left (is_named x t || is_named x a) (is_named x b) (left (is_named x t) (is_named x a) n)))
+    (λ x n. is x (or_left (is_named x t || is_named x a) (is_named x b) (or_left (is_named x t) (is_named x a) n)))
     ∙ (ap (settle (result_of t s)) (fun_ext (λ v. branch (truth v) first second))
     ∙ settle_then (result_of t s) (λ v. elim (truth v) [ true ↦ result_of a s | false ↦ result_of b s ]) next)
   where
@@ -119,12 +103,12 @@ module _ (t : Expr) (s : Store) where
   kept k (Send e q) r f g spared is h = ap (value_of e r) (fun_ext (λ v. ap (Sends (Parameter q) v) (h r is)))
   kept k (Print e) r f g spared is h = ap (value_of e r) (fun_ext (λ v. ap (Sends Printer v) (h r is)))
   kept k (Seq a b) r f g spared is h =
-      kept k a r (λ q. script_of k b q f) (λ q. script_of k b q g) (λ x n. (neither (is_assigned_in x a) (is_assigned_in x b) (spared x n)).0) is
-      (λ q its. kept k b q f g (λ x n. (neither (is_assigned_in x a) (is_assigned_in x b) (spared x n)).1) its h)
+      kept k a r (λ q. script_of k b q f) (λ q. script_of k b q g) (λ x n. (or_parts (is_assigned_in x a) (is_assigned_in x b) (spared x n)).0) is
+      (λ q its. kept k b q f g (λ x n. (or_parts (is_assigned_in x a) (is_assigned_in x b) (spared x n)).1) its h)
   kept k (If c a b) r f g spared is h =
       ap (value_of c r) (fun_ext (λ v. same_branch (truth v) _ _ _ _
-      (kept k a r f g (λ x n. (neither (is_assigned_in x a) (is_assigned_in x b) (spared x n)).0) is h)
-      (kept k b r f g (λ x n. (neither (is_assigned_in x a) (is_assigned_in x b) (spared x n)).1) is h)))
+      (kept k a r f g (λ x n. (or_parts (is_assigned_in x a) (is_assigned_in x b) (spared x n)).0) is h)
+      (kept k b r f g (λ x n. (or_parts (is_assigned_in x a) (is_assigned_in x b) (spared x n)).1) is h)))
   kept k (While c a) r f g spared is h =
       turned k (λ q go. value_of c q go) (λ q go. script_of k a q go) (λ q d e its m. kept k a q d e spared its m) r f g is h
   kept k (Repeat a) r f g spared is h =

@@ -1,14 +1,6 @@
 -- What a statement does that never ends, and what one does that isn't seen.
-use Rattle.kahn_warnings.proofs.Common.{Assign, Binary, Bool, Conditional, Err, Expr, Fail, Failure, Give, If, Literal, Logical, LoopsHold, Negate, None, Not, Ok, Option, Print, Repeat, Rest, Result, Script, Send, Sends, Seq, Skip, Some, Stmt, Store, Tapes, Turns, Value, Variable, Wait, Waits, While, [], ap, apply, constant_of, false, fun_ext, is_seen, is_true, neg_ℤ, never_ends, not, number, play, ranged, refl, script_of, settle, slice_set, suc, sym, true, truth, turns_of, value_of, waits_in, zero, ℕ, ◌&&◌, ◌||◌, ◌∙◌, ◌≡◌}
-use Rattle.kahn_warnings.proofs.{Holding.holds, Unchanged.kept_value, Unchanged.neither, Unchanged.never_left, Unchanged.same_branch}
-
-either : {P : Type 0} (x y : Bool) → (x || y) ≡ true → (x ≡ true → P) → (y ≡ true → P) → P
-either true y h p q = p refl
-either false y h p q = q h
-
-both : (x y : Bool) → (x && y) ≡ true → (x ≡ true) × (y ≡ true)
-both true y h = (refl, h)
-both false y h = absurd cc
+use Rattle.kahn_warnings.proofs.Common.{Assign, Binary, Bool, Conditional, Err, Expr, Fail, Failure, Give, If, Literal, Logical, LoopsHold, Negate, None, Not, Ok, Option, Print, Repeat, Rest, Result, Script, Send, Sends, Seq, Skip, Some, Stmt, Store, Tapes, Turns, Value, Variable, Wait, Waits, While, [], ap, apply, constant_of, false, fun_ext, is_seen, is_true, neg_ℤ, never_ends, not, number, play, ranged, refl, script_of, settle, slice_set, suc, sym, true, truth, turns_of, value_of, waits_in, zero, ℕ, ◌&&◌, ◌||◌, ◌∙◌, ◌≡◌, and_parts, or_cases, or_parts, ⊎_elim}
+use Rattle.kahn_warnings.proofs.{Holding.holds, Unchanged.kept_value, Unchanged.never_left, Unchanged.same_branch}
 
 -- ---- whatever comes behind one that never ends
 
@@ -37,10 +29,11 @@ unmoved k (Assign x e) s f g h = absurd cc
 unmoved k (Send e q) s f g h = absurd cc
 unmoved k (Print e) s f g h = absurd cc
 unmoved k (Seq a b) s f g h =
-    either (never_ends a) (never_ends b) h (λ is. unmoved k a s (λ r. script_of k b r f) (λ r. script_of k b r g) is)
+    ⊎_elim (λ is. unmoved k a s (λ r. script_of k b r f) (λ r. script_of k b r g) is)
     (λ is. ap (λ (x : Store → Script _). script_of k a s x) (fun_ext (λ r. unmoved k b r f g is)))
+    (or_cases (never_ends a) (never_ends b) h)
 unmoved k (If t a b) s f g h =
-    let is = both (never_ends a) (never_ends b) h in
+    let is = and_parts (never_ends a) (never_ends b) h in
     ap (value_of t s) (fun_ext (λ v. same_branch (truth v) _ _ _ _ (unmoved k a s f g is.0) (unmoved k b s f g is.1)))
 unmoved k (While t a) s f g h = by (constant_of t) refl h
   where
@@ -74,11 +67,11 @@ quiet_value (Wait p) s next h q = absurd cc
 quiet_value (Negate e) s next h q = quiet_value e s _ h (λ v. quiet_settle (ranged (neg_ℤ (number v))) next q)
 quiet_value (Not e) s next h q = quiet_value e s _ h (λ v. q (Logical (not (truth v))))
 quiet_value (Binary o a b) s next h q =
-    let is = neither (waits_in a) (waits_in b) h in
+    let is = or_parts (waits_in a) (waits_in b) h in
     quiet_value a s _ is.0 (λ v. quiet_value b s _ is.1 (λ w. quiet_settle (apply o v w) next q))
 quiet_value (Conditional t a b) s next h q =
-    let is = neither (waits_in t || waits_in a) (waits_in b) h in
-    let are = neither (waits_in t) (waits_in a) is.0 in
+    let is = or_parts (waits_in t || waits_in a) (waits_in b) h in
+    let are = or_parts (waits_in t) (waits_in a) is.0 in
     quiet_value t s _ are.0 (λ v. quiet_branch (truth v) _ _ (quiet_value a s next are.1 q) (quiet_value b s next is.1 q))
 
 quiet_turns : {A : Type 0} (j : ℕ) (test : Store → (Value → Script A) → Script A) (body : Store → (Store → Script A) → Script A)
@@ -95,14 +88,14 @@ quiet_script k (Assign x e) s next h q = quiet_value e s _ h (λ v. q (slice_set
 quiet_script k (Send e p) s next h q = absurd cc
 quiet_script k (Print e) s next h q = absurd cc
 quiet_script k (Seq a b) s next h q =
-    let is = neither (is_seen a) (is_seen b) h in
+    let is = or_parts (is_seen a) (is_seen b) h in
     quiet_script k a s _ is.0 (λ r. quiet_script k b r next is.1 q)
 quiet_script k (If t a b) s next h q =
-    let is = neither (waits_in t || is_seen a) (is_seen b) h in
-    let are = neither (waits_in t) (is_seen a) is.0 in
+    let is = or_parts (waits_in t || is_seen a) (is_seen b) h in
+    let are = or_parts (waits_in t) (is_seen a) is.0 in
     quiet_value t s _ are.0 (λ v. quiet_branch (truth v) _ _ (quiet_script k a s next are.1 q) (quiet_script k b s next is.1 q))
 quiet_script k (While t a) s next h q =
-    let is = neither (waits_in t) (is_seen a) h in
+    let is = or_parts (waits_in t) (is_seen a) h in
     quiet_turns k (λ r go. value_of t r go) (λ r go. script_of k a r go) (λ r go p. quiet_value t r go is.0 p) (λ r go p. quiet_script k a r go is.1 p) s next q
 quiet_script k (Repeat a) s next h q =
     quiet_turns k (λ r go. go (Logical true)) (λ r go. script_of k a r go) (λ r go p. p (Logical true)) (λ r go p. quiet_script k a r go h p) s next q

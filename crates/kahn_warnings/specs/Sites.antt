@@ -3,7 +3,7 @@ use Rattle.std.specs.Prelude.{List, [], ◌∷◌, ◌++◌, Option, flat_map}
 use Rattle.kahn_streams.specs.{declared.span.Span.Span, declared.tree.Statement.Statement, declared.value.Value.Value, View.expr_of, View.expression_of}
 use Rattle.kahn_streams.specs.declared.tree.Form.{Form, Number, Logical, Variable, Wait, Negate', Not', Bracket', Level', Conditional', Row_of-Operand, end_of-Operand, more_of-Operand}
 use Rattle.kahn_streams.specs.declared.tree.Action.{Action, Empty, Assign, Send, Print, Block', If', While', Repeat', Row_of-Statement, end_of-Statement, more_of-Statement, Held-Action-If-2, None', Some'}
-use Rattle.kahn_warnings.specs.{Constants.combined, Constants.constant_of, Uses.is_empty, Uses.varies_by, declared.sites.ConstantSite.ConstantSite, declared.sites.SiteKind.SiteKind, declared.sites.SiteKind.TheVariants.Sign, declared.sites.SiteKind.TheVariants.Binary, declared.sites.SiteKind.TheVariants.Test, declared.sites.SiteKind.TheVariants.Turn}
+use Rattle.kahn_warnings.specs.{Constants.combined, Constants.constant_of, Uses.assigned_by, Uses.is_empty, Uses.varies_by, declared.sites.ConstantSite.ConstantSite, declared.sites.SiteKind.SiteKind, declared.sites.SiteKind.TheVariants.Sign, declared.sites.SiteKind.TheVariants.Binary, declared.sites.SiteKind.TheVariants.Test, declared.sites.SiteKind.TheVariants.Turn}
 
 abbrev pub site_at : SiteKind → Span → ConstantSite
 site_at k at = record { kind = k; span = at }
@@ -19,7 +19,7 @@ abbrev mutual
   form_sites (Not' p at e) = form_sites e
   form_sites (Bracket' p at e) = form_sites e
   form_sites (Level' p at e shape rest) = form_sites e ++ level_sites (constant_of (expr_of [] e)) rest
-  form_sites (Conditional' p at t q at' a r at'' b) = site_at (Test (constant_of (expr_of [] t))) at ∷ (form_sites t ++ (form_sites a ++ form_sites b))
+  form_sites (Conditional' p at t q at' a r at'' b) = form_sites t ++ (site_at (Test (constant_of (expr_of [] t))) at ∷ (form_sites a ++ form_sites b))
 
   -- behind operands with this value
   pub level_sites : {m : _} → Option Value → Row_of-Operand m → List ConstantSite
@@ -35,9 +35,9 @@ abbrev mutual
   action_sites (Send e q) = form_sites e.form
   action_sites (Print e) = form_sites e.form
   action_sites (Block' shape row) = row_sites row
-  action_sites (If' t p at a b) = site_at (Test (constant_of (expression_of [] t))) t.span ∷ (form_sites t.form ++ (action_sites a ++ else_sites b))
+  action_sites (If' t p at a b) = form_sites t.form ++ (site_at (Test (constant_of (expression_of [] t))) t.span ∷ (action_sites a ++ else_sites b))
   action_sites (While' t p at a) =
-      site_at (Turn (constant_of (expression_of [] t)) (varies_by a t.form) (is_empty a)) t.span ∷ (form_sites t.form ++ action_sites a)
+      form_sites t.form ++ (site_at (Turn (constant_of (expression_of [] t)) (varies_by (assigned_by a) t.form) (is_empty a)) t.span ∷ action_sites a)
   action_sites (Repeat' p at a) = action_sites a
 
   pub row_sites : {m : _} → Row_of-Statement m → List ConstantSite

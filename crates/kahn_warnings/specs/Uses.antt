@@ -52,24 +52,28 @@ abbrev pub is_empty : Action → Bool
 is_empty Empty = true
 is_empty a = false
 
--- an expression waits, or has a name to which an action gives a value: in sight of the name alone its number is 0
+-- an expression waits, or has a name of these
 abbrev mutual
-  pub varies_by : Action → Form → Bool
-  varies_by a (Number z) = false
-  varies_by a (Logical b) = false
-  varies_by a (form.Variable x) = is_assigned_in 0 (stmt_of (bytes_of x ∷ []) a)
-  varies_by a (form.Wait q) = true
-  varies_by a (Negate' p at e) = varies_by a e
-  varies_by a (Not' p at e) = varies_by a e
-  varies_by a (Bracket' p at e) = varies_by a e
-  varies_by a (Level' p at e shape row) = varies_by a e || any_varies_by a row
-  varies_by a (Conditional' p at t q at' e r at'' f) = varies_by a t || varies_by a e || varies_by a f
+  pub varies_by : (List ℕ → Bool) → Form → Bool
+  varies_by these (Number z) = false
+  varies_by these (Logical b) = false
+  varies_by these (form.Variable x) = these (bytes_of x)
+  varies_by these (form.Wait q) = true
+  varies_by these (Negate' p at e) = varies_by these e
+  varies_by these (Not' p at e) = varies_by these e
+  varies_by these (Bracket' p at e) = varies_by these e
+  varies_by these (Level' p at e shape row) = varies_by these e || any_varies_by these row
+  varies_by these (Conditional' p at t q at' e r at'' f) = varies_by these t || varies_by these e || varies_by these f
 
-  pub any_varies_by : {m : _} → Action → Row_of-Operand m → Bool
-  any_varies_by a end_of-Operand = false
-  any_varies_by a (more_of-Operand o at e rest) = varies_by a e || any_varies_by a rest
+  pub any_varies_by : {m : _} → (List ℕ → Bool) → Row_of-Operand m → Bool
+  any_varies_by these end_of-Operand = false
+  any_varies_by these (more_of-Operand o at e rest) = varies_by these e || any_varies_by these rest
 
--- the body of a process does so with a name: in sight of this one alone its number is 0, and no other name has that
+-- an action gives a value to a name: in sight of this one alone its number is 0, and no other name has that
+abbrev pub assigned_by : Action → List ℕ → Bool
+assigned_by a name = is_assigned_in 0 (stmt_of (name ∷ []) a)
+
+-- the body of a process does so, or uses it
 abbrev pub uses_name : Process → List ℕ → Bool
 uses_name p name = is_used_in 0 (body_of (name ∷ []) p.statements.items)
 

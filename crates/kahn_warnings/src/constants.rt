@@ -1,11 +1,10 @@
-//! The values that expressions have wherever they are reached, and the faults of operators on these.
+//! What operators make of the values that are known of their operands, and their faults on these.
 
 ghost use Rattle.std.specs.Prelude.{◌≡◌};
-ghost use Rattle.kahn_streams.specs.View.{Scope, expression_of};
-ghost use Rattle.kahn_warnings.specs.Constants.{chosen, combined, constant_of, divides, inverted, is_true, negate_fault, negated, sure_fault};
+ghost use Rattle.kahn_warnings.specs.Constants.{chosen, combined, divides, inverted, is_true, negate_fault, negated, sure_fault};
 
 use crate::arithmetic::{apply, negate, number, truth};
-use kahn_streams::{Expression, Failure, Form, Operator, Value};
+use kahn_streams::{Failure, Operator, Value};
 
 /// The value with the other sign.
 pub(crate) fn negated(value: Option<Value>) -> Option<Value>
@@ -37,30 +36,6 @@ pub(crate) fn chosen(test: Option<Value>, yes: Option<Value>, no: Option<Value>)
     ensures { result ≡ chosen test yes no }
 {
     if truth(test?) { yes } else { no }
-}
-
-/// The value that an expression has wherever it is reached, by the constants in it.
-pub(crate) fn constant_of(expression: &Expression) -> Option<Value>
-    ensures { (names : Scope) → result ≡ constant_of (expression_of names expression.now) }
-{
-    match &expression.form {
-        Form::Number(number) => Some(Value::Integer(*number)),
-        Form::Logical(truth) => Some(Value::Logical(*truth)),
-        Form::Variable(_) | Form::Wait(_) => None,
-        Form::Negate(inner) => negated(constant_of(inner)),
-        Form::Not(inner) => inverted(constant_of(inner)),
-        Form::Bracket(inner) => constant_of(inner),
-        Form::Level(first, rest) => {
-            let mut left = constant_of(first);
-            for operand in rest {
-                left = combined(operand.operator, left, constant_of(&operand.expression));
-            }
-            left
-        }
-        Form::Conditional(test, yes, no) => {
-            chosen(constant_of(test), constant_of(yes), constant_of(no))
-        }
-    }
 }
 
 /// Whether a value is known, and true.

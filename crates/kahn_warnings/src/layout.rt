@@ -51,10 +51,8 @@ fn is_alike(text: &str, statement: &Statement, next: Span, guarded: bool) -> boo
         }
     }
     match &statement.action {
-        Action::If(_, yes, no) => match no {
-            Some(no) => is_alike(text, no, next, true),
-            None => is_alike(text, yes, next, true),
-        },
+        Action::If(_, _, Some(inner)) => is_alike(text, inner, next, true),
+        Action::If(_, inner, None) => is_alike(text, inner, next, true),
         Action::While(_, body) | Action::Repeat(body) => is_alike(text, body, next, true),
         _ => false,
     }

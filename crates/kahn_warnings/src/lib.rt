@@ -8,7 +8,6 @@ mod constants;
 mod faults;
 mod laws;
 mod layout;
-mod loops;
 mod names;
 mod notes;
 mod program;

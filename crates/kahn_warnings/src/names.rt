@@ -2,9 +2,9 @@
 
 ghost use Rattle.std.specs.Prelude.{◌≡◌, ◌++◌, IfOk};
 ghost use Rattle.std.specs.List.{list_any};
-ghost use Rattle.kahn_warnings.specs.{Warnings.is_of, Warnings.name_kind, Warnings.name_warnings, Warnings.names_warnings, Warnings.process_kind, inner.Collecting.contains};
+ghost use Rattle.kahn_warnings.specs.{Uses.assigns, Uses.uses_name, Warnings.is_of, Warnings.name_kind, Warnings.name_warnings, Warnings.names_warnings, Warnings.process_kind, inner.Collecting.Are};
 
-use crate::collected::{NameSet, add_all, has};
+use crate::collected::{NameSet, has, names_in};
 use crate::warning::{Warning, WarningKind, add_warning};
 use kahn_streams::{Instance, Kind, Name, Process};
 use std::alloc::{AllocError, Global};
@@ -45,15 +45,22 @@ fn name_kind(is_used: bool, is_assigned: bool, variable: Option<Kind>) -> Option
 /// Adds the warning of a name of a process.
 fn add_name(
     warnings: &mut Vec<Warning>,
-    used: &NameSet,
-    assigned: &NameSet,
+    names: &(NameSet, NameSet),
+    _process: &Process,
     variable: Option<Kind>,
     name: &Name,
 ) -> Result<(), AllocError>
-    ensures { IfOk result (λ _. warnings.new.items ≡ warnings.old.items ++ name_warnings (contains used.now) (contains assigned.now) variable name.now) }
+    requires used { Are (uses_name _process.now) names.now.0 }
+    requires assigned { Are (assigns _process.now) names.now.1 }
+    ensures { IfOk result (λ _. warnings.new.items ≡ warnings.old.items ++ name_warnings (uses_name _process.now) (assigns _process.now) variable name.now) }
 {
-    let kind = name_kind(has(used, name), has(assigned, name), variable);
-    add_warning(warnings, kind, Some(name.span))
+    let used = has(&names.0, name);
+    let assigned = has(&names.1, name);
+    add_warning(
+        warnings,
+        name_kind(used, assigned, variable),
+        Some(name.span),
+    )
 }
 
 /// Adds those of the parameters of a process, and then those of its variables.
@@ -64,20 +71,13 @@ pub(crate) fn add_names(
 ) -> Result<(), AllocError>
     ensures { IfOk result (λ _. warnings.new.items ≡ warnings.old.items ++ names_warnings process.now) }
 {
-    let mut used = NameSet::new(alloc);
-    let mut assigned = NameSet::new(alloc);
-    add_all(&mut used, &mut assigned, process)?;
+    let names = names_in(alloc, process)?;
     for parameter in &process.parameters {
-        add_name(warnings, &used, &assigned, None, &parameter.name)?;
+        add_name(warnings, &names, process, None, &parameter.name)?;
     }
     for variable in &process.variables {
-        add_name(
-            warnings,
-            &used,
-            &assigned,
-            Some(variable.kind),
-            &variable.name,
-        )?;
+        let kind = Some(variable.kind);
+        add_name(warnings, &names, process, kind, &variable.name)?;
     }
     Ok(())
 }

@@ -6,12 +6,12 @@ ghost use Rattle.kahn_streams.specs.View.{Scope, statement_of};
 ghost use Rattle.kahn_warnings.specs.{Loops.is_seen, Loops.never_ends, Warnings.AreWarnings, Warnings.bare_kind, Warnings.body_warnings, Warnings.by_layout, Warnings.declaration_warnings, Warnings.loop_kind, Warnings.statement_warnings};
 
 use crate::comments::comment_warnings;
-use crate::constants::{constant_of, is_true};
+use crate::constants::is_true;
 use crate::layout::misplaced;
-use crate::loops::waits_in;
 use crate::names::{add_names, process_kind};
+use crate::sites::constant_of;
 use crate::surely::add_constants;
-use crate::uses::is_empty;
+use crate::uses::{is_empty, waits_in};
 use crate::warning::WarningKind::{BareThen, Beside, Idle};
 use crate::warning::{Warning, WarningKind, add_warning};
 use kahn_streams::{Action, Declaration, Instance, NoMemory, Program, Span, Statement};
@@ -57,6 +57,7 @@ fn branched(waits: bool, yes: (bool, bool), no: (bool, bool)) -> (bool, bool)
 /// Adds the warnings of a statement. Answers whether it never ends, and whether it waits, sends or prints anywhere.
 fn add_statement(
     warnings: &mut Vec<Warning>,
+    alloc: Global,
     statement: &Statement,
 ) -> Result<(bool, bool), AllocError>
     ensures warnings { IfOk result (λ _. warnings.new.items ≡ warnings.old.items ++ statement_warnings statement.now.span statement.now.action) }
@@ -65,7 +66,7 @@ fn add_statement(
 {
     match &statement.action {
         Action::Empty => Ok((false, false)),
-        Action::Assign(_, expression) => Ok((false, waits_in(expression))),
+        Action::Assign(_, expression) => Ok((false, waits_in(alloc, expression))),
         Action::Send(_, _) => Ok((false, true)),
         Action::Print(_) => Ok((false, true)),
         Action::Block(statements) => {
@@ -74,7 +75,7 @@ fn add_statement(
             let mut place = None;
             for inner in statements {
                 place = place_on(ends, place, inner.span);
-                let course = add_statement(warnings, inner)?;
+                let course = add_statement(warnings, alloc, inner)?;
                 ends = ends | course.0;
                 seen = seen | course.1;
             }
@@ -82,22 +83,22 @@ fn add_statement(
             Ok((ends, seen))
         }
         Action::If(test, yes, no) => {
-            let first = add_statement(warnings, yes)?;
+            let first = add_statement(warnings, alloc, yes)?;
             let Some(no) = no else {
                 add_warning(warnings, bare_kind(yes), statement.span)?;
-                return Ok(branched(waits_in(test), first, (false, false)));
+                return Ok(branched(waits_in(alloc, test), first, (false, false)));
             };
-            let second = add_statement(warnings, no)?;
-            Ok(branched(waits_in(test), first, second))
+            let second = add_statement(warnings, alloc, no)?;
+            Ok(branched(waits_in(alloc, test), first, second))
         }
         Action::While(test, body) => {
-            let (_, seen) = add_statement(warnings, body)?;
-            let ends = is_true(constant_of(test));
+            let (_, seen) = add_statement(warnings, alloc, body)?;
+            let ends = is_true(constant_of(alloc, test)?);
             add_warning(warnings, loop_kind(ends, seen), statement.span)?;
-            Ok((ends, waits_in(test) | seen))
+            Ok((ends, waits_in(alloc, test) | seen))
         }
         Action::Repeat(body) => {
-            let (_, seen) = add_statement(warnings, body)?;
+            let (_, seen) = add_statement(warnings, alloc, body)?;
             add_warning(warnings, loop_kind(true, seen), statement.span)?;
             Ok((true, seen))
         }
@@ -105,14 +106,18 @@ fn add_statement(
 }
 
 /// Adds those of a body.
-fn add_body(warnings: &mut Vec<Warning>, statements: &[Statement]) -> Result<(), AllocError>
+fn add_body(
+    warnings: &mut Vec<Warning>,
+    alloc: Global,
+    statements: &[Statement],
+) -> Result<(), AllocError>
     ensures { IfOk result (λ _. warnings.new.items ≡ warnings.old.items ++ body_warnings statements.now) }
 {
     let mut ends = false;
     let mut place = None;
     for statement in statements {
         place = place_on(ends, place, statement.span);
-        let course = add_statement(warnings, statement)?;
+        let course = add_statement(warnings, alloc, statement)?;
         ends = ends | course.0;
     }
     add_warning(warnings, Some(WarningKind::Unreached), place)?;
@@ -134,7 +139,7 @@ fn add_declaration(
             let place = Some(process.name.span);
             add_warning(warnings, process_kind(instances, process), place)?;
             add_names(warnings, alloc, process)?;
-            add_body(warnings, &process.statements)?;
+            add_body(warnings, alloc, &process.statements)?;
             add_constants(warnings, alloc, &process.statements)
         }
     }
