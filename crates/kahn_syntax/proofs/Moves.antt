@@ -1,5 +1,6 @@
 -- How the parts that are open go on, over what the parser reads.
 use Rattle.kahn_syntax.proofs.Common.{Action, StopsAs, head_parts, Then, Else, Do, On, End, ElseTail, StatementsTail, ◌≡◌, ◌≢◌, ℕ, ◌+◌, ◌≤◌, ◌<◌, List, [], ◌∷◌, ◌++◌, ◌⊎◌, ⊎_elim, length, true, false, cond, Some, None, Result, Ok, Err, true≢false, refl, sym, ap, ◌∙◌, subst, arith, append_assoc, Span, Class, Lexeme, MatchResult, Expression, Form, Covers, Statement, Stop, Refused, TooDeep, NoMemory, Terminal, word, terminal, terminals, First, RuleToken, accepts, leads, class_of, a_kind, a_name, a_number, a_sign, a_word, an_operator, either, rules_of, starts, enters, followed, opened_by, argument_rules, declaration_rules, other_rules, process_rules, simple_rules, Part, ProgramPart, DeclarationsPart, DeclarationPart, ProcessPart, GroupsPart, GroupPart, VariablesPart, InstancePart, ArgumentsPart, ArgumentPart, ExpressionPart, OperatorsPart, StatementPart, SimplePart, GroupsTail, ArgumentsTail, TokenPart, LevelPart, levels, step, Refuses, TooFar, fate, Operator, Level, Or, operator_terminal, rank, Rung, whole, ors, denials, relations, sums, at, tighter, rung_of, Kind, kind_terminal, IsAbsent, Reads, Moves, Stops, Halts, ExpressionRead, StatementRead, IsStated, Begin, Close, If, Integer, Logical, NameClass, Not, NotWord, Process, Semicolon, SignClass, Word}
+use Rattle.std.specs.Result.{IsErrAnd}
 use Rattle.kahn_syntax.proofs.{WholePrograms.take_kind, WholePrograms.skip_variables, Reached.go_far, Meaning.terminals_length}
 use Rattle.kahn_syntax.proofs.Steps.{go, runs, part, skips, refuses, passes, passes_one, follows, follows_some, starts_one, starts_followed, skip_level, skip_tail, take_token, IsChain, IsOther, open_chain, open_whole, open_denial, take_comparison, take_operator}
 
@@ -16,6 +17,11 @@ then f g = record { fates = λ s l. f.fates s l ∙ g.fates s l }
 
 pub then_stops : {text : List ℕ} {d : ℕ} {p q : List Part} {i j : List Lexeme} (e : Stop) → Moves text d p q i j → Stops text d q j e → Stops text d p i e
 then_stops e f g = λ s l. subst (StopsAs e) (sym (f.fates s l)) (g s l)
+
+-- what `?` returns where the reading stopped
+pub stopped : {X : Type 0} (P : X → Type 0) (S : Stop → Type 0) {e : Stop} (r : Result X Stop) → IsErrAnd r (λ x. x ≡ e) → S e → MatchResult r P S
+stopped P S (Ok x) h s = absurd h
+stopped P S (Err x) h s = subst S (sym h) s
 
 -- parts above others
 pub call : (text : List ℕ) (d e : ℕ) (ps qs : List Part) (i j : List Lexeme) → Depth d qs e → Reads text e ps i j → Moves text d (ps ++ qs) qs i j

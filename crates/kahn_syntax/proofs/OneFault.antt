@@ -15,15 +15,6 @@ same_span a b e f = λ i. record { from = e i; to = f i }
 abbrev IsBadCharacter : List ℕ → Span → Type 0
 IsBadCharacter text at = IsCharacter text at × ¬ (IsBlank (slice_index text at.from)) × ((n : ℕ) → n ≤ length text → ¬ (HasForm text at.from n))
 
-abbrev IsLargeNumber : List ℕ → Span → Type 0
-IsLargeNumber text at = IsLongest text at.from at.to × IsRun text at.from at.to × (largest_number < digits_value 10 (slice_range text at.from at.to))
-
-abbrev IsOpenComment : List ℕ → Span → Type 0
-IsOpenComment text at = IsLongest text at.from at.to × IsCommentWord text at.from at.to × ((i : ℕ) → at.to ≤ i → i < length text → ¬ (slice_index text i ≡ 59))
-
-abbrev IsLongName : List ℕ → Span → Type 0
-IsLongName text at = IsLongest text at.from at.to × IsWord text at.from at.to × (at.from + 64 < at.to)
-
 -- one character of the text ends at one place
 same_character : (text : List ℕ) (a : Span) (b : Span) → a.from ≡ b.from → IsBadCharacter text a → IsBadCharacter text b → a ≡ b
 same_character text a b e p q = go (order a.to b.to)
@@ -41,49 +32,42 @@ no_form text a b e p q =
     let long : IsLongest text a.from b.to = subst (λ (m : ℕ). IsLongest text m b.to) (sym e) q in
     p.2 b.to long.inside long.form
 
+-- a fault of the form that stands there
+data FormFault (text : List ℕ) (at : Span) : SyntaxFault → Type 0 where
+  large : IsRun text at.from at.to → FormFault text at (NumberTooLarge at)
+  opens : IsCommentWord text at.from at.to → FormFault text at (CommentOpen at)
+  long : IsWord text at.from at.to → at.from + 64 < at.to → FormFault text at (NameTooLong at)
+
 -- what a fault at a is
-data FaultAt (text : List ℕ) (a : ℕ) : SyntaxFault → Type 0 where
-  bad : (at : Span) → at.from ≡ a → IsBadCharacter text at → FaultAt text a (BadCharacter at)
-  large : (at : Span) → at.from ≡ a → IsLargeNumber text at → FaultAt text a (NumberTooLarge at)
-  opens : (at : Span) → at.from ≡ a → IsOpenComment text at → FaultAt text a (CommentOpen at)
-  long : (at : Span) → at.from ≡ a → IsLongName text at → FaultAt text a (NameTooLong at)
+data FaultAt (text : List ℕ) (a : ℕ) (e : SyntaxFault) : Type 0 where
+  bad : (at : Span) → at.from ≡ a → IsBadCharacter text at → e ≡ BadCharacter at → FaultAt text a e
+  formed : (at : Span) → at.from ≡ a → IsLongest text at.from at.to → FormFault text at e → FaultAt text a e
 
 fault_at : (text : List ℕ) (a : ℕ) (e : SyntaxFault) → IsFaultAt text a e → FaultAt text a e
-fault_at text a (BadCharacter at) (e, h) = bad at e h
-fault_at text a (NumberTooLarge at) (e, h) = large at e h
-fault_at text a (CommentOpen at) (e, h) = opens at e h
-fault_at text a (NameTooLong at) (e, h) = long at e h
+fault_at text a (BadCharacter at) (e, h) = bad at e h refl
+fault_at text a (NumberTooLarge at) (e, h) = formed at e h.0 (large h.1)
+fault_at text a (CommentOpen at) (e, h) = formed at e h.0 (opens h.1)
+fault_at text a (NameTooLong at) (e, h) = formed at e h.0 (long h.1 h.2)
 fault_at text a _ h = absurd h
 
 -- a run is no word, and `comment` isn't too long
-large_opens : (text : List ℕ) (a : Span) (b : Span) → a.from ≡ b.from → IsLargeNumber text a → IsOpenComment text b → ⊥
-large_opens text a b e p q = let f = same_long text a b e p.0 q.0 in letter_digit _ q.1.0.1 (run_first text b.from b.to (subst (λ (s : Span). IsLargeNumber text s) f p).1)
-
-large_long : (text : List ℕ) (a : Span) (b : Span) → a.from ≡ b.from → IsLargeNumber text a → IsLongName text b → ⊥
-large_long text a b e p q = let f = same_long text a b e p.0 q.0 in letter_digit _ q.1.1 (run_first text b.from b.to (subst (λ (s : Span). IsLargeNumber text s) f p).1)
-
-opens_long : (text : List ℕ) (a : Span) (b : Span) → a.from ≡ b.from → IsOpenComment text a → IsLongName text b → ⊥
-opens_long text a b e p q =
-    let f = same_long text a b e p.0 q.0 in
-    long_comment text b.from b.to q.0.inside q.2 (subst (λ (s : Span). IsOpenComment text s) f p).1
+same_form : (text : List ℕ) (at : Span) (e f : SyntaxFault) → at.to ≤ length text → FormFault text at e → FormFault text at f → e ≡ f
+same_form text at _ _ i (large r) (large s) = refl
+same_form text at _ _ i (opens w) (opens v) = refl
+same_form text at _ _ i (long w l) (long v m) = refl
+same_form text at _ _ i (large r) (opens v) = absurd (letter_digit _ v.0.1 (run_first text at.from at.to r))
+same_form text at _ _ i (large r) (long v m) = absurd (letter_digit _ v.1 (run_first text at.from at.to r))
+same_form text at _ _ i (opens w) (large s) = absurd (letter_digit _ w.0.1 (run_first text at.from at.to s))
+same_form text at _ _ i (opens w) (long v m) = absurd (long_comment text at.from at.to i m w)
+same_form text at _ _ i (long w l) (large s) = absurd (letter_digit _ w.1 (run_first text at.from at.to s))
+same_form text at _ _ i (long w l) (opens v) = absurd (long_comment text at.from at.to i l v)
 
 same_at : (text : List ℕ) (a : ℕ) (e f : SyntaxFault) → FaultAt text a e → FaultAt text a f → e ≡ f
-same_at text a _ _ (bad s p h) (bad t q k) = ap BadCharacter (same_character text s t (p ∙ sym q) h k)
-same_at text a _ _ (bad s p h) (large t q k) = absurd (no_form text s t (p ∙ sym q) h k.0)
-same_at text a _ _ (bad s p h) (opens t q k) = absurd (no_form text s t (p ∙ sym q) h k.0)
-same_at text a _ _ (bad s p h) (long t q k) = absurd (no_form text s t (p ∙ sym q) h k.0)
-same_at text a _ _ (large s p h) (bad t q k) = absurd (no_form text t s (q ∙ sym p) k h.0)
-same_at text a _ _ (large s p h) (large t q k) = ap NumberTooLarge (same_long text s t (p ∙ sym q) h.0 k.0)
-same_at text a _ _ (large s p h) (opens t q k) = absurd (large_opens text s t (p ∙ sym q) h k)
-same_at text a _ _ (large s p h) (long t q k) = absurd (large_long text s t (p ∙ sym q) h k)
-same_at text a _ _ (opens s p h) (bad t q k) = absurd (no_form text t s (q ∙ sym p) k h.0)
-same_at text a _ _ (opens s p h) (large t q k) = absurd (large_opens text t s (q ∙ sym p) k h)
-same_at text a _ _ (opens s p h) (opens t q k) = ap CommentOpen (same_long text s t (p ∙ sym q) h.0 k.0)
-same_at text a _ _ (opens s p h) (long t q k) = absurd (opens_long text s t (p ∙ sym q) h k)
-same_at text a _ _ (long s p h) (bad t q k) = absurd (no_form text t s (q ∙ sym p) k h.0)
-same_at text a _ _ (long s p h) (large t q k) = absurd (large_long text t s (q ∙ sym p) k h)
-same_at text a _ _ (long s p h) (opens t q k) = absurd (opens_long text t s (q ∙ sym p) k h)
-same_at text a _ _ (long s p h) (long t q k) = ap NameTooLong (same_long text s t (p ∙ sym q) h.0 k.0)
+same_at text a e f (bad s p h i) (bad t q k j) = i ∙ ap BadCharacter (same_character text s t (p ∙ sym q) h k) ∙ sym j
+same_at text a e f (bad s p h i) (formed t q k j) = absurd (no_form text s t (p ∙ sym q) h k)
+same_at text a e f (formed s p h i) (bad t q k j) = absurd (no_form text t s (q ∙ sym p) k h)
+same_at text a e f (formed s p h i) (formed t q k j) =
+    same_form text t e f k.inside (subst (λ (u : Span). FormFault text u e) (same_long text s t (p ∙ sym q) h k) i) j
 
 -- a fault of the whole text, or one that its lexemes reach
 data LexFault (text : List ℕ) (e : SyntaxFault) : Type 0 where

@@ -41,18 +41,14 @@ fn word_item(text: &str, span: Span) -> Result<Item, SyntaxFault>
         };
     }
     if let Some(keyword) = Keyword::named(word) {
-        return Ok(Item::Lexeme(Lexeme {
-            span,
-            what: Class::Word(keyword),
-        }));
+        let what = Class::Word(keyword);
+        return Ok(Item::Lexeme(Lexeme { span, what }));
     }
     if span.to - span.from > MOST_OF_NAME {
         return Err(SyntaxFault::NameTooLong(span));
     }
-    Ok(Item::Lexeme(Lexeme {
-        span,
-        what: Class::Name,
-    }))
+    let what = Class::Name;
+    Ok(Item::Lexeme(Lexeme { span, what }))
 }
 
 /// Reads the lexeme of a number.
@@ -84,10 +80,8 @@ fn item_at(text: &str, from: usize) -> Result<Item, SyntaxFault>
         Some(LexemeForm::Run(to)) => number_item(text, Span { from, to }),
         Some(LexemeForm::Sign(sign, to)) => {
             let span = Span { from, to };
-            Ok(Item::Lexeme(Lexeme {
-                span,
-                what: Class::Sign(sign),
-            }))
+            let what = Class::Sign(sign);
+            Ok(Item::Lexeme(Lexeme { span, what }))
         }
         None => {
             let to = text.ceil_char_boundary(from + 1);

@@ -25,14 +25,8 @@ pub fn read_name<'t>(alloc: Global, text: &str, input: &'t [Lexeme]) -> Read<'t,
             },
             rest @ ..,
         ] => {
-            let copy = String::from_str(alloc, &text[span.from..span.to])?;
-            Ok((
-                Name {
-                    text: copy,
-                    span: *span,
-                },
-                rest,
-            ))
+            let text = String::from_str(alloc, &text[span.from..span.to])?;
+            Ok((Name { text, span: *span }, rest))
         }
         _ => Err(Stop::Refused(false, input.len())),
     }

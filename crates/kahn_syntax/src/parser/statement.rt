@@ -55,12 +55,8 @@ fn read_statement<'t>(
             let inner = deeper(input, depth)?;
             let (test, rest) = read_before(alloc, text, rest, inner, Keyword::Do)?;
             let (turn, rest) = read_statement(alloc, text, rest, inner)?;
-            stated(
-                alloc,
-                input,
-                rest,
-                Action::While(Box::into_inner(test), turn),
-            )
+            let test = Box::into_inner(test);
+            stated(alloc, input, rest, Action::While(test, turn))
         }
         Some((Class::Word(Keyword::Repeat), rest)) => {
             let inner = deeper(input, depth)?;
@@ -90,21 +86,12 @@ fn read_if<'t>(
     let inner = deeper(input, depth)?;
     let (test, rest) = read_before(alloc, text, rest, inner, Keyword::Then)?;
     let (yes, rest) = read_simple(alloc, text, rest, inner)?;
+    let test = Box::into_inner(test);
     let Some(after) = past(rest, Class::Word(Keyword::Else)) else {
-        return stated(
-            alloc,
-            input,
-            rest,
-            Action::If(Box::into_inner(test), yes, None),
-        );
+        return stated(alloc, input, rest, Action::If(test, yes, None));
     };
     let (no, rest) = read_statement(alloc, text, after, inner)?;
-    stated(
-        alloc,
-        input,
-        rest,
-        Action::If(Box::into_inner(test), yes, Some(no)),
-    )
+    stated(alloc, input, rest, Action::If(test, yes, Some(no)))
 }
 
 // Reads a statement that `else` may follow.
@@ -158,12 +145,8 @@ fn read_assign<'t>(
     let (name, rest) = read_name(alloc, text, input)?;
     let rest = expect(rest, Class::Sign(Sign::Becomes))?;
     let (value, rest) = read_expression(alloc, text, rest, depth)?;
-    stated(
-        alloc,
-        input,
-        rest,
-        Action::Assign(name, Box::into_inner(value)),
-    )
+    let value = Box::into_inner(value);
+    stated(alloc, input, rest, Action::Assign(name, value))
 }
 
 // Reads a send, after the `send` that the input begins with.
@@ -183,10 +166,6 @@ fn read_send<'t>(
 {
     let (value, rest) = read_before(alloc, text, rest, depth, Keyword::On)?;
     let (name, rest) = read_name(alloc, text, rest)?;
-    stated(
-        alloc,
-        input,
-        rest,
-        Action::Send(Box::into_inner(value), name),
-    )
+    let value = Box::into_inner(value);
+    stated(alloc, input, rest, Action::Send(value, name))
 }

@@ -1,13 +1,13 @@
-use Rattle.kahn_syntax.proofs.Parsing.{◌≤◌, Ended, Takes, DeclarationSpans, declarations_nesting, DeclarationPart, DeclarationsPart, Semicolon, SignClass, TokenPart, a_sign, arith, call, call_stops, declaration_tree, declaration_rules, declarations_end, declarations_next, err_from_is_err_and, expected, false, map, one_lexeme, opens_declarations, refl, rules, sign, nesting_more, starts, subst, sym, terminals, then, then_stops, true, unexpected, [], ◌∷◌, ◌≡◌}
+use Rattle.kahn_syntax.proofs.Parsing.{◌≤◌, Ended, Takes, DeclarationSpans, declarations_nesting, DeclarationPart, DeclarationsPart, Semicolon, SignClass, TokenPart, a_sign, arith, call, call_stops, declaration_tree, declaration_rules, declarations_end, declarations_next, stopped, expected, false, map, one_lexeme, opens_declarations, refl, rules, sign, nesting_more, starts, subst, sym, terminals, then, then_stops, true, unexpected, [], ◌∷◌, ◌≡◌}
 use Rattle.kahn_syntax.proofs.parser.declaration.read_declarations.Goals as goal
 
 pub returns-in_err-declaration : goal.returns-in_err-declaration
 returns-in_err-declaration c =
-    let a : starts declaration_rules (terminals c.args.text.now c.declarations.rest.now) ≡ true = search rules in let p = err_from_is_err_and c.from_residual.result c.from_residual.ensures.1 in rw (p.1, p.2) (then_stops _ (then (c.declarations.invariant.reads) (opens_declarations c.args.text.now [] c.declarations.rest.now a)) (call_stops c.args.text.now 0 0 (DeclarationPart ∷ []) (TokenPart (a_sign Semicolon) ∷ DeclarationsPart ∷ []) c.declarations.rest.now _ (λ s l. omega (arith, l)) c.in_err-declaration.ensures))
+    let a : starts declaration_rules (terminals c.args.text.now c.declarations.rest.now) ≡ true = search rules in stopped _ _ c.from_residual.result c.from_residual.ensures.1 (then_stops _ (then (c.declarations.invariant.reads) (opens_declarations c.args.text.now [] c.declarations.rest.now a)) (call_stops c.args.text.now 0 0 (DeclarationPart ∷ []) (TokenPart (a_sign Semicolon) ∷ DeclarationsPart ∷ []) c.declarations.rest.now _ (λ s l. omega (arith, l)) c.in_err-declaration.ensures))
 
 pub returns-in_err-left : goal.returns-in_err-left
 returns-in_err-left c =
-    let a : starts declaration_rules (terminals c.args.text.now c.declarations.rest.now) ≡ true = search rules in let p = err_from_is_err_and c.from_residual-in_err-left.result c.from_residual-in_err-left.ensures.1 in rw (p.1, p.2) (then_stops _ (then (then (c.declarations.invariant.reads) (opens_declarations c.args.text.now [] c.declarations.rest.now a)) (call c.args.text.now 0 0 (DeclarationPart ∷ []) (TokenPart (a_sign Semicolon) ∷ DeclarationsPart ∷ []) c.declarations.rest.now c.in_ok-declaration.after.now (λ s l. omega (arith, l)) c.in_ok-declaration.ensures.reads)) (unexpected c.args.text.now 0 (a_sign Semicolon) (DeclarationsPart ∷ []) (SignClass Semicolon) c.in_ok-declaration.after.now _ refl c.in_err-left.ensures.stop))
+    let a : starts declaration_rules (terminals c.args.text.now c.declarations.rest.now) ≡ true = search rules in stopped _ _ c.from_residual-in_err-left.result c.from_residual-in_err-left.ensures.1 (then_stops _ (then (then (c.declarations.invariant.reads) (opens_declarations c.args.text.now [] c.declarations.rest.now a)) (call c.args.text.now 0 0 (DeclarationPart ∷ []) (TokenPart (a_sign Semicolon) ∷ DeclarationsPart ∷ []) c.declarations.rest.now c.in_ok-declaration.after.now (λ s l. omega (arith, l)) c.in_ok-declaration.ensures.reads)) (unexpected c.args.text.now 0 (a_sign Semicolon) (DeclarationsPart ∷ []) (SignClass Semicolon) c.in_ok-declaration.after.now _ refl c.in_err-left.ensures.stop))
 
 pub declarations-preserved : goal.declarations-preserved
 declarations-preserved c =

@@ -1,4 +1,4 @@
-use Rattle.kahn_syntax.proofs.Parsing.{GroupPart, NamesTail, TakingPart, TokenPart, a_name, arith, call, call_stops, err_from_is_err_and, kind_moves, kind_terminal, no_group, one_lexeme, refl, then, then_stops, [], ◌∷◌}
+use Rattle.kahn_syntax.proofs.Parsing.{GroupPart, NamesTail, TakingPart, TokenPart, a_name, arith, call, call_stops, stopped, kind_moves, kind_terminal, no_group, one_lexeme, refl, then, then_stops, [], ◌∷◌}
 use Rattle.kahn_syntax.proofs.parser.declaration.read_group.Goals as goal
 
 pub returns-in_default : goal.returns-in_default
@@ -9,8 +9,7 @@ pub read_names-requires : goal.read_names-requires
 read_names-requires c = record { proper = c.read_taking-taking.ensures.proper c.args.text.now (c.in-Some.ensures.proper c.args.text.now c.requires.proper) }
 
 pub returns-in_err-names : goal.returns-in_err-names
-returns-in_err-names c =
-    let p = err_from_is_err_and c.from_residual.result c.from_residual.ensures.1 in rw (p.1, p.2) (then_stops _ (then (kind_moves c.args.text.now 0 GroupPart [] ((TakingPart ∷ TokenPart a_name ∷ NamesTail ∷ [])) c.in-Some.kind c.args.input.now c.in-Some.rest.now (λ s l. omega (arith, l)) (λ s. refl) (λ s. refl) (c.in-Some.ensures.first c.args.text.now)) (call c.args.text.now 0 0 (TakingPart ∷ []) (TokenPart a_name ∷ NamesTail ∷ []) c.in-Some.rest.now c.read_taking-taking.result.1.now (λ s l. omega (arith, l)) (c.read_taking-taking.ensures.reads c.args.text.now))) (call_stops c.args.text.now 0 0 (TokenPart a_name ∷ NamesTail ∷ []) ([]) c.read_taking-taking.result.1.now _ (λ s l. omega (arith, l)) c.in_err-names.ensures))
+returns-in_err-names c = stopped _ _ c.from_residual.result c.from_residual.ensures.1 (then_stops _ (then (kind_moves c.args.text.now 0 GroupPart [] ((TakingPart ∷ TokenPart a_name ∷ NamesTail ∷ [])) c.in-Some.kind c.args.input.now c.in-Some.rest.now (λ s l. omega (arith, l)) (λ s. refl) (λ s. refl) (c.in-Some.ensures.first c.args.text.now)) (call c.args.text.now 0 0 (TakingPart ∷ []) (TokenPart a_name ∷ NamesTail ∷ []) c.in-Some.rest.now c.read_taking-taking.result.1.now (λ s l. omega (arith, l)) (c.read_taking-taking.ensures.reads c.args.text.now))) (call_stops c.args.text.now 0 0 (TokenPart a_name ∷ NamesTail ∷ []) ([]) c.read_taking-taking.result.1.now _ (λ s l. omega (arith, l)) c.in_err-names.ensures))
 
 pub returns : goal.returns
 returns c =

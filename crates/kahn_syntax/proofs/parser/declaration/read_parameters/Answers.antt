@@ -1,10 +1,8 @@
-use Rattle.kahn_syntax.proofs.Parsing.{GroupPart, GroupsPart, GroupsTail, Semicolon, SignClass, SomeParametersSpan, a_kind, a_sign, arith, call_stops, err_from_is_err_and, false, group, groups_end, last_member, leads, members_of, next_member, one_lexeme, opens_groups, parameter_with, parameters_first, parameters_next, refl, rules, sign, some_are_parameters, subst, sym, terminals, then_stops, true, [], ◌++◌, ◌∷◌, ◌≡◌}
+use Rattle.kahn_syntax.proofs.Parsing.{GroupPart, GroupsPart, GroupsTail, Semicolon, SignClass, SomeParametersSpan, a_kind, a_sign, arith, call_stops, stopped, false, group, groups_end, last_member, leads, members_of, next_member, one_lexeme, opens_groups, parameter_with, parameters_first, parameters_next, refl, rules, sign, some_are_parameters, subst, sym, terminals, then_stops, true, [], ◌++◌, ◌∷◌, ◌≡◌}
 use Rattle.kahn_syntax.proofs.parser.declaration.read_parameters.Goals as goal
 
 pub returns-in_err-group : goal.returns-in_err-group
-returns-in_err-group c =
-    let p = err_from_is_err_and c.from_residual.result c.from_residual.ensures.1 in
-    rw (p.1, p.2) (then_stops _ c.groups.invariant.reads
+returns-in_err-group c = stopped _ _ c.from_residual.result c.from_residual.ensures.1 (then_stops _ c.groups.invariant.reads
     (call_stops c.args.text.now 0 0 (GroupPart ∷ []) (GroupsTail ∷ []) c.groups.rest.now _ (λ s l. omega (arith, l)) c.in_err-group.ensures))
 
 pub groups-init : goal.groups-init

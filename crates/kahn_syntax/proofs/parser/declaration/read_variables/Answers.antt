@@ -1,16 +1,14 @@
-use Rattle.kahn_syntax.proofs.Parsing.{NamesTail, Semicolon, SignClass, TokenPart, VariablesPart, a_name, a_sign, arith, call, call_stops, err_from_is_err_and, expected, kind_moves, kind_terminal, one_lexeme, refl, sign, terminals, then, then_stops, unexpected, variables_end, variables_next, [], ◌∷◌}
+use Rattle.kahn_syntax.proofs.Parsing.{NamesTail, Semicolon, SignClass, TokenPart, VariablesPart, a_name, a_sign, arith, call, call_stops, stopped, expected, kind_moves, kind_terminal, one_lexeme, refl, sign, terminals, then, then_stops, unexpected, variables_end, variables_next, [], ◌∷◌}
 use Rattle.kahn_syntax.proofs.parser.declaration.read_variables.Goals as goal
 
 pub read_names-requires : goal.read_names-requires
 read_names-requires c = record { proper = c.in-Some.ensures.proper c.args.text.now c.variables.invariant.proper }
 
 pub returns-in_err-names : goal.returns-in_err-names
-returns-in_err-names c =
-    let p = err_from_is_err_and c.from_residual.result c.from_residual.ensures.1 in rw (p.1, p.2) (then_stops _ (then (c.variables.invariant.reads) (kind_moves c.args.text.now 0 VariablesPart [] (TokenPart a_name ∷ NamesTail ∷ TokenPart (a_sign Semicolon) ∷ VariablesPart ∷ []) c.in-Some.kind c.variables.rest.now c.in-Some.after.now (λ s l. omega (arith, l)) (λ s. refl) (λ s. refl) (c.in-Some.ensures.first c.args.text.now))) (call_stops c.args.text.now 0 0 (TokenPart a_name ∷ NamesTail ∷ []) (TokenPart (a_sign Semicolon) ∷ VariablesPart ∷ []) c.in-Some.after.now _ (λ s l. omega (arith, l)) c.in_err-names.ensures))
+returns-in_err-names c = stopped _ _ c.from_residual.result c.from_residual.ensures.1 (then_stops _ (then (c.variables.invariant.reads) (kind_moves c.args.text.now 0 VariablesPart [] (TokenPart a_name ∷ NamesTail ∷ TokenPart (a_sign Semicolon) ∷ VariablesPart ∷ []) c.in-Some.kind c.variables.rest.now c.in-Some.after.now (λ s l. omega (arith, l)) (λ s. refl) (λ s. refl) (c.in-Some.ensures.first c.args.text.now))) (call_stops c.args.text.now 0 0 (TokenPart a_name ∷ NamesTail ∷ []) (TokenPart (a_sign Semicolon) ∷ VariablesPart ∷ []) c.in-Some.after.now _ (λ s l. omega (arith, l)) c.in_err-names.ensures))
 
 pub returns-in_err-after : goal.returns-in_err-after
-returns-in_err-after c =
-    let p = err_from_is_err_and c.from_residual-in_err-after.result c.from_residual-in_err-after.ensures.1 in rw (p.1, p.2) (then_stops _ (then (then (c.variables.invariant.reads) (kind_moves c.args.text.now 0 VariablesPart [] (TokenPart a_name ∷ NamesTail ∷ TokenPart (a_sign Semicolon) ∷ VariablesPart ∷ []) c.in-Some.kind c.variables.rest.now c.in-Some.after.now (λ s l. omega (arith, l)) (λ s. refl) (λ s. refl) (c.in-Some.ensures.first c.args.text.now))) (call c.args.text.now 0 0 (TokenPart a_name ∷ NamesTail ∷ []) (TokenPart (a_sign Semicolon) ∷ VariablesPart ∷ []) c.in-Some.after.now c.in_ok-names.after.now (λ s l. omega (arith, l)) c.in_ok-names.ensures.reads)) (unexpected c.args.text.now 0 (a_sign Semicolon) (VariablesPart ∷ []) (SignClass Semicolon) c.in_ok-names.after.now _ refl c.in_err-after.ensures.stop))
+returns-in_err-after c = stopped _ _ c.from_residual-in_err-after.result c.from_residual-in_err-after.ensures.1 (then_stops _ (then (then (c.variables.invariant.reads) (kind_moves c.args.text.now 0 VariablesPart [] (TokenPart a_name ∷ NamesTail ∷ TokenPart (a_sign Semicolon) ∷ VariablesPart ∷ []) c.in-Some.kind c.variables.rest.now c.in-Some.after.now (λ s l. omega (arith, l)) (λ s. refl) (λ s. refl) (c.in-Some.ensures.first c.args.text.now))) (call c.args.text.now 0 0 (TokenPart a_name ∷ NamesTail ∷ []) (TokenPart (a_sign Semicolon) ∷ VariablesPart ∷ []) c.in-Some.after.now c.in_ok-names.after.now (λ s l. omega (arith, l)) c.in_ok-names.ensures.reads)) (unexpected c.args.text.now 0 (a_sign Semicolon) (VariablesPart ∷ []) (SignClass Semicolon) c.in_ok-names.after.now _ refl c.in_err-after.ensures.stop))
 
 pub variables-preserved : goal.variables-preserved
 variables-preserved c =

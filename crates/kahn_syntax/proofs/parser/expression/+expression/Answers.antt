@@ -1,18 +1,16 @@
-use Rattle.kahn_syntax.proofs.Parsing.{nothing, Close, Else, ExpressionPart, ExpressionRead, ExpressionSpans, False, FitsLevel, FormedOperands, If, IsUnsigned, LevelPart, Minus, NameClass, NotWord, Number, Open, OperandsSpan, OperatorsPart, SignClass, Takes, Then, TokenPart, True, Word, a_sign, a_word, ap, arith, at, call, call_stops, choice_parts, compared_fits, comparison, deep, denials, drop, err_from_is_err_and, expected, expression_nesting, expression_tree, factor_rules, factors, false, first_of, form_tree, formed_next, hidden-the_row-Operand-0, joined_made, joined_nesting, level_chain, level_ends, level_fits, made, name, name_of, no_operand, no_operands, number_fits, one, one_lexeme, only_memory, opened, opens_chain, opens_denial, opens_whole, operands_made, operands_nesting, operands_nesting_next, operands_next, operands_of, operands_row, operands_row_spans, operator_more, operator_terminal, ors, refl, refused, relations, rules, rung_of, sign, starts, subst, sums, sym, terminals, then, then_stops, tighter, to_z-of_z, unexpected, vec_len, w64, whole, word, [], ◌∙◌, ◌∷◌, ◌≡◌}
+use Rattle.kahn_syntax.proofs.Parsing.{nothing, Close, Else, ExpressionPart, ExpressionRead, ExpressionSpans, False, FitsLevel, FormedOperands, If, IsUnsigned, LevelPart, Minus, NameClass, NotWord, Number, Open, OperandsSpan, OperatorsPart, SignClass, Takes, Then, TokenPart, True, Word, a_sign, a_word, ap, arith, at, call, call_stops, choice_parts, compared_fits, comparison, deep, denials, drop, stopped, expected, expression_nesting, expression_tree, factor_rules, factors, false, first_of, form_tree, formed_next, hidden-the_row-Operand-0, joined_made, joined_nesting, level_chain, level_ends, level_fits, made, name, name_of, no_operand, no_operands, number_fits, one, one_lexeme, only_memory, opened, opens_chain, opens_denial, opens_whole, operands_made, operands_nesting, operands_nesting_next, operands_next, operands_of, operands_row, operands_row_spans, operator_more, operator_terminal, ors, refl, refused, relations, rules, rung_of, sign, starts, subst, sums, sym, terminals, then, then_stops, tighter, to_z-of_z, unexpected, vec_len, w64, whole, word, [], ◌∙◌, ◌∷◌, ◌≡◌}
 use Rattle.kahn_syntax.specs.Grammar.{numeral}
 use Rattle.std.specs.Prelude.{◌==◌, length, true}
 use Rattle.kahn_syntax.proofs.parser.expression.+expression.Goals as goal
 
 pub read_level-returns-in_err-first : goal.read_level-returns-in_err-first
-read_level-returns-in_err-first t c =
-    let p = err_from_is_err_and c.from_residual.result c.from_residual.ensures.1 in rw (p.1, p.2) (then_stops _ (opens_chain c.args.text.now c.args.depth (rung_of c.args.level) [] c.args.input.now (level_chain c.args.level)) (call_stops c.args.text.now c.args.depth c.args.depth (ExpressionPart (tighter (rung_of c.args.level)) ∷ []) (OperatorsPart (rung_of c.args.level) ∷ []) c.args.input.now _ (λ s l. omega (arith, l, c.requires.1.1.0)) c.in_err-first.ensures))
+read_level-returns-in_err-first t c = stopped _ _ c.from_residual.result c.from_residual.ensures.1 (then_stops _ (opens_chain c.args.text.now c.args.depth (rung_of c.args.level) [] c.args.input.now (level_chain c.args.level)) (call_stops c.args.text.now c.args.depth c.args.depth (ExpressionPart (tighter (rung_of c.args.level)) ∷ []) (OperatorsPart (rung_of c.args.level) ∷ []) c.args.input.now _ (λ s l. omega (arith, l, c.requires.1.1.0)) c.in_err-first.ensures))
 
 pub read_level-read_operand-requires-in-Some : goal.read_level-read_operand-requires-in-Some
 read_level-read_operand-requires-in-Some t c = (omega (arith, c.requires.1.0, c.in-Some.ensures.shorter, c.operands.invariant.shorter), (c.requires.1.1.0, c.in-Some.ensures.proper c.args.text.now c.operands.invariant.proper))
 
 pub read_level-returns-in_err-expression : goal.read_level-returns-in_err-expression
-read_level-returns-in_err-expression t c =
-    let p = err_from_is_err_and c.from_residual-in_err-expression.result c.from_residual-in_err-expression.ensures.1 in rw (p.1, p.2) (then_stops _ (then (c.operands.invariant.reads) (operator_more c.args.text.now c.args.depth c.args.level c.in-Some.operator [] c.operands.rest.now c.in-Some.after.now (λ s l. omega (arith, l, c.requires.1.1.0)) c.in-Some.ensures.ranked (c.in-Some.ensures.first c.args.text.now))) (call_stops c.args.text.now c.args.depth c.args.depth (ExpressionPart (tighter (rung_of c.args.level)) ∷ []) (OperatorsPart (rung_of c.args.level) ∷ []) c.in-Some.after.now _ (λ s l. omega (arith, l, c.requires.1.1.0)) c.in_err-expression.ensures))
+read_level-returns-in_err-expression t c = stopped _ _ c.from_residual-in_err-expression.result c.from_residual-in_err-expression.ensures.1 (then_stops _ (then (c.operands.invariant.reads) (operator_more c.args.text.now c.args.depth c.args.level c.in-Some.operator [] c.operands.rest.now c.in-Some.after.now (λ s l. omega (arith, l, c.requires.1.1.0)) c.in-Some.ensures.ranked (c.in-Some.ensures.first c.args.text.now))) (call_stops c.args.text.now c.args.depth c.args.depth (ExpressionPart (tighter (rung_of c.args.level)) ∷ []) (OperatorsPart (rung_of c.args.level) ∷ []) c.in-Some.after.now _ (λ s l. omega (arith, l, c.requires.1.1.0)) c.in_err-expression.ensures))
 
 pub read_level-operands-init : goal.read_level-operands-init
 read_level-operands-init t c =
@@ -38,51 +36,43 @@ read_level-operands-preserved t c =
     }
 
 pub read_denial-returns-in_err-inner : goal.read_denial-returns-in_err-inner
-read_denial-returns-in_err-inner t c =
-    let p = err_from_is_err_and c.from_residual.result c.from_residual.ensures.1 in rw (p.1, p.2) (deep c.args.text.now c.args.depth (ExpressionPart denials) ([]) (ExpressionPart denials ∷ LevelPart ∷ []) (word NotWord) c.args.input.now c.in-Some.rest.now _ (λ s l. omega (arith, l, c.in_err-inner.ensures.stop.0)) (λ s. refl) (c.in-Some.ensures.first c.args.text.now) c.in_err-inner.ensures.stop.1)
+read_denial-returns-in_err-inner t c = stopped _ _ c.from_residual.result c.from_residual.ensures.1 (deep c.args.text.now c.args.depth (ExpressionPart denials) ([]) (ExpressionPart denials ∷ LevelPart ∷ []) (word NotWord) c.args.input.now c.in-Some.rest.now _ (λ s l. omega (arith, l, c.in_err-inner.ensures.stop.0)) (λ s. refl) (c.in-Some.ensures.first c.args.text.now) c.in_err-inner.ensures.stop.1)
 
 pub read_denial-read_denial-requires : goal.read_denial-read_denial-requires
 read_denial-read_denial-requires t c = (omega (arith, c.requires.1.0, c.in-Some.ensures.shorter), (c.in_ok-inner.ensures.deeper.1, c.in-Some.ensures.proper c.args.text.now c.requires.1.1.1))
 
 pub read_relation-returns-in_err-left : goal.read_relation-returns-in_err-left
-read_relation-returns-in_err-left t c =
-    let p = err_from_is_err_and c.from_residual.result c.from_residual.ensures.1 in rw (p.1, p.2) (then_stops _ (opens_chain c.args.text.now c.args.depth relations [] c.args.input.now tt) (call_stops c.args.text.now c.args.depth c.args.depth (ExpressionPart sums ∷ []) (OperatorsPart relations ∷ []) c.args.input.now _ (λ s l. omega (arith, l, c.requires.1.1.0)) c.in_err-left.ensures))
+read_relation-returns-in_err-left t c = stopped _ _ c.from_residual.result c.from_residual.ensures.1 (then_stops _ (opens_chain c.args.text.now c.args.depth relations [] c.args.input.now tt) (call_stops c.args.text.now c.args.depth c.args.depth (ExpressionPart sums ∷ []) (OperatorsPart relations ∷ []) c.args.input.now _ (λ s l. omega (arith, l, c.requires.1.1.0)) c.in_err-left.ensures))
 
 pub read_relation-read_level-requires-2 : goal.read_relation-read_level-requires-2
 read_relation-read_level-requires-2 t c = (omega (arith, c.requires.1.0, c.in-Some.ensures.shorter, c.in_ok-left.ensures.shorter), (c.requires.1.1.0, c.in-Some.ensures.proper c.args.text.now c.in_ok-left.ensures.proper))
 
 pub read_relation-returns-in_err-right : goal.read_relation-returns-in_err-right
-read_relation-returns-in_err-right t c =
-    let p = err_from_is_err_and c.from_residual-in_err-right.result c.from_residual-in_err-right.ensures.1 in rw (p.1, p.2) (then_stops _ (then (then (opens_chain c.args.text.now c.args.depth relations [] c.args.input.now tt) (call c.args.text.now c.args.depth c.args.depth (ExpressionPart sums ∷ []) (OperatorsPart relations ∷ []) c.args.input.now c.in_ok-left.rest.now (λ s l. omega (arith, l, c.requires.1.1.0)) c.in_ok-left.ensures.reads)) (comparison c.args.text.now c.args.depth c.in-Some.operator [] c.in_ok-left.rest.now c.in-Some.after.now (λ s l. omega (arith, l, c.requires.1.1.0)) c.in-Some.ensures.ranked (c.in-Some.ensures.first c.args.text.now))) (call_stops c.args.text.now c.args.depth c.args.depth (ExpressionPart sums ∷ []) ([]) c.in-Some.after.now _ (λ s l. omega (arith, l, c.requires.1.1.0)) c.in_err-right.ensures))
+read_relation-returns-in_err-right t c = stopped _ _ c.from_residual-in_err-right.result c.from_residual-in_err-right.ensures.1 (then_stops _ (then (then (opens_chain c.args.text.now c.args.depth relations [] c.args.input.now tt) (call c.args.text.now c.args.depth c.args.depth (ExpressionPart sums ∷ []) (OperatorsPart relations ∷ []) c.args.input.now c.in_ok-left.rest.now (λ s l. omega (arith, l, c.requires.1.1.0)) c.in_ok-left.ensures.reads)) (comparison c.args.text.now c.args.depth c.in-Some.operator [] c.in_ok-left.rest.now c.in-Some.after.now (λ s l. omega (arith, l, c.requires.1.1.0)) c.in-Some.ensures.ranked (c.in-Some.ensures.first c.args.text.now))) (call_stops c.args.text.now c.args.depth c.args.depth (ExpressionPart sums ∷ []) ([]) c.in-Some.after.now _ (λ s l. omega (arith, l, c.requires.1.1.0)) c.in_err-right.ensures))
 
 pub read_expression-returns-in_err-inner : goal.read_expression-returns-in_err-inner
-read_expression-returns-in_err-inner t c =
-    let p = err_from_is_err_and c.from_residual.result c.from_residual.ensures.1 in rw (p.1, p.2) (deep c.args.text.now c.args.depth (ExpressionPart whole) ([]) (ExpressionPart whole ∷ TokenPart (a_word Then) ∷ ExpressionPart whole ∷ TokenPart (a_word Else) ∷ ExpressionPart whole ∷ LevelPart ∷ []) (word If) c.args.input.now c.in-Some.rest.now _ (λ s l. omega (arith, l, c.in_err-inner.ensures.stop.0)) (λ s. refl) (c.in-Some.ensures.first.1 c.args.text.now) c.in_err-inner.ensures.stop.1)
+read_expression-returns-in_err-inner t c = stopped _ _ c.from_residual.result c.from_residual.ensures.1 (deep c.args.text.now c.args.depth (ExpressionPart whole) ([]) (ExpressionPart whole ∷ TokenPart (a_word Then) ∷ ExpressionPart whole ∷ TokenPart (a_word Else) ∷ ExpressionPart whole ∷ LevelPart ∷ []) (word If) c.args.input.now c.in-Some.rest.now _ (λ s l. omega (arith, l, c.in_err-inner.ensures.stop.0)) (λ s. refl) (c.in-Some.ensures.first.1 c.args.text.now) c.in_err-inner.ensures.stop.1)
 
 pub read_factor-read_wait-requires-clause-proper : goal.read_factor-read_wait-requires-clause-proper
 read_factor-read_wait-requires-clause-proper t c = c.in-Some-Word-Wait-default.ensures.proper c.args.text.now c.requires.1.1.1
 
 pub read_factor-returns-in_err-inner-in-Some-Sign-Minus-default : goal.read_factor-returns-in_err-inner-in-Some-Sign-Minus-default
-read_factor-returns-in_err-inner-in-Some-Sign-Minus-default t c =
-    let p = err_from_is_err_and c.from_residual.result c.from_residual.ensures.1 in rw (p.1, p.2) (deep c.args.text.now c.args.depth (ExpressionPart factors) ([]) (ExpressionPart factors ∷ LevelPart ∷ []) (sign Minus) c.args.input.now c.in-Some-Sign-Minus-default.rest.now _ (λ s l. omega (arith, l, c.in_err-inner-in-Some-Sign-Minus-default.ensures.stop.0)) (λ s. refl) ((first_of _ (SignClass Minus) c.args.input.now c.in-Some-Sign-Minus-default.rest.now (c.in-Some-Sign-Minus-default.field-0-0-is ∙ ap SignClass c.in-Some-Sign-Minus-default.field-0-0-0-is) c.in-Some-Sign-Minus-default.ensures.first.0).1 c.args.text.now) c.in_err-inner-in-Some-Sign-Minus-default.ensures.stop.1)
+read_factor-returns-in_err-inner-in-Some-Sign-Minus-default t c = stopped _ _ c.from_residual.result c.from_residual.ensures.1 (deep c.args.text.now c.args.depth (ExpressionPart factors) ([]) (ExpressionPart factors ∷ LevelPart ∷ []) (sign Minus) c.args.input.now c.in-Some-Sign-Minus-default.rest.now _ (λ s l. omega (arith, l, c.in_err-inner-in-Some-Sign-Minus-default.ensures.stop.0)) (λ s. refl) ((first_of _ (SignClass Minus) c.args.input.now c.in-Some-Sign-Minus-default.rest.now (c.in-Some-Sign-Minus-default.field-0-0-is ∙ ap SignClass c.in-Some-Sign-Minus-default.field-0-0-0-is) c.in-Some-Sign-Minus-default.ensures.first.0).1 c.args.text.now) c.in_err-inner-in-Some-Sign-Minus-default.ensures.stop.1)
 
 pub read_factor-read_factor-requires : goal.read_factor-read_factor-requires
 read_factor-read_factor-requires t c = (omega (arith, c.requires.1.0, c.in-Some-Sign-Minus-default.ensures.first.1), (c.in_ok-inner-in-Some-Sign-Minus-default.ensures.deeper.1, c.in-Some-Sign-Minus-default.ensures.proper c.args.text.now c.requires.1.1.1))
 
 pub read_factor-returns-in_err-inner-in-Some-Sign-Open-default : goal.read_factor-returns-in_err-inner-in-Some-Sign-Open-default
-read_factor-returns-in_err-inner-in-Some-Sign-Open-default t c =
-    let p = err_from_is_err_and c.from_residual-in_err-inner-in-Some-Sign-Open-default.result c.from_residual-in_err-inner-in-Some-Sign-Open-default.ensures.1 in rw (p.1, p.2) (deep c.args.text.now c.args.depth (ExpressionPart factors) ([]) (ExpressionPart whole ∷ TokenPart (a_sign Close) ∷ LevelPart ∷ []) (sign Open) c.args.input.now c.in-Some-Sign-Open-default.rest.now _ (λ s l. omega (arith, l, c.in_err-inner-in-Some-Sign-Open-default.ensures.stop.0)) (λ s. refl) ((first_of _ (SignClass Open) c.args.input.now c.in-Some-Sign-Open-default.rest.now (c.in-Some-Sign-Open-default.field-0-0-is ∙ ap SignClass c.in-Some-Sign-Open-default.field-0-0-0-is) c.in-Some-Sign-Open-default.ensures.first.0).1 c.args.text.now) c.in_err-inner-in-Some-Sign-Open-default.ensures.stop.1)
+read_factor-returns-in_err-inner-in-Some-Sign-Open-default t c = stopped _ _ c.from_residual-in_err-inner-in-Some-Sign-Open-default.result c.from_residual-in_err-inner-in-Some-Sign-Open-default.ensures.1 (deep c.args.text.now c.args.depth (ExpressionPart factors) ([]) (ExpressionPart whole ∷ TokenPart (a_sign Close) ∷ LevelPart ∷ []) (sign Open) c.args.input.now c.in-Some-Sign-Open-default.rest.now _ (λ s l. omega (arith, l, c.in_err-inner-in-Some-Sign-Open-default.ensures.stop.0)) (λ s. refl) ((first_of _ (SignClass Open) c.args.input.now c.in-Some-Sign-Open-default.rest.now (c.in-Some-Sign-Open-default.field-0-0-is ∙ ap SignClass c.in-Some-Sign-Open-default.field-0-0-0-is) c.in-Some-Sign-Open-default.ensures.first.0).1 c.args.text.now) c.in_err-inner-in-Some-Sign-Open-default.ensures.stop.1)
 
 pub read_factor-read_expression-requires : goal.read_factor-read_expression-requires
 read_factor-read_expression-requires t c = (omega (arith, c.requires.1.0, c.in-Some-Sign-Open-default.ensures.first.1), (c.in_ok-inner-in-Some-Sign-Open-default.ensures.deeper.1, c.in-Some-Sign-Open-default.ensures.proper c.args.text.now c.requires.1.1.1))
 
 pub read_factor-returns-in_err-rest-in-Some-Sign-Open-default : goal.read_factor-returns-in_err-rest-in-Some-Sign-Open-default
-read_factor-returns-in_err-rest-in-Some-Sign-Open-default t c =
-    let p = err_from_is_err_and c.from_residual-in_err-rest-in-Some-Sign-Open-default.result c.from_residual-in_err-rest-in-Some-Sign-Open-default.ensures.1 in rw (p.1, p.2) (then_stops _ (then (one c.args.text.now c.args.depth (ExpressionPart factors) ([]) (ExpressionPart whole ∷ TokenPart (a_sign Close) ∷ LevelPart ∷ []) (sign Open) c.args.input.now c.in-Some-Sign-Open-default.rest.now (λ s l. omega (arith, l, c.requires.1.1.0, c.in_ok-inner-in-Some-Sign-Open-default.ensures.deeper.0, c.in_ok-inner-in-Some-Sign-Open-default.ensures.deeper.1)) (λ s. refl) ((first_of _ (SignClass Open) c.args.input.now c.in-Some-Sign-Open-default.rest.now (c.in-Some-Sign-Open-default.field-0-0-is ∙ ap SignClass c.in-Some-Sign-Open-default.field-0-0-0-is) c.in-Some-Sign-Open-default.ensures.first.0).1 c.args.text.now)) (call c.args.text.now c.args.depth c.in_ok-inner-in-Some-Sign-Open-default.inner (ExpressionPart whole ∷ []) (TokenPart (a_sign Close) ∷ LevelPart ∷ []) c.in-Some-Sign-Open-default.rest.now c.in_ok-inside-in-Some-Sign-Open-default.rest.now (λ s l. omega (arith, l, c.requires.1.1.0, c.in_ok-inner-in-Some-Sign-Open-default.ensures.deeper.0, c.in_ok-inner-in-Some-Sign-Open-default.ensures.deeper.1)) c.in_ok-inside-in-Some-Sign-Open-default.ensures.reads)) (unexpected c.args.text.now c.args.depth (a_sign Close) (LevelPart ∷ []) (SignClass Close) c.in_ok-inside-in-Some-Sign-Open-default.rest.now _ refl c.in_err-rest-in-Some-Sign-Open-default.ensures.stop))
+read_factor-returns-in_err-rest-in-Some-Sign-Open-default t c = stopped _ _ c.from_residual-in_err-rest-in-Some-Sign-Open-default.result c.from_residual-in_err-rest-in-Some-Sign-Open-default.ensures.1 (then_stops _ (then (one c.args.text.now c.args.depth (ExpressionPart factors) ([]) (ExpressionPart whole ∷ TokenPart (a_sign Close) ∷ LevelPart ∷ []) (sign Open) c.args.input.now c.in-Some-Sign-Open-default.rest.now (λ s l. omega (arith, l, c.requires.1.1.0, c.in_ok-inner-in-Some-Sign-Open-default.ensures.deeper.0, c.in_ok-inner-in-Some-Sign-Open-default.ensures.deeper.1)) (λ s. refl) ((first_of _ (SignClass Open) c.args.input.now c.in-Some-Sign-Open-default.rest.now (c.in-Some-Sign-Open-default.field-0-0-is ∙ ap SignClass c.in-Some-Sign-Open-default.field-0-0-0-is) c.in-Some-Sign-Open-default.ensures.first.0).1 c.args.text.now)) (call c.args.text.now c.args.depth c.in_ok-inner-in-Some-Sign-Open-default.inner (ExpressionPart whole ∷ []) (TokenPart (a_sign Close) ∷ LevelPart ∷ []) c.in-Some-Sign-Open-default.rest.now c.in_ok-inside-in-Some-Sign-Open-default.rest.now (λ s l. omega (arith, l, c.requires.1.1.0, c.in_ok-inner-in-Some-Sign-Open-default.ensures.deeper.0, c.in_ok-inner-in-Some-Sign-Open-default.ensures.deeper.1)) c.in_ok-inside-in-Some-Sign-Open-default.ensures.reads)) (unexpected c.args.text.now c.args.depth (a_sign Close) (LevelPart ∷ []) (SignClass Close) c.in_ok-inside-in-Some-Sign-Open-default.rest.now _ refl c.in_err-rest-in-Some-Sign-Open-default.ensures.stop))
 
 pub read_factor-returns-in_err-name-in-Some-Name-default : goal.read_factor-returns-in_err-name-in-Some-Name-default
-read_factor-returns-in_err-name-in-Some-Name-default t c =
-    let p = err_from_is_err_and c.from_residual-in_err-name-in-Some-Name-default.result c.from_residual-in_err-name-in-Some-Name-default.ensures.1 in rw (p.1, p.2) (only_memory c.args.text.now c.args.depth (ExpressionPart factors ∷ []) c.args.input.now _ _ (first_of _ NameClass c.args.input.now c.in-Some-Name-default.field-0-1.now c.in-Some-Name-default.field-0-0-is c.in-Some-Name-default.ensures.first.0) c.in_err-name-in-Some-Name-default.ensures.stop)
+read_factor-returns-in_err-name-in-Some-Name-default t c = stopped _ _ c.from_residual-in_err-name-in-Some-Name-default.result c.from_residual-in_err-name-in-Some-Name-default.ensures.1 (only_memory c.args.text.now c.args.depth (ExpressionPart factors ∷ []) c.args.input.now _ _ (first_of _ NameClass c.args.input.now c.in-Some-Name-default.field-0-1.now c.in-Some-Name-default.field-0-0-is c.in-Some-Name-default.ensures.first.0) c.in_err-name-in-Some-Name-default.ensures.stop)
 
 pub read_expression-read_before-requires : goal.read_expression-read_before-requires
 read_expression-read_before-requires t c =
@@ -98,32 +88,29 @@ read_expression-read_expression-requires t c =
 
 pub read_expression-returns-in_err-test : goal.read_expression-returns-in_err-test
 read_expression-returns-in_err-test t c =
-    let p = err_from_is_err_and c.from_residual-in_err-test.result c.from_residual-in_err-test.ensures.1 in
     let T = c.args.text.now in let i = c.args.input.now in
     let e = c.in_ok-inner.inner in
     let n = c.in_ok-inner.ensures.deeper.0 in
     let m = one T c.args.depth (ExpressionPart whole) [] choice_parts (word If) i c.in-Some.rest.now (λ s l. omega (arith, l, n, c.in_ok-inner.ensures.deeper.1)) (λ s. refl) (c.in-Some.ensures.first.1 T) in
-    rw (p.1, p.2) (then_stops _ m
+    stopped _ _ c.from_residual-in_err-test.result c.from_residual-in_err-test.ensures.1 (then_stops _ m
     (call_stops T c.args.depth e (ExpressionPart whole ∷ TokenPart (a_word Then) ∷ []) (drop 2 choice_parts) c.in-Some.rest.now _ (λ s l. omega (arith, l, n)) c.in_err-test.ensures))
 
 pub read_expression-returns-in_err-yes : goal.read_expression-returns-in_err-yes
 read_expression-returns-in_err-yes t c =
-    let p = err_from_is_err_and c.from_residual-in_err-yes.result c.from_residual-in_err-yes.ensures.1 in
     let T = c.args.text.now in let i = c.args.input.now in
     let e = c.in_ok-inner.inner in
     let n = c.in_ok-inner.ensures.deeper.0 in
     let m2 = then (one T c.args.depth (ExpressionPart whole) [] choice_parts (word If) i c.in-Some.rest.now (λ s l. omega (arith, l, n, c.in_ok-inner.ensures.deeper.1)) (λ s. refl) (c.in-Some.ensures.first.1 T)) (call T c.args.depth e (ExpressionPart whole ∷ TokenPart (a_word Then) ∷ []) (drop 2 choice_parts) c.in-Some.rest.now c.in_ok-test.rest.now (λ s l. omega (arith, l, n)) c.in_ok-test.ensures.reads) in
-    rw (p.1, p.2) (then_stops _ m2
+    stopped _ _ c.from_residual-in_err-yes.result c.from_residual-in_err-yes.ensures.1 (then_stops _ m2
     (call_stops T c.args.depth e (ExpressionPart whole ∷ TokenPart (a_word Else) ∷ []) (drop 4 choice_parts) c.in_ok-test.rest.now _ (λ s l. omega (arith, l, n)) c.in_err-yes.ensures))
 
 pub read_expression-returns-in_err-no : goal.read_expression-returns-in_err-no
 read_expression-returns-in_err-no t c =
-    let p = err_from_is_err_and c.from_residual-in_err-no.result c.from_residual-in_err-no.ensures.1 in
     let T = c.args.text.now in let i = c.args.input.now in
     let e = c.in_ok-inner.inner in
     let n = c.in_ok-inner.ensures.deeper.0 in
     let m3 = then (then (one T c.args.depth (ExpressionPart whole) [] choice_parts (word If) i c.in-Some.rest.now (λ s l. omega (arith, l, n, c.in_ok-inner.ensures.deeper.1)) (λ s. refl) (c.in-Some.ensures.first.1 T)) (call T c.args.depth e (ExpressionPart whole ∷ TokenPart (a_word Then) ∷ []) (drop 2 choice_parts) c.in-Some.rest.now c.in_ok-test.rest.now (λ s l. omega (arith, l, n)) c.in_ok-test.ensures.reads)) (call T c.args.depth e (ExpressionPart whole ∷ TokenPart (a_word Else) ∷ []) (drop 4 choice_parts) c.in_ok-test.rest.now c.in_ok-yes.rest.now (λ s l. omega (arith, l, n)) c.in_ok-yes.ensures.reads) in
-    rw (p.1, p.2) (then_stops _ m3
+    stopped _ _ c.from_residual-in_err-no.result c.from_residual-in_err-no.ensures.1 (then_stops _ m3
     (call_stops T c.args.depth e (ExpressionPart whole ∷ []) (LevelPart ∷ []) c.in_ok-yes.rest.now _ (λ s l. omega (arith, l, n)) c.in_err-no.ensures))
 
 pub read_before-read_expression-requires : goal.read_before-read_expression-requires
@@ -131,18 +118,15 @@ read_before-read_expression-requires t c =
     (omega (arith, c.requires.1.0), (c.requires.1.1.0, c.requires.1.1.1.0))
 
 pub read_before-returns-in_err-expression : goal.read_before-returns-in_err-expression
-read_before-returns-in_err-expression t c =
-    let p = err_from_is_err_and c.from_residual.result c.from_residual.ensures.1 in
-    rw (p.1, p.2) (call_stops c.args.text.now c.args.depth c.args.depth (ExpressionPart whole ∷ []) (TokenPart (a_word c.args.last) ∷ []) c.args.input.now _ (λ s l. l)
+read_before-returns-in_err-expression t c = stopped _ _ c.from_residual.result c.from_residual.ensures.1 (call_stops c.args.text.now c.args.depth c.args.depth (ExpressionPart whole ∷ []) (TokenPart (a_word c.args.last) ∷ []) c.args.input.now _ (λ s l. l)
     c.in_err-expression.ensures)
 
 pub read_before-returns-in_err-rest : goal.read_before-returns-in_err-rest
 read_before-returns-in_err-rest t c =
-    let p = err_from_is_err_and c.from_residual-in_err-rest.result c.from_residual-in_err-rest.ensures.1 in
     let T = c.args.text.now in
     let k = TokenPart (a_word c.args.last) ∷ [] in
     let m = call T c.args.depth c.args.depth (ExpressionPart whole ∷ []) k c.args.input.now c.in_ok-expression.rest.now (λ s l. l) c.in_ok-expression.ensures.reads in
-    rw (p.1, p.2) (then_stops _ m
+    stopped _ _ c.from_residual-in_err-rest.result c.from_residual-in_err-rest.ensures.1 (then_stops _ m
     (unexpected T c.args.depth (a_word c.args.last) [] (Word c.args.last) c.in_ok-expression.rest.now _ c.requires.1.1.1.1 c.in_err-rest.ensures.stop))
 
 pub read_expression-returns-in_default : goal.read_expression-returns-in_default
@@ -193,23 +177,17 @@ read_factor-returns-in_default t c =
     let a : starts factor_rules (terminals c.args.text.now c.args.input.now) ≡ false = search rules in refused c.args.text.now c.args.depth (ExpressionPart factors) [] c.args.input.now _ refl a refl
 
 pub read_denial-returns-in_err-operand : goal.read_denial-returns-in_err-operand
-read_denial-returns-in_err-operand t c =
-    let p = err_from_is_err_and c.from_residual-in_err-operand.result c.from_residual-in_err-operand.ensures.1 in
-    rw (p.1, p.2) (then_stops _
+read_denial-returns-in_err-operand t c = stopped _ _ c.from_residual-in_err-operand.result c.from_residual-in_err-operand.ensures.1 (then_stops _
     (one c.args.text.now c.args.depth (ExpressionPart denials) [] (ExpressionPart denials ∷ LevelPart ∷ []) (word NotWord) c.args.input.now c.in-Some.rest.now (λ s l. omega (arith, l, c.in_ok-inner.ensures.deeper.0, c.in_ok-inner.ensures.deeper.1)) (λ s. refl) (c.in-Some.ensures.first c.args.text.now))
     (call_stops c.args.text.now c.args.depth c.in_ok-inner.inner (ExpressionPart denials ∷ []) (LevelPart ∷ []) c.in-Some.rest.now _ (λ s l. omega (arith, l, c.in_ok-inner.ensures.deeper.0)) c.in_err-operand.ensures))
 
 pub read_factor-returns-in_err-operand-in-Some-Sign-Minus-default : goal.read_factor-returns-in_err-operand-in-Some-Sign-Minus-default
-read_factor-returns-in_err-operand-in-Some-Sign-Minus-default t c =
-    let p = err_from_is_err_and c.from_residual-in_err-operand-in-Some-Sign-Minus-default.result c.from_residual-in_err-operand-in-Some-Sign-Minus-default.ensures.1 in
-    rw (p.1, p.2) (then_stops _
+read_factor-returns-in_err-operand-in-Some-Sign-Minus-default t c = stopped _ _ c.from_residual-in_err-operand-in-Some-Sign-Minus-default.result c.from_residual-in_err-operand-in-Some-Sign-Minus-default.ensures.1 (then_stops _
     (one c.args.text.now c.args.depth (ExpressionPart factors) [] (ExpressionPart factors ∷ LevelPart ∷ []) (sign Minus) c.args.input.now c.in-Some-Sign-Minus-default.rest.now (λ s l. omega (arith, l, c.in_ok-inner-in-Some-Sign-Minus-default.ensures.deeper.0, c.in_ok-inner-in-Some-Sign-Minus-default.ensures.deeper.1)) (λ s. refl) ((first_of _ (SignClass Minus) c.args.input.now c.in-Some-Sign-Minus-default.rest.now (c.in-Some-Sign-Minus-default.field-0-0-is ∙ ap SignClass c.in-Some-Sign-Minus-default.field-0-0-0-is) c.in-Some-Sign-Minus-default.ensures.first.0).1 c.args.text.now))
     (call_stops c.args.text.now c.args.depth c.in_ok-inner-in-Some-Sign-Minus-default.inner (ExpressionPart factors ∷ []) (LevelPart ∷ []) c.in-Some-Sign-Minus-default.rest.now _ (λ s l. omega (arith, l, c.in_ok-inner-in-Some-Sign-Minus-default.ensures.deeper.0)) c.in_err-operand-in-Some-Sign-Minus-default.ensures))
 
 pub read_factor-returns-in_err-inside-in-Some-Sign-Open-default : goal.read_factor-returns-in_err-inside-in-Some-Sign-Open-default
-read_factor-returns-in_err-inside-in-Some-Sign-Open-default t c =
-    let p = err_from_is_err_and c.from_residual-in_err-inside-in-Some-Sign-Open-default.result c.from_residual-in_err-inside-in-Some-Sign-Open-default.ensures.1 in
-    rw (p.1, p.2) (then_stops _
+read_factor-returns-in_err-inside-in-Some-Sign-Open-default t c = stopped _ _ c.from_residual-in_err-inside-in-Some-Sign-Open-default.result c.from_residual-in_err-inside-in-Some-Sign-Open-default.ensures.1 (then_stops _
     (one c.args.text.now c.args.depth (ExpressionPart factors) [] (ExpressionPart whole ∷ TokenPart (a_sign Close) ∷ LevelPart ∷ []) (sign Open) c.args.input.now c.in-Some-Sign-Open-default.rest.now (λ s l. omega (arith, l, c.in_ok-inner-in-Some-Sign-Open-default.ensures.deeper.0, c.in_ok-inner-in-Some-Sign-Open-default.ensures.deeper.1)) (λ s. refl) ((first_of _ (SignClass Open) c.args.input.now c.in-Some-Sign-Open-default.rest.now (c.in-Some-Sign-Open-default.field-0-0-is ∙ ap SignClass c.in-Some-Sign-Open-default.field-0-0-0-is) c.in-Some-Sign-Open-default.ensures.first.0).1 c.args.text.now))
     (call_stops c.args.text.now c.args.depth c.in_ok-inner-in-Some-Sign-Open-default.inner (ExpressionPart whole ∷ []) (TokenPart (a_sign Close) ∷ LevelPart ∷ []) c.in-Some-Sign-Open-default.rest.now _ (λ s l. omega (arith, l, c.in_ok-inner-in-Some-Sign-Open-default.ensures.deeper.0)) c.in_err-inside-in-Some-Sign-Open-default.ensures))
 
@@ -395,10 +373,10 @@ read_factor-returns-in_ok-name-in-Some-Name-default t c =
     c.made-in-Some-Name-default.result (λ x. x.0.value) (λ x. x.1.now) c.made-in-Some-Name-default.ensures
 
 pub read_level-returns-in_err-push : goal.read_level-returns-in_err-push
-read_level-returns-in_err-push t c = let p = err_from_is_err_and c.from_residual-in_err-push.result c.from_residual-in_err-push.ensures.1 in rw (p.1, p.2) (λ s l. tt)
+read_level-returns-in_err-push t c = stopped _ _ c.from_residual-in_err-push.result c.from_residual-in_err-push.ensures.1 (λ s l. tt)
 
 pub read_relation-returns-in_err-form : goal.read_relation-returns-in_err-form
-read_relation-returns-in_err-form t c = let p = err_from_is_err_and c.from_residual-in_err-form.result c.from_residual-in_err-form.ensures.1 in rw (p.1, p.2, c.in_err-form.ensures.stop) (λ s l. tt)
+read_relation-returns-in_err-form t c = stopped _ _ c.from_residual-in_err-form.result c.from_residual-in_err-form.ensures.1 (rw c.in_err-form.ensures.stop (λ s l. tt))
 
 pub read_level-operands-smaller : goal.read_level-operands-smaller
 read_level-operands-smaller t c = omega (arith, c.in-Some.ensures.shorter, c.in_ok-expression.ensures.shorter)

@@ -1,20 +1,17 @@
-use Rattle.kahn_syntax.proofs.Parsing.{Close, ExpressionPart, Open, SignClass, TokenPart, Wait, a_name, a_sign, arith, err_from_is_err_and, expected, factors, made, name, name_of, no_name, one, one_lexeme, refl, sign, then, then_stops, token, unexpected, word, [], ◌∷◌}
+use Rattle.kahn_syntax.proofs.Parsing.{Close, ExpressionPart, Open, SignClass, TokenPart, Wait, a_name, a_sign, arith, stopped, expected, factors, made, name, name_of, no_name, one, one_lexeme, refl, sign, then, then_stops, token, unexpected, word, [], ◌∷◌}
 use Rattle.kahn_syntax.proofs.parser.expression.read_wait.Goals as goal
 
 pub returns-in_err-rest : goal.returns-in_err-rest
-returns-in_err-rest c = λ d b.
-    let p = err_from_is_err_and c.from_residual.result c.from_residual.ensures.1 in rw (p.1, p.2) (then_stops _ (one c.args.text.now d (ExpressionPart factors) ([]) (TokenPart (a_sign Open) ∷ TokenPart a_name ∷ TokenPart (a_sign Close) ∷ []) (word Wait) c.args.input.now c.args.rest.now (λ s l. omega (arith, l, b)) (λ s. refl) (c.requires.first.1 c.args.text.now)) (unexpected c.args.text.now d (a_sign Open) (TokenPart a_name ∷ TokenPart (a_sign Close) ∷ []) (SignClass Open) c.args.rest.now _ refl c.in_err-rest.ensures.stop))
+returns-in_err-rest c = λ d b. stopped _ _ c.from_residual.result c.from_residual.ensures.1 (then_stops _ (one c.args.text.now d (ExpressionPart factors) ([]) (TokenPart (a_sign Open) ∷ TokenPart a_name ∷ TokenPart (a_sign Close) ∷ []) (word Wait) c.args.input.now c.args.rest.now (λ s l. omega (arith, l, b)) (λ s. refl) (c.requires.first.1 c.args.text.now)) (unexpected c.args.text.now d (a_sign Open) (TokenPart a_name ∷ TokenPart (a_sign Close) ∷ []) (SignClass Open) c.args.rest.now _ refl c.in_err-rest.ensures.stop))
 
 pub read_name-requires : goal.read_name-requires
 read_name-requires c = record { proper = c.in_ok-rest.ensures.proper c.args.text.now c.requires.proper }
 
 pub returns-in_err-name : goal.returns-in_err-name
-returns-in_err-name c = λ d b.
-    let p = err_from_is_err_and c.from_residual-in_err-name.result c.from_residual-in_err-name.ensures.1 in rw (p.1, p.2) (then_stops _ (then (one c.args.text.now d (ExpressionPart factors) ([]) (TokenPart (a_sign Open) ∷ TokenPart a_name ∷ TokenPart (a_sign Close) ∷ []) (word Wait) c.args.input.now c.args.rest.now (λ s l. omega (arith, l, b)) (λ s. refl) (c.requires.first.1 c.args.text.now)) (expected c.args.text.now d (a_sign Open) (TokenPart a_name ∷ TokenPart (a_sign Close) ∷ []) (SignClass Open) c.args.rest.now c.in_ok-rest.rest.now (λ s l. omega (arith, l, b)) refl c.in_ok-rest.ensures.first)) (no_name c.args.text.now d (TokenPart (a_sign Close) ∷ []) c.in_ok-rest.rest.now _ c.in_err-name.ensures.stop))
+returns-in_err-name c = λ d b. stopped _ _ c.from_residual-in_err-name.result c.from_residual-in_err-name.ensures.1 (then_stops _ (then (one c.args.text.now d (ExpressionPart factors) ([]) (TokenPart (a_sign Open) ∷ TokenPart a_name ∷ TokenPart (a_sign Close) ∷ []) (word Wait) c.args.input.now c.args.rest.now (λ s l. omega (arith, l, b)) (λ s. refl) (c.requires.first.1 c.args.text.now)) (expected c.args.text.now d (a_sign Open) (TokenPart a_name ∷ TokenPart (a_sign Close) ∷ []) (SignClass Open) c.args.rest.now c.in_ok-rest.rest.now (λ s l. omega (arith, l, b)) refl c.in_ok-rest.ensures.first)) (no_name c.args.text.now d (TokenPart (a_sign Close) ∷ []) c.in_ok-rest.rest.now _ c.in_err-name.ensures.stop))
 
 pub returns-in_err-rest-2 : goal.returns-in_err-rest-2
-returns-in_err-rest-2 c = λ d b.
-    let p = err_from_is_err_and c.from_residual-in_err-rest-2.result c.from_residual-in_err-rest-2.ensures.1 in rw (p.1, p.2) (then_stops _ (then (then (one c.args.text.now d (ExpressionPart factors) ([]) (TokenPart (a_sign Open) ∷ TokenPart a_name ∷ TokenPart (a_sign Close) ∷ []) (word Wait) c.args.input.now c.args.rest.now (λ s l. omega (arith, l, b)) (λ s. refl) (c.requires.first.1 c.args.text.now)) (expected c.args.text.now d (a_sign Open) (TokenPart a_name ∷ TokenPart (a_sign Close) ∷ []) (SignClass Open) c.args.rest.now c.in_ok-rest.rest.now (λ s l. omega (arith, l, b)) refl c.in_ok-rest.ensures.first)) (token c.args.text.now d a_name (TokenPart (a_sign Close) ∷ []) (name (name_of c.in_ok-name.name)) c.in_ok-rest.rest.now c.in_ok-name.rest.now (λ s l. omega (arith, l, b)) refl c.in_ok-name.ensures.words)) (unexpected c.args.text.now d (a_sign Close) ([]) (SignClass Close) c.in_ok-name.rest.now _ refl c.in_err-rest-2.ensures.stop))
+returns-in_err-rest-2 c = λ d b. stopped _ _ c.from_residual-in_err-rest-2.result c.from_residual-in_err-rest-2.ensures.1 (then_stops _ (then (then (one c.args.text.now d (ExpressionPart factors) ([]) (TokenPart (a_sign Open) ∷ TokenPart a_name ∷ TokenPart (a_sign Close) ∷ []) (word Wait) c.args.input.now c.args.rest.now (λ s l. omega (arith, l, b)) (λ s. refl) (c.requires.first.1 c.args.text.now)) (expected c.args.text.now d (a_sign Open) (TokenPart a_name ∷ TokenPart (a_sign Close) ∷ []) (SignClass Open) c.args.rest.now c.in_ok-rest.rest.now (λ s l. omega (arith, l, b)) refl c.in_ok-rest.ensures.first)) (token c.args.text.now d a_name (TokenPart (a_sign Close) ∷ []) (name (name_of c.in_ok-name.name)) c.in_ok-rest.rest.now c.in_ok-name.rest.now (λ s l. omega (arith, l, b)) refl c.in_ok-name.ensures.words)) (unexpected c.args.text.now d (a_sign Close) ([]) (SignClass Close) c.in_ok-name.rest.now _ refl c.in_err-rest-2.ensures.stop))
 
 pub returns : goal.returns
 returns c = λ d b.

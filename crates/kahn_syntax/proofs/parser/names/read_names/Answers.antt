@@ -1,10 +1,8 @@
-use Rattle.kahn_syntax.proofs.Parsing.{SomeNames, lexemes, Comma, NameSpans, NamesTail, SignClass, Takes, TokenPart, a_name, a_sign, arith, err_from_is_err_and, last_member, name, name_of, next_member, no_name, one_lexeme, refl, sign, some_more, subst, sym, then_stops, token, [], ◌++◌, ◌∷◌}
+use Rattle.kahn_syntax.proofs.Parsing.{SomeNames, lexemes, Comma, NameSpans, NamesTail, SignClass, Takes, TokenPart, a_name, a_sign, arith, stopped, last_member, name, name_of, next_member, no_name, one_lexeme, refl, sign, some_more, subst, sym, then_stops, token, [], ◌++◌, ◌∷◌}
 use Rattle.kahn_syntax.proofs.parser.names.read_names.Goals as goal
 
 pub returns-in_err-name : goal.returns-in_err-name
-returns-in_err-name c =
-    let p = err_from_is_err_and c.from_residual.result c.from_residual.ensures.1 in
-    rw (p.1, p.2)
+returns-in_err-name c = stopped _ _ c.from_residual.result c.from_residual.ensures.1
     (then_stops _ c.names.invariant.reads
     (no_name c.args.text.now 0 (NamesTail ∷ []) c.names.rest.now _ c.in_err-name.ensures.stop))
 

@@ -1,10 +1,9 @@
-use Rattle.kahn_syntax.proofs.Parsing.{ArgumentPart, False, IsUnsigned, Minus, NameClass, Number, Refused, SignClass, Takes, TokenPart, True, Word, a_number, absent, ap, argument_rules, arith, err_from_is_err_and, false, first_of, inl, inr, length, name, name_of, number_fits, one, one_lexeme, only_memory, refl, refused, rules, sign, starts, subst, sym, terminals, then, then_stops, to_z-of_z, token, w64, word, [], ◌∙◌, ◌∷◌, ◌≡◌}
+use Rattle.kahn_syntax.proofs.Parsing.{ArgumentPart, False, IsUnsigned, Minus, NameClass, Number, Refused, SignClass, Takes, TokenPart, True, Word, a_number, absent, ap, argument_rules, arith, stopped, false, first_of, inl, inr, length, name, name_of, number_fits, one, one_lexeme, only_memory, refl, refused, rules, sign, starts, subst, sym, terminals, then, then_stops, to_z-of_z, token, w64, word, [], ◌∙◌, ◌∷◌, ◌≡◌}
 use Rattle.kahn_syntax.specs.Grammar.{numeral}
 use Rattle.kahn_syntax.proofs.parser.program.read_argument.Goals as goal
 
 pub returns-in_err-name-in-Some-Name-default : goal.returns-in_err-name-in-Some-Name-default
-returns-in_err-name-in-Some-Name-default c =
-    let p = err_from_is_err_and c.from_residual.result c.from_residual.ensures.1 in rw (p.1, p.2) (only_memory c.args.text.now 0 (ArgumentPart ∷ []) c.args.input.now _ _ (first_of _ NameClass c.args.input.now c.in-Some-Name-default.field-0-1.now c.in-Some-Name-default.field-0-0-is c.in-Some-Name-default.ensures.first.0) c.in_err-name-in-Some-Name-default.ensures.stop)
+returns-in_err-name-in-Some-Name-default c = stopped _ _ c.from_residual.result c.from_residual.ensures.1 (only_memory c.args.text.now 0 (ArgumentPart ∷ []) c.args.input.now _ _ (first_of _ NameClass c.args.input.now c.in-Some-Name-default.field-0-1.now c.in-Some-Name-default.field-0-0-is c.in-Some-Name-default.ensures.first.0) c.in_err-name-in-Some-Name-default.ensures.stop)
 
 pub returns-in_default : goal.returns-in_default
 returns-in_default c =

@@ -1,10 +1,8 @@
-use Rattle.kahn_syntax.proofs.Parsing.{Between, ArgumentPart, ArgumentSpans, ArgumentsPart, ArgumentsTail, Close, Comma, SignClass, SomeArgumentsSpan, Takes, TokenPart, a_sign, arith, call_stops, err_from_is_err_and, expected, last_member, next_member, one, one_lexeme, opens_arguments, refl, sign, some_between, some_more, subst, sym, then, then_stops, unexpected, [], ◌++◌, ◌∷◌}
+use Rattle.kahn_syntax.proofs.Parsing.{Between, ArgumentPart, ArgumentSpans, ArgumentsPart, ArgumentsTail, Close, Comma, SignClass, SomeArgumentsSpan, Takes, TokenPart, a_sign, arith, call_stops, stopped, expected, last_member, next_member, one, one_lexeme, opens_arguments, refl, sign, some_between, some_more, subst, sym, then, then_stops, unexpected, [], ◌++◌, ◌∷◌}
 use Rattle.kahn_syntax.proofs.parser.program.read_arguments.Goals as goal
 
 pub returns-in_err-argument : goal.returns-in_err-argument
-returns-in_err-argument c =
-    let p = err_from_is_err_and c.from_residual.result c.from_residual.ensures.1 in
-    rw (p.1, p.2) (then_stops _ c.arguments.invariant.reads
+returns-in_err-argument c = stopped _ _ c.from_residual.result c.from_residual.ensures.1 (then_stops _ c.arguments.invariant.reads
     (call_stops c.args.text.now 0 0 (ArgumentPart ∷ []) (ArgumentsTail ∷ TokenPart (a_sign Close) ∷ []) c.arguments.rest.now _ (λ s l. omega (arith, l)) c.in_err-argument.ensures))
 
 pub arguments-init : goal.arguments-init
@@ -34,12 +32,11 @@ arguments-preserved c =
 
 pub returns-in_err-left : goal.returns-in_err-left
 returns-in_err-left c =
-    let p = err_from_is_err_and c.from_residual-in_err-left.result c.from_residual-in_err-left.ensures.1 in
     let T = c.args.text.now in let i = c.args.input.now in
     let a = c.in_ok-argument.after.now in
     let o = c.arguments.rest.now in
     let m = last_member T 0 (ArgumentsPart ∷ []) ArgumentsTail (a_sign Comma) ArgumentPart (TokenPart (a_sign Close) ∷ []) (SignClass Comma) i o a (λ s l. l) refl refl c.arguments.invariant.reads c.in_ok-argument.ensures.reads c.in_default-past.ensures.absent in
-    rw (p.1, p.2) (then_stops _ m
+    stopped _ _ c.from_residual-in_err-left.result c.from_residual-in_err-left.ensures.1 (then_stops _ m
     (unexpected T 0 (a_sign Close) [] (SignClass Close) a _ refl c.in_err-left.ensures.stop))
 
 pub returns-in-Some : goal.returns-in-Some

@@ -1,10 +1,8 @@
-use Rattle.kahn_syntax.proofs.Parsing.{InstancePart, InstanceSpans, InstancesSpan, InstancesTail, Par, Takes, Word, a_word, arith, call_stops, err_from_is_err_and, last_member, next_member, one_lexeme, refl, some_more, subst, sym, then_stops, word, [], ◌++◌, ◌∷◌}
+use Rattle.kahn_syntax.proofs.Parsing.{InstancePart, InstanceSpans, InstancesSpan, InstancesTail, Par, Takes, Word, a_word, arith, call_stops, stopped, last_member, next_member, one_lexeme, refl, some_more, subst, sym, then_stops, word, [], ◌++◌, ◌∷◌}
 use Rattle.kahn_syntax.proofs.parser.program.read_instances.Goals as goal
 
 pub returns-in_err-instance : goal.returns-in_err-instance
-returns-in_err-instance c =
-    let p = err_from_is_err_and c.from_residual.result c.from_residual.ensures.1 in
-    rw (p.1, p.2) (then_stops _ c.instances.invariant.reads
+returns-in_err-instance c = stopped _ _ c.from_residual.result c.from_residual.ensures.1 (then_stops _ c.instances.invariant.reads
     (call_stops c.args.text.now 0 0 (InstancePart ∷ []) (InstancesTail ∷ []) c.instances.rest.now _ (λ s l. omega (arith, l)) c.in_err-instance.ensures))
 
 pub instances-init : goal.instances-init

@@ -1,27 +1,23 @@
-use Rattle.kahn_syntax.proofs.Parsing.{block, statements_made, statements_row_spans, expression_nesting, expression_tree, Formed, ExpressionSpans, Begin, Do, Else, ElseTail, End, ExpressionPart, ExpressionRead, FormedStatement, FormedStatements, If, IsSimple, LevelPart, NameClass, Print, Repeat, Semicolon, Send, SignClass, SimplePart, SomeStatements, StatementPart, StatementRead, StatementSpans, StatementsTail, Takes, Then, TokenPart, While, Word, a_name, a_sign, a_word, ap, arith, call, call_stops, conditional_parts, deep, drop, ends, err_from_is_err_and, expected, false, first_of, formed_statements_next, goes, last_member, leads, level_ends, nesting_next, next_member, nothing, one, one_lexeme, opened_simple, opens_simple, other_rules, refl, rules, sign, simple_rules, some_between, some_more, some_next, starts, statement_nesting, statements_nesting, statement_trees, stated, subst, sym, terminals, then, then_stops, unexpected, while_parts, whole, word, [], ◌++◌, ◌∙◌, ◌∷◌, ◌≡◌}
+use Rattle.kahn_syntax.proofs.Parsing.{block, statements_made, statements_row_spans, expression_nesting, expression_tree, Formed, ExpressionSpans, Begin, Do, Else, ElseTail, End, ExpressionPart, ExpressionRead, FormedStatement, FormedStatements, If, IsSimple, LevelPart, NameClass, Print, Repeat, Semicolon, Send, SignClass, SimplePart, SomeStatements, StatementPart, StatementRead, StatementSpans, StatementsTail, Takes, Then, TokenPart, While, Word, a_name, a_sign, a_word, ap, arith, call, call_stops, conditional_parts, deep, drop, ends, stopped, expected, false, first_of, formed_statements_next, goes, last_member, leads, level_ends, nesting_next, next_member, nothing, one, one_lexeme, opened_simple, opens_simple, other_rules, refl, rules, sign, simple_rules, some_between, some_more, some_next, starts, statement_nesting, statements_nesting, statement_trees, stated, subst, sym, terminals, then, then_stops, unexpected, while_parts, whole, word, [], ◌++◌, ◌∙◌, ◌∷◌, ◌≡◌}
 use Rattle.kahn_syntax.proofs.parser.statement.+statement.Goals as goal
 
 pub read_statement-read_if-requires : goal.read_statement-read_if-requires
 read_statement-read_if-requires t c = (omega (arith, c.requires.1.0, c.in-Some-Word-If-default.ensures.first.1), ((first_of _ (Word If) c.args.input.now c.in-Some-Word-If-default.rest.now (c.in-Some-Word-If-default.field-0-0-is ∙ ap Word c.in-Some-Word-If-default.field-0-0-0-is) c.in-Some-Word-If-default.ensures.first.0), (c.in-Some-Word-If-default.ensures.first.1, (c.requires.1.1.0, (c.in-Some-Word-If-default.ensures.proper c.args.text.now c.requires.1.1.1, c.in-Some-Word-If-default.ensures.passed)))))
 
 pub read_statement-returns-in_err-inner-in-Some-Word-While-default : goal.read_statement-returns-in_err-inner-in-Some-Word-While-default
-read_statement-returns-in_err-inner-in-Some-Word-While-default t c =
-    let p = err_from_is_err_and c.from_residual.result c.from_residual.ensures.1 in rw (p.1, p.2) (deep c.args.text.now c.args.depth (StatementPart) ([]) (ExpressionPart whole ∷ TokenPart (a_word Do) ∷ StatementPart ∷ LevelPart ∷ []) (word While) c.args.input.now c.in-Some-Word-While-default.rest.now _ (λ s l. omega (arith, l, c.in_err-inner-in-Some-Word-While-default.ensures.stop.0)) (λ s. refl) ((first_of _ (Word While) c.args.input.now c.in-Some-Word-While-default.rest.now (c.in-Some-Word-While-default.field-0-0-is ∙ ap Word c.in-Some-Word-While-default.field-0-0-0-is) c.in-Some-Word-While-default.ensures.first.0).1 c.args.text.now) c.in_err-inner-in-Some-Word-While-default.ensures.stop.1)
+read_statement-returns-in_err-inner-in-Some-Word-While-default t c = stopped _ _ c.from_residual.result c.from_residual.ensures.1 (deep c.args.text.now c.args.depth (StatementPart) ([]) (ExpressionPart whole ∷ TokenPart (a_word Do) ∷ StatementPart ∷ LevelPart ∷ []) (word While) c.args.input.now c.in-Some-Word-While-default.rest.now _ (λ s l. omega (arith, l, c.in_err-inner-in-Some-Word-While-default.ensures.stop.0)) (λ s. refl) ((first_of _ (Word While) c.args.input.now c.in-Some-Word-While-default.rest.now (c.in-Some-Word-While-default.field-0-0-is ∙ ap Word c.in-Some-Word-While-default.field-0-0-0-is) c.in-Some-Word-While-default.ensures.first.0).1 c.args.text.now) c.in_err-inner-in-Some-Word-While-default.ensures.stop.1)
 
 pub read_statement-returns-in_err-inner-in-Some-Word-Repeat-default : goal.read_statement-returns-in_err-inner-in-Some-Word-Repeat-default
-read_statement-returns-in_err-inner-in-Some-Word-Repeat-default t c =
-    let p = err_from_is_err_and c.from_residual-in_err-inner-in-Some-Word-Repeat-default.result c.from_residual-in_err-inner-in-Some-Word-Repeat-default.ensures.1 in rw (p.1, p.2) (deep c.args.text.now c.args.depth (StatementPart) ([]) (StatementPart ∷ LevelPart ∷ []) (word Repeat) c.args.input.now c.in-Some-Word-Repeat-default.rest.now _ (λ s l. omega (arith, l, c.in_err-inner-in-Some-Word-Repeat-default.ensures.stop.0)) (λ s. refl) ((first_of _ (Word Repeat) c.args.input.now c.in-Some-Word-Repeat-default.rest.now (c.in-Some-Word-Repeat-default.field-0-0-is ∙ ap Word c.in-Some-Word-Repeat-default.field-0-0-0-is) c.in-Some-Word-Repeat-default.ensures.first.0).1 c.args.text.now) c.in_err-inner-in-Some-Word-Repeat-default.ensures.stop.1)
+read_statement-returns-in_err-inner-in-Some-Word-Repeat-default t c = stopped _ _ c.from_residual-in_err-inner-in-Some-Word-Repeat-default.result c.from_residual-in_err-inner-in-Some-Word-Repeat-default.ensures.1 (deep c.args.text.now c.args.depth (StatementPart) ([]) (StatementPart ∷ LevelPart ∷ []) (word Repeat) c.args.input.now c.in-Some-Word-Repeat-default.rest.now _ (λ s l. omega (arith, l, c.in_err-inner-in-Some-Word-Repeat-default.ensures.stop.0)) (λ s. refl) ((first_of _ (Word Repeat) c.args.input.now c.in-Some-Word-Repeat-default.rest.now (c.in-Some-Word-Repeat-default.field-0-0-is ∙ ap Word c.in-Some-Word-Repeat-default.field-0-0-0-is) c.in-Some-Word-Repeat-default.ensures.first.0).1 c.args.text.now) c.in_err-inner-in-Some-Word-Repeat-default.ensures.stop.1)
 
 pub read_statement-read_statement-requires-in-Some-Word-Repeat-default : goal.read_statement-read_statement-requires-in-Some-Word-Repeat-default
 read_statement-read_statement-requires-in-Some-Word-Repeat-default t c = (omega (arith, c.requires.1.0, c.in-Some-Word-Repeat-default.ensures.first.1), (c.in_ok-inner-in-Some-Word-Repeat-default.ensures.deeper.1, c.in-Some-Word-Repeat-default.ensures.proper c.args.text.now c.requires.1.1.1))
 
 pub read_statement-returns-in_err-turn-in-Some-Word-Repeat-default : goal.read_statement-returns-in_err-turn-in-Some-Word-Repeat-default
-read_statement-returns-in_err-turn-in-Some-Word-Repeat-default t c =
-    let p = err_from_is_err_and c.from_residual-in_err-turn-in-Some-Word-Repeat-default.result c.from_residual-in_err-turn-in-Some-Word-Repeat-default.ensures.1 in rw (p.1, p.2) (then_stops _ (one c.args.text.now c.args.depth (StatementPart) ([]) (StatementPart ∷ LevelPart ∷ []) (word Repeat) c.args.input.now c.in-Some-Word-Repeat-default.rest.now (λ s l. omega (arith, l, c.requires.1.1.0, c.in_ok-inner-in-Some-Word-Repeat-default.ensures.deeper.0, c.in_ok-inner-in-Some-Word-Repeat-default.ensures.deeper.1)) (λ s. refl) ((first_of _ (Word Repeat) c.args.input.now c.in-Some-Word-Repeat-default.rest.now (c.in-Some-Word-Repeat-default.field-0-0-is ∙ ap Word c.in-Some-Word-Repeat-default.field-0-0-0-is) c.in-Some-Word-Repeat-default.ensures.first.0).1 c.args.text.now)) (call_stops c.args.text.now c.args.depth c.in_ok-inner-in-Some-Word-Repeat-default.inner (StatementPart ∷ []) (LevelPart ∷ []) c.in-Some-Word-Repeat-default.rest.now _ (λ s l. omega (arith, l, c.requires.1.1.0, c.in_ok-inner-in-Some-Word-Repeat-default.ensures.deeper.0, c.in_ok-inner-in-Some-Word-Repeat-default.ensures.deeper.1)) c.in_err-turn-in-Some-Word-Repeat-default.ensures))
+read_statement-returns-in_err-turn-in-Some-Word-Repeat-default t c = stopped _ _ c.from_residual-in_err-turn-in-Some-Word-Repeat-default.result c.from_residual-in_err-turn-in-Some-Word-Repeat-default.ensures.1 (then_stops _ (one c.args.text.now c.args.depth (StatementPart) ([]) (StatementPart ∷ LevelPart ∷ []) (word Repeat) c.args.input.now c.in-Some-Word-Repeat-default.rest.now (λ s l. omega (arith, l, c.requires.1.1.0, c.in_ok-inner-in-Some-Word-Repeat-default.ensures.deeper.0, c.in_ok-inner-in-Some-Word-Repeat-default.ensures.deeper.1)) (λ s. refl) ((first_of _ (Word Repeat) c.args.input.now c.in-Some-Word-Repeat-default.rest.now (c.in-Some-Word-Repeat-default.field-0-0-is ∙ ap Word c.in-Some-Word-Repeat-default.field-0-0-0-is) c.in-Some-Word-Repeat-default.ensures.first.0).1 c.args.text.now)) (call_stops c.args.text.now c.args.depth c.in_ok-inner-in-Some-Word-Repeat-default.inner (StatementPart ∷ []) (LevelPart ∷ []) c.in-Some-Word-Repeat-default.rest.now _ (λ s l. omega (arith, l, c.requires.1.1.0, c.in_ok-inner-in-Some-Word-Repeat-default.ensures.deeper.0, c.in_ok-inner-in-Some-Word-Repeat-default.ensures.deeper.1)) c.in_err-turn-in-Some-Word-Repeat-default.ensures))
 
 pub read_if-returns-in_err-inner : goal.read_if-returns-in_err-inner
-read_if-returns-in_err-inner t c =
-    let p = err_from_is_err_and c.from_residual.result c.from_residual.ensures.1 in rw (p.1, p.2) (deep c.args.text.now c.args.depth (StatementPart) ([]) (ExpressionPart whole ∷ TokenPart (a_word Then) ∷ SimplePart ∷ ElseTail ∷ LevelPart ∷ []) (word If) c.args.input.now c.args.rest.now _ (λ s l. omega (arith, l, c.in_err-inner.ensures.stop.0)) (λ s. refl) (c.requires.1.1.0.1 c.args.text.now) c.in_err-inner.ensures.stop.1)
+read_if-returns-in_err-inner t c = stopped _ _ c.from_residual.result c.from_residual.ensures.1 (deep c.args.text.now c.args.depth (StatementPart) ([]) (ExpressionPart whole ∷ TokenPart (a_word Then) ∷ SimplePart ∷ ElseTail ∷ LevelPart ∷ []) (word If) c.args.input.now c.args.rest.now _ (λ s l. omega (arith, l, c.in_err-inner.ensures.stop.0)) (λ s. refl) (c.requires.1.1.0.1 c.args.text.now) c.in_err-inner.ensures.stop.1)
 
 pub read_simple-read_assign-requires-clause-named : goal.read_simple-read_assign-requires-clause-named
 read_simple-read_assign-requires-clause-named t c = ap (leads a_name) ((first_of _ NameClass c.args.input.now c.in-Some-Name-default.field-0-1.now c.in-Some-Name-default.field-0-0-is c.in-Some-Name-default.ensures.first.0).1 c.args.text.now)
@@ -36,23 +32,19 @@ pub read_simple-read_expression-requires-clause-proper : goal.read_simple-read_e
 read_simple-read_expression-requires-clause-proper t c = c.in-Some-Word-Print-default.ensures.proper c.args.text.now c.requires.1.1.1
 
 pub read_simple-returns-in_err-value-in-Some-Word-Print-default : goal.read_simple-returns-in_err-value-in-Some-Word-Print-default
-read_simple-returns-in_err-value-in-Some-Word-Print-default t c =
-    let p = err_from_is_err_and c.from_residual.result c.from_residual.ensures.1 in rw (p.1, p.2) (then_stops _ (one c.args.text.now c.args.depth (SimplePart) ([]) (ExpressionPart whole ∷ []) (word Print) c.args.input.now c.in-Some-Word-Print-default.rest.now (λ s l. omega (arith, l, c.requires.1.1.0)) (λ s. refl) ((first_of _ (Word Print) c.args.input.now c.in-Some-Word-Print-default.rest.now (c.in-Some-Word-Print-default.field-0-0-is ∙ ap Word c.in-Some-Word-Print-default.field-0-0-0-is) c.in-Some-Word-Print-default.ensures.first.0).1 c.args.text.now)) (call_stops c.args.text.now c.args.depth c.args.depth (ExpressionPart whole ∷ []) ([]) c.in-Some-Word-Print-default.rest.now _ (λ s l. omega (arith, l, c.requires.1.1.0)) c.in_err-value-in-Some-Word-Print-default.ensures))
+read_simple-returns-in_err-value-in-Some-Word-Print-default t c = stopped _ _ c.from_residual.result c.from_residual.ensures.1 (then_stops _ (one c.args.text.now c.args.depth (SimplePart) ([]) (ExpressionPart whole ∷ []) (word Print) c.args.input.now c.in-Some-Word-Print-default.rest.now (λ s l. omega (arith, l, c.requires.1.1.0)) (λ s. refl) ((first_of _ (Word Print) c.args.input.now c.in-Some-Word-Print-default.rest.now (c.in-Some-Word-Print-default.field-0-0-is ∙ ap Word c.in-Some-Word-Print-default.field-0-0-0-is) c.in-Some-Word-Print-default.ensures.first.0).1 c.args.text.now)) (call_stops c.args.text.now c.args.depth c.args.depth (ExpressionPart whole ∷ []) ([]) c.in-Some-Word-Print-default.rest.now _ (λ s l. omega (arith, l, c.requires.1.1.0)) c.in_err-value-in-Some-Word-Print-default.ensures))
 
 pub read_simple-returns-in_err-inner-in-Some-Word-Begin-default : goal.read_simple-returns-in_err-inner-in-Some-Word-Begin-default
-read_simple-returns-in_err-inner-in-Some-Word-Begin-default t c =
-    let p = err_from_is_err_and c.from_residual-in_err-inner-in-Some-Word-Begin-default.result c.from_residual-in_err-inner-in-Some-Word-Begin-default.ensures.1 in rw (p.1, p.2) (deep c.args.text.now c.args.depth (SimplePart) ([]) (StatementPart ∷ StatementsTail ∷ TokenPart (a_word End) ∷ LevelPart ∷ []) (word Begin) c.args.input.now c.in-Some-Word-Begin-default.rest.now _ (λ s l. omega (arith, l, c.in_err-inner-in-Some-Word-Begin-default.ensures.stop.0)) (λ s. refl) ((first_of _ (Word Begin) c.args.input.now c.in-Some-Word-Begin-default.rest.now (c.in-Some-Word-Begin-default.field-0-0-is ∙ ap Word c.in-Some-Word-Begin-default.field-0-0-0-is) c.in-Some-Word-Begin-default.ensures.first.0).1 c.args.text.now) c.in_err-inner-in-Some-Word-Begin-default.ensures.stop.1)
+read_simple-returns-in_err-inner-in-Some-Word-Begin-default t c = stopped _ _ c.from_residual-in_err-inner-in-Some-Word-Begin-default.result c.from_residual-in_err-inner-in-Some-Word-Begin-default.ensures.1 (deep c.args.text.now c.args.depth (SimplePart) ([]) (StatementPart ∷ StatementsTail ∷ TokenPart (a_word End) ∷ LevelPart ∷ []) (word Begin) c.args.input.now c.in-Some-Word-Begin-default.rest.now _ (λ s l. omega (arith, l, c.in_err-inner-in-Some-Word-Begin-default.ensures.stop.0)) (λ s. refl) ((first_of _ (Word Begin) c.args.input.now c.in-Some-Word-Begin-default.rest.now (c.in-Some-Word-Begin-default.field-0-0-is ∙ ap Word c.in-Some-Word-Begin-default.field-0-0-0-is) c.in-Some-Word-Begin-default.ensures.first.0).1 c.args.text.now) c.in_err-inner-in-Some-Word-Begin-default.ensures.stop.1)
 
 pub read_simple-read_statements-requires : goal.read_simple-read_statements-requires
 read_simple-read_statements-requires t c = (omega (arith, c.requires.1.0, c.in-Some-Word-Begin-default.ensures.first.1), (c.in_ok-inner-in-Some-Word-Begin-default.ensures.deeper.1, c.in-Some-Word-Begin-default.ensures.proper c.args.text.now c.requires.1.1.1))
 
 pub read_simple-returns-in_err-statements-in-Some-Word-Begin-default : goal.read_simple-returns-in_err-statements-in-Some-Word-Begin-default
-read_simple-returns-in_err-statements-in-Some-Word-Begin-default t c =
-    let p = err_from_is_err_and c.from_residual-in_err-statements-in-Some-Word-Begin-default.result c.from_residual-in_err-statements-in-Some-Word-Begin-default.ensures.1 in rw (p.1, p.2) (then_stops _ (one c.args.text.now c.args.depth (SimplePart) ([]) (StatementPart ∷ StatementsTail ∷ TokenPart (a_word End) ∷ LevelPart ∷ []) (word Begin) c.args.input.now c.in-Some-Word-Begin-default.rest.now (λ s l. omega (arith, l, c.requires.1.1.0, c.in_ok-inner-in-Some-Word-Begin-default.ensures.deeper.0, c.in_ok-inner-in-Some-Word-Begin-default.ensures.deeper.1)) (λ s. refl) ((first_of _ (Word Begin) c.args.input.now c.in-Some-Word-Begin-default.rest.now (c.in-Some-Word-Begin-default.field-0-0-is ∙ ap Word c.in-Some-Word-Begin-default.field-0-0-0-is) c.in-Some-Word-Begin-default.ensures.first.0).1 c.args.text.now)) (call_stops c.args.text.now c.args.depth c.in_ok-inner-in-Some-Word-Begin-default.inner (StatementPart ∷ StatementsTail ∷ []) (TokenPart (a_word End) ∷ LevelPart ∷ []) c.in-Some-Word-Begin-default.rest.now _ (λ s l. omega (arith, l, c.requires.1.1.0, c.in_ok-inner-in-Some-Word-Begin-default.ensures.deeper.0, c.in_ok-inner-in-Some-Word-Begin-default.ensures.deeper.1)) c.in_err-statements-in-Some-Word-Begin-default.ensures))
+read_simple-returns-in_err-statements-in-Some-Word-Begin-default t c = stopped _ _ c.from_residual-in_err-statements-in-Some-Word-Begin-default.result c.from_residual-in_err-statements-in-Some-Word-Begin-default.ensures.1 (then_stops _ (one c.args.text.now c.args.depth (SimplePart) ([]) (StatementPart ∷ StatementsTail ∷ TokenPart (a_word End) ∷ LevelPart ∷ []) (word Begin) c.args.input.now c.in-Some-Word-Begin-default.rest.now (λ s l. omega (arith, l, c.requires.1.1.0, c.in_ok-inner-in-Some-Word-Begin-default.ensures.deeper.0, c.in_ok-inner-in-Some-Word-Begin-default.ensures.deeper.1)) (λ s. refl) ((first_of _ (Word Begin) c.args.input.now c.in-Some-Word-Begin-default.rest.now (c.in-Some-Word-Begin-default.field-0-0-is ∙ ap Word c.in-Some-Word-Begin-default.field-0-0-0-is) c.in-Some-Word-Begin-default.ensures.first.0).1 c.args.text.now)) (call_stops c.args.text.now c.args.depth c.in_ok-inner-in-Some-Word-Begin-default.inner (StatementPart ∷ StatementsTail ∷ []) (TokenPart (a_word End) ∷ LevelPart ∷ []) c.in-Some-Word-Begin-default.rest.now _ (λ s l. omega (arith, l, c.requires.1.1.0, c.in_ok-inner-in-Some-Word-Begin-default.ensures.deeper.0, c.in_ok-inner-in-Some-Word-Begin-default.ensures.deeper.1)) c.in_err-statements-in-Some-Word-Begin-default.ensures))
 
 pub read_simple-returns-in_err-rest-in-Some-Word-Begin-default : goal.read_simple-returns-in_err-rest-in-Some-Word-Begin-default
-read_simple-returns-in_err-rest-in-Some-Word-Begin-default t c =
-    let p = err_from_is_err_and c.from_residual-in_err-rest-in-Some-Word-Begin-default.result c.from_residual-in_err-rest-in-Some-Word-Begin-default.ensures.1 in rw (p.1, p.2) (then_stops _ (then (one c.args.text.now c.args.depth (SimplePart) ([]) (StatementPart ∷ StatementsTail ∷ TokenPart (a_word End) ∷ LevelPart ∷ []) (word Begin) c.args.input.now c.in-Some-Word-Begin-default.rest.now (λ s l. omega (arith, l, c.requires.1.1.0, c.in_ok-inner-in-Some-Word-Begin-default.ensures.deeper.0, c.in_ok-inner-in-Some-Word-Begin-default.ensures.deeper.1)) (λ s. refl) ((first_of _ (Word Begin) c.args.input.now c.in-Some-Word-Begin-default.rest.now (c.in-Some-Word-Begin-default.field-0-0-is ∙ ap Word c.in-Some-Word-Begin-default.field-0-0-0-is) c.in-Some-Word-Begin-default.ensures.first.0).1 c.args.text.now)) (call c.args.text.now c.args.depth c.in_ok-inner-in-Some-Word-Begin-default.inner (StatementPart ∷ StatementsTail ∷ []) (TokenPart (a_word End) ∷ LevelPart ∷ []) c.in-Some-Word-Begin-default.rest.now c.in_ok-statements-in-Some-Word-Begin-default.rest.now (λ s l. omega (arith, l, c.requires.1.1.0, c.in_ok-inner-in-Some-Word-Begin-default.ensures.deeper.0, c.in_ok-inner-in-Some-Word-Begin-default.ensures.deeper.1)) c.in_ok-statements-in-Some-Word-Begin-default.ensures.reads)) (unexpected c.args.text.now c.args.depth (a_word End) (LevelPart ∷ []) (Word End) c.in_ok-statements-in-Some-Word-Begin-default.rest.now _ refl c.in_err-rest-in-Some-Word-Begin-default.ensures.stop))
+read_simple-returns-in_err-rest-in-Some-Word-Begin-default t c = stopped _ _ c.from_residual-in_err-rest-in-Some-Word-Begin-default.result c.from_residual-in_err-rest-in-Some-Word-Begin-default.ensures.1 (then_stops _ (then (one c.args.text.now c.args.depth (SimplePart) ([]) (StatementPart ∷ StatementsTail ∷ TokenPart (a_word End) ∷ LevelPart ∷ []) (word Begin) c.args.input.now c.in-Some-Word-Begin-default.rest.now (λ s l. omega (arith, l, c.requires.1.1.0, c.in_ok-inner-in-Some-Word-Begin-default.ensures.deeper.0, c.in_ok-inner-in-Some-Word-Begin-default.ensures.deeper.1)) (λ s. refl) ((first_of _ (Word Begin) c.args.input.now c.in-Some-Word-Begin-default.rest.now (c.in-Some-Word-Begin-default.field-0-0-is ∙ ap Word c.in-Some-Word-Begin-default.field-0-0-0-is) c.in-Some-Word-Begin-default.ensures.first.0).1 c.args.text.now)) (call c.args.text.now c.args.depth c.in_ok-inner-in-Some-Word-Begin-default.inner (StatementPart ∷ StatementsTail ∷ []) (TokenPart (a_word End) ∷ LevelPart ∷ []) c.in-Some-Word-Begin-default.rest.now c.in_ok-statements-in-Some-Word-Begin-default.rest.now (λ s l. omega (arith, l, c.requires.1.1.0, c.in_ok-inner-in-Some-Word-Begin-default.ensures.deeper.0, c.in_ok-inner-in-Some-Word-Begin-default.ensures.deeper.1)) c.in_ok-statements-in-Some-Word-Begin-default.ensures.reads)) (unexpected c.args.text.now c.args.depth (a_word End) (LevelPart ∷ []) (Word End) c.in_ok-statements-in-Some-Word-Begin-default.rest.now _ refl c.in_err-rest-in-Some-Word-Begin-default.ensures.stop))
 
 pub read_statement-read_before-requires : goal.read_statement-read_before-requires
 read_statement-read_before-requires t c =
@@ -64,22 +56,20 @@ read_statement-read_statement-requires t c =
 
 pub read_statement-returns-in_err-test-in-Some-Word-While-default : goal.read_statement-returns-in_err-test-in-Some-Word-While-default
 read_statement-returns-in_err-test-in-Some-Word-While-default t c =
-    let p = err_from_is_err_and c.from_residual-in_err-test-in-Some-Word-While-default.result c.from_residual-in_err-test-in-Some-Word-While-default.ensures.1 in
     let T = c.args.text.now in let i = c.args.input.now in
     let e = c.in_ok-inner-in-Some-Word-While-default.inner in
     let n = c.in_ok-inner-in-Some-Word-While-default.ensures.deeper.0 in
     let m = one T c.args.depth StatementPart [] while_parts (word While) i c.in-Some-Word-While-default.rest.now (λ s l. omega (arith, l, n, c.in_ok-inner-in-Some-Word-While-default.ensures.deeper.1)) (λ s. refl) ((first_of _ (Word While) c.args.input.now c.in-Some-Word-While-default.rest.now (c.in-Some-Word-While-default.field-0-0-is ∙ ap Word c.in-Some-Word-While-default.field-0-0-0-is) c.in-Some-Word-While-default.ensures.first.0).1 T) in
-    rw (p.1, p.2) (then_stops _ m
+    stopped _ _ c.from_residual-in_err-test-in-Some-Word-While-default.result c.from_residual-in_err-test-in-Some-Word-While-default.ensures.1 (then_stops _ m
     (call_stops T c.args.depth e (ExpressionPart whole ∷ TokenPart (a_word Do) ∷ []) (drop 2 while_parts) c.in-Some-Word-While-default.rest.now _ (λ s l. omega (arith, l, n)) c.in_err-test-in-Some-Word-While-default.ensures))
 
 pub read_statement-returns-in_err-turn-in-Some-Word-While-default : goal.read_statement-returns-in_err-turn-in-Some-Word-While-default
 read_statement-returns-in_err-turn-in-Some-Word-While-default t c =
-    let p = err_from_is_err_and c.from_residual-in_err-turn-in-Some-Word-While-default.result c.from_residual-in_err-turn-in-Some-Word-While-default.ensures.1 in
     let T = c.args.text.now in let i = c.args.input.now in
     let e = c.in_ok-inner-in-Some-Word-While-default.inner in
     let n = c.in_ok-inner-in-Some-Word-While-default.ensures.deeper.0 in
     let m2 = then (one T c.args.depth StatementPart [] while_parts (word While) i c.in-Some-Word-While-default.rest.now (λ s l. omega (arith, l, n, c.in_ok-inner-in-Some-Word-While-default.ensures.deeper.1)) (λ s. refl) ((first_of _ (Word While) c.args.input.now c.in-Some-Word-While-default.rest.now (c.in-Some-Word-While-default.field-0-0-is ∙ ap Word c.in-Some-Word-While-default.field-0-0-0-is) c.in-Some-Word-While-default.ensures.first.0).1 T)) (call T c.args.depth e (ExpressionPart whole ∷ TokenPart (a_word Do) ∷ []) (drop 2 while_parts) c.in-Some-Word-While-default.rest.now c.in_ok-test-in-Some-Word-While-default.rest.now (λ s l. omega (arith, l, n)) c.in_ok-test-in-Some-Word-While-default.ensures.reads) in
-    rw (p.1, p.2) (then_stops _ m2
+    stopped _ _ c.from_residual-in_err-turn-in-Some-Word-While-default.result c.from_residual-in_err-turn-in-Some-Word-While-default.ensures.1 (then_stops _ m2
     (call_stops T c.args.depth e (StatementPart ∷ []) (LevelPart ∷ []) c.in_ok-test-in-Some-Word-While-default.rest.now _ (λ s l. omega (arith, l, n)) c.in_err-turn-in-Some-Word-While-default.ensures))
 
 pub read_if-read_before-requires : goal.read_if-read_before-requires
@@ -96,32 +86,29 @@ read_if-read_statement-requires t c =
 
 pub read_if-returns-in_err-test : goal.read_if-returns-in_err-test
 read_if-returns-in_err-test t c =
-    let p = err_from_is_err_and c.from_residual-in_err-test.result c.from_residual-in_err-test.ensures.1 in
     let T = c.args.text.now in let i = c.args.input.now in
     let e = c.in_ok-inner.inner in
     let n = c.in_ok-inner.ensures.deeper.0 in
     let m = one T c.args.depth StatementPart [] conditional_parts (word If) i c.args.rest.now (λ s l. omega (arith, l, n, c.in_ok-inner.ensures.deeper.1)) (λ s. refl) (c.requires.1.1.0.1 T) in
-    rw (p.1, p.2) (then_stops _ m
+    stopped _ _ c.from_residual-in_err-test.result c.from_residual-in_err-test.ensures.1 (then_stops _ m
     (call_stops T c.args.depth e (ExpressionPart whole ∷ TokenPart (a_word Then) ∷ []) (drop 2 conditional_parts) c.args.rest.now _ (λ s l. omega (arith, l, n)) c.in_err-test.ensures))
 
 pub read_if-returns-in_err-yes : goal.read_if-returns-in_err-yes
 read_if-returns-in_err-yes t c =
-    let p = err_from_is_err_and c.from_residual-in_err-yes.result c.from_residual-in_err-yes.ensures.1 in
     let T = c.args.text.now in let i = c.args.input.now in
     let e = c.in_ok-inner.inner in
     let n = c.in_ok-inner.ensures.deeper.0 in
     let m2 = then (one T c.args.depth StatementPart [] conditional_parts (word If) i c.args.rest.now (λ s l. omega (arith, l, n, c.in_ok-inner.ensures.deeper.1)) (λ s. refl) (c.requires.1.1.0.1 T)) (call T c.args.depth e (ExpressionPart whole ∷ TokenPart (a_word Then) ∷ []) (drop 2 conditional_parts) c.args.rest.now c.in_ok-test.rest.now (λ s l. omega (arith, l, n)) c.in_ok-test.ensures.reads) in
-    rw (p.1, p.2) (then_stops _ m2
+    stopped _ _ c.from_residual-in_err-yes.result c.from_residual-in_err-yes.ensures.1 (then_stops _ m2
     (call_stops T c.args.depth e (SimplePart ∷ []) (drop 3 conditional_parts) c.in_ok-test.rest.now _ (λ s l. omega (arith, l, n)) c.in_err-yes.ensures))
 
 pub read_if-returns-in_err-no : goal.read_if-returns-in_err-no
 read_if-returns-in_err-no t c =
-    let p = err_from_is_err_and c.from_residual-in_err-no.result c.from_residual-in_err-no.ensures.1 in
     let T = c.args.text.now in let i = c.args.input.now in
     let e = c.in_ok-inner.inner in
     let n = c.in_ok-inner.ensures.deeper.0 in
     let m4 = then (then (then (one T c.args.depth StatementPart [] conditional_parts (word If) i c.args.rest.now (λ s l. omega (arith, l, n, c.in_ok-inner.ensures.deeper.1)) (λ s. refl) (c.requires.1.1.0.1 T)) (call T c.args.depth e (ExpressionPart whole ∷ TokenPart (a_word Then) ∷ []) (drop 2 conditional_parts) c.args.rest.now c.in_ok-test.rest.now (λ s l. omega (arith, l, n)) c.in_ok-test.ensures.reads)) (call T c.args.depth e (SimplePart ∷ []) (drop 3 conditional_parts) c.in_ok-test.rest.now c.in_ok-yes.rest.now (λ s l. omega (arith, l, n)) c.in_ok-yes.ensures.reads)) (goes T c.args.depth ElseTail (a_word Else) _ (LevelPart ∷ []) (Word Else) c.in_ok-yes.rest.now c.in-Some.after.now (λ s l. omega (arith, l, n, c.in_ok-inner.ensures.deeper.1)) refl refl c.in-Some.ensures.first) in
-    rw (p.1, p.2) (then_stops _ m4
+    stopped _ _ c.from_residual-in_err-no.result c.from_residual-in_err-no.ensures.1 (then_stops _ m4
     (call_stops T c.args.depth e (StatementPart ∷ []) (LevelPart ∷ []) c.in-Some.after.now _ (λ s l. omega (arith, l, n)) c.in_err-no.ensures))
 
 pub read_statement-returns-in_ok-turn-in-Some-Word-While-default : goal.read_statement-returns-in_ok-turn-in-Some-Word-While-default
@@ -134,13 +121,13 @@ read_statement-returns-in_ok-turn-in-Some-Word-While-default t c =
           c.in_ok-test-in-Some-Word-While-default.ensures.spans.0,
           c.in_ok-test-in-Some-Word-While-default.rest.now,
           (one_lexeme T (word While) c.args.input.now c.in-Some-Word-While-default.rest.now c.in-Some-Word-While-default.ensures.passed ((first_of _ (Word While) c.args.input.now c.in-Some-Word-While-default.rest.now (c.in-Some-Word-While-default.field-0-0-is ∙ ap Word c.in-Some-Word-While-default.field-0-0-0-is) c.in-Some-Word-While-default.ensures.first.0).1 T)),
-          subst (λ y. ExpressionSpans T y c.in-Some-Word-While-default.rest.now c.in_ok-test-in-Some-Word-While-default.ensures.spans.0) (sym c.into_inner.ensures) c.in_ok-test-in-Some-Word-While-default.ensures.spans.1,
+          subst (λ y. ExpressionSpans T y c.in-Some-Word-While-default.rest.now c.in_ok-test-in-Some-Word-While-default.ensures.spans.0) (sym c.into_inner-test.ensures) c.in_ok-test-in-Some-Word-While-default.ensures.spans.1,
           c.in_ok-test-in-Some-Word-While-default.ensures.spans.2,
           c.in_ok-turn-in-Some-Word-While-default.ensures.spans,
         ),
       );
-      formed = ((subst (λ y. Formed (expression_tree y)) (sym c.into_inner.ensures) c.in_ok-test-in-Some-Word-While-default.ensures.formed.1, c.in_ok-turn-in-Some-Word-While-default.ensures.formed.0), λ e. absurd cc);
-      nesting = omega (arith, ap (λ y. expression_nesting (expression_tree y)) c.into_inner.ensures, c.in_ok-inner-in-Some-Word-While-default.ensures.deeper.0, c.in_ok-test-in-Some-Word-While-default.ensures.nesting, c.in_ok-turn-in-Some-Word-While-default.ensures.nesting);
+      formed = ((subst (λ y. Formed (expression_tree y)) (sym c.into_inner-test.ensures) c.in_ok-test-in-Some-Word-While-default.ensures.formed.1, c.in_ok-turn-in-Some-Word-While-default.ensures.formed.0), λ e. absurd cc);
+      nesting = omega (arith, ap (λ y. expression_nesting (expression_tree y)) c.into_inner-test.ensures, c.in_ok-inner-in-Some-Word-While-default.ensures.deeper.0, c.in_ok-test-in-Some-Word-While-default.ensures.nesting, c.in_ok-turn-in-Some-Word-While-default.ensures.nesting);
       shorter = omega (arith, c.in-Some-Word-While-default.ensures.first.1, c.in_ok-test-in-Some-Word-While-default.ensures.shorter, c.in_ok-turn-in-Some-Word-While-default.ensures.shorter);
       proper = c.in_ok-turn-in-Some-Word-While-default.ensures.proper;
       reads = let T = c.args.text.now in let i = c.args.input.now in
@@ -184,17 +171,17 @@ read_if-returns-in_default t c =
           c.in_ok-test.rest.now,
           c.in_ok-yes.rest.now,
           one_lexeme T (word If) c.args.input.now c.args.rest.now c.requires.1.1.1.1.1.1 (c.requires.1.1.0.1 T),
-          subst (λ y. ExpressionSpans T y c.args.rest.now c.in_ok-test.ensures.spans.0) (sym c.into_inner.ensures) c.in_ok-test.ensures.spans.1,
+          subst (λ y. ExpressionSpans T y c.args.rest.now c.in_ok-test.ensures.spans.0) (sym c.into_inner-test.ensures) c.in_ok-test.ensures.spans.1,
           c.in_ok-test.ensures.spans.2,
           c.in_ok-yes.ensures.spans,
           refl,
         ),
       );
       formed = (
-        (subst (λ e. Formed (expression_tree e)) (sym c.into_inner.ensures) c.in_ok-test.ensures.formed.1, c.in_ok-yes.ensures.formed.1 refl, c.in_ok-yes.ensures.formed.0),
+        (subst (λ e. Formed (expression_tree e)) (sym c.into_inner-test.ensures) c.in_ok-test.ensures.formed.1, c.in_ok-yes.ensures.formed.1 refl, c.in_ok-yes.ensures.formed.0),
         λ e. absurd cc,
       );
-      nesting = omega (arith, ap (λ y. expression_nesting (expression_tree y)) c.into_inner.ensures, c.in_ok-inner.ensures.deeper.0, c.in_ok-test.ensures.nesting, c.in_ok-yes.ensures.nesting);
+      nesting = omega (arith, ap (λ y. expression_nesting (expression_tree y)) c.into_inner-test.ensures, c.in_ok-inner.ensures.deeper.0, c.in_ok-test.ensures.nesting, c.in_ok-yes.ensures.nesting);
       shorter = omega (arith, c.requires.1.1.1.0, c.in_ok-test.ensures.shorter, c.in_ok-yes.ensures.shorter);
       proper = c.in_ok-yes.ensures.proper;
       reads = let T = c.args.text.now in let i = c.args.input.now in
@@ -219,17 +206,17 @@ read_if-returns t c =
           c.in_ok-test.rest.now,
           c.in_ok-yes.rest.now,
           one_lexeme T (word If) c.args.input.now c.args.rest.now c.requires.1.1.1.1.1.1 (c.requires.1.1.0.1 T),
-          subst (λ y. ExpressionSpans T y c.args.rest.now c.in_ok-test.ensures.spans.0) (sym c.into_inner-2.ensures) c.in_ok-test.ensures.spans.1,
+          subst (λ y. ExpressionSpans T y c.args.rest.now c.in_ok-test.ensures.spans.0) (sym c.into_inner-test.ensures) c.in_ok-test.ensures.spans.1,
           c.in_ok-test.ensures.spans.2,
           c.in_ok-yes.ensures.spans,
           (c.in-Some.after.now, one_lexeme T (word Else) c.in_ok-yes.rest.now c.in-Some.after.now c.in-Some.ensures.passed (c.in-Some.ensures.first.1 T), c.in_ok-no.ensures.spans),
         ),
       );
       formed = (
-        (subst (λ e. Formed (expression_tree e)) (sym c.into_inner-2.ensures) c.in_ok-test.ensures.formed.1, c.in_ok-yes.ensures.formed.1 refl, c.in_ok-yes.ensures.formed.0, c.in_ok-no.ensures.formed.0),
+        (subst (λ e. Formed (expression_tree e)) (sym c.into_inner-test.ensures) c.in_ok-test.ensures.formed.1, c.in_ok-yes.ensures.formed.1 refl, c.in_ok-yes.ensures.formed.0, c.in_ok-no.ensures.formed.0),
         λ e. absurd cc,
       );
-      nesting = omega (arith, ap (λ y. expression_nesting (expression_tree y)) c.into_inner-2.ensures, c.in_ok-inner.ensures.deeper.0, c.in_ok-test.ensures.nesting, c.in_ok-yes.ensures.nesting, c.in_ok-no.ensures.nesting);
+      nesting = omega (arith, ap (λ y. expression_nesting (expression_tree y)) c.into_inner-test.ensures, c.in_ok-inner.ensures.deeper.0, c.in_ok-test.ensures.nesting, c.in_ok-yes.ensures.nesting, c.in_ok-no.ensures.nesting);
       shorter = omega (arith, c.requires.1.1.1.0, c.in_ok-test.ensures.shorter, c.in_ok-yes.ensures.shorter, c.in-Some.ensures.shorter, c.in_ok-no.ensures.shorter);
       proper = c.in_ok-no.ensures.proper;
       reads = let T = c.args.text.now in let i = c.args.input.now in
@@ -291,15 +278,13 @@ read_simple-returns-in_ok-nothing-in_default t c =
     }
 
 pub read_simple-returns-in_err-nothing-in_default : goal.read_simple-returns-in_err-nothing-in_default
-read_simple-returns-in_err-nothing-in_default t c = let p = err_from_is_err_and c.from_residual-in_err-nothing-in_default.result c.from_residual-in_err-nothing-in_default.ensures.1 in rw (p.1, p.2) (λ s l. tt)
+read_simple-returns-in_err-nothing-in_default t c = stopped _ _ c.from_residual-in_err-nothing-in_default.result c.from_residual-in_err-nothing-in_default.ensures.1 (λ s l. tt)
 
 pub read_statements-read_statement-requires : goal.read_statements-read_statement-requires
 read_statements-read_statement-requires t c = (omega (arith, c.requires.1.0, c.statements.invariant.shorter), (c.requires.1.1.0, c.statements.invariant.proper))
 
 pub read_statements-returns-in_err-statement : goal.read_statements-returns-in_err-statement
-read_statements-returns-in_err-statement t c =
-    let p = err_from_is_err_and c.from_residual.result c.from_residual.ensures.1 in
-    rw (p.1, p.2) (then_stops _ c.statements.invariant.reads
+read_statements-returns-in_err-statement t c = stopped _ _ c.from_residual.result c.from_residual.ensures.1 (then_stops _ c.statements.invariant.reads
     (call_stops c.args.text.now c.args.depth c.args.depth (StatementPart ∷ []) (StatementsTail ∷ []) c.statements.rest.now _ (λ s l. omega (arith, l, c.requires.1.1.0)) c.in_err-statement.ensures))
 
 pub read_statements-statements-init : goal.read_statements-statements-init
@@ -346,7 +331,7 @@ read_statements-returns-in_default t c =
     }
 
 pub read_statements-returns-in_err-push : goal.read_statements-returns-in_err-push
-read_statements-returns-in_err-push t c = let p = err_from_is_err_and c.from_residual-in_err-push.result c.from_residual-in_err-push.ensures.1 in rw (p.1, p.2) (λ s l. tt)
+read_statements-returns-in_err-push t c = stopped _ _ c.from_residual-in_err-push.result c.from_residual-in_err-push.ensures.1 (λ s l. tt)
 
 pub read_statements-statements-smaller : goal.read_statements-statements-smaller
 read_statements-statements-smaller t c = omega (arith, c.in_ok-statement.ensures.shorter, c.in-Some.ensures.shorter)
