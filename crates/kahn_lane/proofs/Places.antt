@@ -1,6 +1,6 @@
 -- Tokens at consecutive places, and what they are of.
-use Rattle.kahn_lane.proofs.Common.{◌≡◌, ◌<◌, ℕ, zero, suc, ◌+◌, ◌-◌, List, [], ◌∷◌, ◌++◌, length, slice_index_or, Option, Some, None, arith, ap, sym, ◌∙◌, subst, Token, LaneName, Segment, tokens_of, Named, StandFrom, token_name, lane_name, moved_to}
-use Rattle.kahn_streams.specs.{declared.tree.Program.Program, Inputs.Lists, Tokens.IsOf, declared.value.Line.TheVariants.Channel}
+use Rattle.kahn_lane.proofs.Common.{[], ◌≡◌, ◌<◌, ℕ, zero, suc, ◌+◌, ◌-◌, List, ◌∷◌, ◌++◌, length, slice_index_or, Option, Some, None, arith, ap, sym, ◌∙◌, subst, Token, LaneName, Segment, tokens_of, Named, StandFrom, token_name, moved_to}
+use Rattle.kahn_streams.specs.{Inputs.Lists}
 
 pub placed_more : (c : Named) (n : ℕ) (xs : List Token) (x t : Token) → StandFrom c n xs → x ≡ t → c ≡ Some (token_name t) → t.place ≡ n + length xs → StandFrom c n (xs ++ x ∷ [])
 placed_more c n [] x t h is on at = ((on ∙ ap (λ u. Some (token_name u)) (sym is), omega (arith, at, ap (λ (u : Token). u.place) is)), tt)
@@ -13,19 +13,9 @@ placed_at c n (y ∷ ys) zero x h lt is =
 placed_at c n (y ∷ ys) (suc k) x h lt is =
     let rest = placed_at c (n + 1) ys k x h.1 (omega (arith, lt)) is in (rest.0, omega (arith, rest.1))
 
--- a token of a network and an input, on a channel, has the name of that channel's lane
-pub token_name-is_of : (network : Program) (input : Lists) (channel : ℕ) (t : Token) → IsOf network input t → t.line ≡ Channel channel → token_name t ≡ lane_name network input channel
-token_name-is_of network input channel t of on i = record { network = of.0 i; input = of.1 i; line = on i }
-
 abbrev name_or : LaneName → Named → LaneName
 name_or n None = n
 name_or n (Some m) = m
-
--- a token that has the name of a channel's lane is of its network and its input, on the channel
-pub is_of-token_name : (network : Program) (input : Lists) (channel : ℕ) (t : Token) → Some (lane_name network input channel) ≡ Some (token_name t) → IsOf network input t × (t.line ≡ Channel channel)
-is_of-token_name network input channel t e =
-    let same : lane_name network input channel ≡ token_name t = ap (name_or (token_name t)) e in
-    ((ap (λ (n : LaneName). n.network) (sym same), ap (λ (n : LaneName). n.input) (sym same)), ap (λ (n : LaneName). n.line) (sym same))
 
 -- a token that was lifted to an input has the name that it had, for this input
 pub token_name-moved : (input : Lists) (t u : Token) → u.line ≡ t.line → u.network.value ≡ t.network.value → u.input.value ≡ input → moved_to input (token_name t) ≡ token_name u

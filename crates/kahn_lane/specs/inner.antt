@@ -1,3 +1,4 @@
 pub mod LaneRule
 pub mod RelayRule
 pub mod Settles
+pub mod Rights

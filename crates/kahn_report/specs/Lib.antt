@@ -1,2 +1,2 @@
-pub mod SampleText
+pub mod SampleTree
 pub mod inner

@@ -1,25 +1,22 @@
 -- Inner.
 -- The rule of a lane's deque: the segments in it have consecutive places, from the reader's number of stolen tokens to the writer's number of flushed ones.
-use Rattle.std.specs.Prelude.{◌≡◌, ℕ, ◌+◌, ◌^◌, ◌<◌, ◌≤◌, ◌⊎◌, true, List, [], ◌∷◌, length, Option, Some, None}
-use mathlib.Core.Option.{some}
-use lib.ListN.{get_elem?}
+use Rattle.std.specs.Prelude.{◌≡◌, ℕ, ◌+◌, ◌^◌, ◌<◌, ◌≤◌, ◌⊎◌, List, [], ◌∷◌, length, Option, Some, None}
 use Rattle.kahn_streams.specs.declared.token.Token.{Token}
-use Rattle.kahn_lane.specs.{declared.segments.Mark.Mark, declared.segments.Segment.Segment, Places.Named, Places.StandFrom, Places.mark, Places.opening_mark, Places.telling, Places.told, Places.first_place}
+use Rattle.kahn_lane.specs.{declared.segments.Mark.Mark, declared.segments.Segment.Segment, Places.Named, Places.StandFrom, Places.mark, Places.opening_mark, Places.telling, Places.told, Places.first_place, inner.Rights.HaveRights}
 use Rattle.kahn_lane.specs.declared.segments.Stage.TheVariants as stage
 
--- only the writer may flush; it knows what the tokens are of, and how many were flushed
-abbrev pub WritesLane : ℕ → Named → ℕ → ℕ → Mark → Type 0
-WritesLane writer name flushed port v = v.writes ≡ true → (port ≡ writer) × (v.writes_on ≡ name) × (v.flushed ≡ flushed)
+-- the writer knows what the tokens are of, and how many were flushed
+abbrev pub WritesLane : Named → ℕ → Mark → Type 0
+WritesLane name flushed v = (v.writes_on ≡ name) × (v.flushed ≡ flushed)
 
--- only the reader may steal; it knows what the tokens are of, and how many were stolen, and knows of no more than were flushed
-abbrev pub ReadsLane : ℕ → Named → ℕ → ℕ → ℕ → Mark → Type 0
-ReadsLane reader name flushed stolen port v =
-    v.reads ≡ true → (port ≡ reader) × (v.reads_on ≡ name) × (v.stolen ≡ stolen) × (v.known ≤ flushed)
+-- the reader knows what the tokens are of, and how many were stolen, and knows of no more than were flushed
+abbrev pub ReadsLane : Named → ℕ → ℕ → Mark → Type 0
+ReadsLane name flushed stolen v = (v.reads_on ≡ name) × (v.stolen ≡ stolen) × (v.known ≤ flushed)
 
--- what a pass knows is true
-abbrev pub FitsLane : ℕ → ℕ → Named → ℕ → ℕ → ℕ → Mark → Type 0
-FitsLane writer reader name flushed stolen port v =
-    (v.stage ≡ stage.Running) × WritesLane writer name flushed port v × ReadsLane reader name flushed stolen port v
+-- what the passes know is true
+abbrev pub FitsLane : Named → ℕ → ℕ → ℕ → ℕ → List Mark → Type 0
+FitsLane name flushed stolen =
+    HaveRights (λ (v : Mark). v.stage ≡ stage.Running) (λ v. v.writes) (λ v. v.reads) (WritesLane name flushed) (ReadsLane name flushed stolen)
 
 module _ {A : Type 0} where
   -- the tokens of a segment
@@ -64,8 +61,7 @@ module _ {A : Type 0} where
     pub limited : flushed ≤ 2 ^ 48
     -- the deque has those that were flushed and not stolen
     pub chain : Chain name stolen flushed items
-    -- what the passes know is true
-    pub fits : (port : ℕ) (v : Mark) → get_elem? views port ≡ some v → FitsLane writer reader name flushed stolen port v
+    pub fits : FitsLane name flushed stolen writer reader views
 
   abbrev pub Laned : List (Segment A) → List Mark → Type 0
   Laned items views = IsNewLane items views ⊎ (IsTelling items views ⊎ IsRunning items views)

@@ -1,24 +1,22 @@
 -- Inner. The rule of a relay's deque, and what each pass knows.
-use Rattle.std.specs.Prelude.{◌≡◌, ℕ, ◌≤◌, Bool, true, List, ◌++◌, length}
-use mathlib.Core.Option.{some}
-use lib.ListN.{get_elem?}
-use Rattle.kahn_lane.specs.declared.ends.Log.{Log}
+use Rattle.std.specs.Prelude.{◌≡◌, ℕ, ◌≤◌, Bool, List, ◌++◌, length}
+use Rattle.kahn_lane.specs.{declared.ends.Log.Log, inner.Rights.HaveRights}
 
 module _ {T : Type 0} where
   abbrev pub log : Bool → Bool → ℕ → List T → List T → Log T
   log pushes pops known given taken = record { pushes = pushes; pops = pops; known = known; given = given; taken = taken }
 
-  -- only the writer may push, and it has the list of what was given
-  abbrev pub WritesRelay : ℕ → List T → ℕ → Log T → Type 0
-  WritesRelay writer given port v = v.pushes ≡ true → (port ≡ writer) × (v.given ≡ given)
+  -- the writer has the list of what was given
+  abbrev pub WritesRelay : List T → Log T → Type 0
+  WritesRelay given v = v.given ≡ given
 
-  -- only the reader may take; it has the list of what was taken, and knows of no more items than were given
-  abbrev pub ReadsRelay : ℕ → List T → List T → ℕ → Log T → Type 0
-  ReadsRelay reader given taken port v = v.pops ≡ true → (port ≡ reader) × (v.taken ≡ taken) × (v.known ≤ length given)
+  -- the reader has the list of what was taken, and knows of no more items than were given
+  abbrev pub ReadsRelay : List T → List T → Log T → Type 0
+  ReadsRelay given taken v = (v.taken ≡ taken) × (v.known ≤ length given)
 
-  -- what a pass knows is true
-  abbrev pub FitsRelay : ℕ → ℕ → List T → List T → ℕ → Log T → Type 0
-  FitsRelay writer reader given taken port v = WritesRelay writer given port v × ReadsRelay reader given taken port v
+  -- what the passes know is true
+  abbrev pub FitsRelay : List T → List T → ℕ → ℕ → List (Log T) → Type 0
+  FitsRelay given taken = HaveRights (λ (_ : Log T). Unit {0}) (λ v. v.pushes) (λ v. v.pops) (WritesRelay given) (ReadsRelay given taken)
 
   pub record Relayed (items : List T) (views : List (Log T)) : Type 0 where
     -- the pass that may push, and the one that may take
@@ -29,5 +27,4 @@ module _ {T : Type 0} where
     pub taken : List T
     -- what was given is what was taken, and then what the deque holds
     pub whole : given ≡ taken ++ items
-    -- what the passes know is true
-    pub fits : (port : ℕ) (v : Log T) → get_elem? views port ≡ some v → FitsRelay writer reader given taken port v
+    pub fits : FitsRelay given taken writer reader views
