@@ -1,9 +1,10 @@
 //! Where an instance takes and puts tokens.
 
 ghost use Rattle.std.specs.Prelude.{◌≡◌, ◌≢◌, ℕ, ◌<◌, ◌^◌, IfSome, IfNone, IsSome, IsTrue, IsFalse, OnOk, OnErr, IsOk};
+ghost use Rattle.kahn_code.specs.Common.{Holds, IsOf, Names};
 ghost use Rattle.kahn_code.specs.Standing.{Site, DoesRead, DoesWrite, IsNext, Stays, StaySo, Moved, LeavesOthers, Grows};
 
-use kahn_streams::{NoMemory, Token};
+use kahn_streams::{Line, NoMemory, Token, Word};
 
 /// The ends of an instance's channels, by the number of the parameter, beside which its channel is told. What an instance
 /// sends on an output channel isn't put here.
@@ -90,4 +91,23 @@ pub trait Ports {
         ensures moved { Moved (next self.old) (next self.new) parameter }
         ensures keeps { StaySo (is_ready self.old) (is_ready self.new) }
         ensures rooms { (q d : ℕ) → q ≢ parameter → DoesWrite (site self.old) q d → has_room self.old q → has_room self.new q };
+}
+
+// The token of a value that stands there, for the program and the input of these ports.
+fn token_for<P: Ports>(_ports: &P, line: Line, place: u64, value: Word) -> Token
+    ghost names: { Names }
+    requires { Holds names.network names.input line place value }
+    ensures here { (result.line ≡ line) × (result.place ≡ place) × (result.value ≡ value) }
+    ensures names { IsOf names.network names.input result }
+{
+    Token::of_word(line, place, value)
+}
+
+// The token of a value that stands there.
+pub(crate) fn token_of<P: Ports>(ports: &P, line: Line, place: u64, value: Word) -> Token
+    requires { Holds (P.site ports.now).network (P.site ports.now).input line place value }
+    ensures here { (result.line ≡ line) × (result.place ≡ place) × (result.value ≡ value) }
+    ensures names { IsOf (P.site ports.now).network (P.site ports.now).input result }
+{
+    token_for(ports, line, place, value)
 }

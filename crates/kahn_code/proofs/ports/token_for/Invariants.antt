@@ -1,4 +1,4 @@
-use Rattle.kahn_code.proofs.progress.token_for.Given as goal
+use Rattle.kahn_code.proofs.ports.token_for.Given as goal
 
 abbrev pub ghost-of_word : goal.ghost-of_word
 ghost-of_word g a = g.names
