@@ -1,5 +1,5 @@
 -- How the parts that are open go on, over what the parser reads.
-use Rattle.kahn_syntax.proofs.Common.{Action, StopsAs, head_parts, Then, Else, Do, On, End, ElseTail, StatementsTail, ◌≡◌, ◌≢◌, ℕ, ◌+◌, ◌≤◌, ◌<◌, List, [], ◌∷◌, ◌++◌, ◌⊎◌, ⊎_elim, length, true, false, cond, Some, None, Result, Ok, Err, true≢false, refl, sym, ap, ◌∙◌, subst, arith, append_assoc, Span, Class, Lexeme, MatchResult, Expression, Form, Covers, Statement, Stop, Refused, TooDeep, NoMemory, Terminal, word, terminal, terminals, First, RuleToken, accepts, leads, class_of, a_kind, a_name, a_number, a_sign, a_word, an_operator, either, rules_of, starts, enters, followed, opened_by, argument_rules, declaration_rules, other_rules, process_rules, simple_rules, Part, ProgramPart, DeclarationsPart, DeclarationPart, ProcessPart, GroupsPart, GroupPart, VariablesPart, InstancePart, ArgumentsPart, ArgumentPart, ExpressionPart, OperatorsPart, StatementPart, SimplePart, GroupsTail, ArgumentsTail, TokenPart, LevelPart, levels, step, Refuses, TooFar, fate, Operator, Level, Or, operator_terminal, rank, Rung, whole, ors, denials, relations, sums, at, tighter, rung_of, Kind, kind_terminal, IsAbsent, Reads, Moves, Stops, Halts, ExpressionRead, StatementRead, IsStated, Begin, Close, If, Integer, Logical, NameClass, Not, NotWord, Process, Semicolon, SignClass, Word}
+use Rattle.kahn_syntax.proofs.Common.{AreProper, FitsLevel, FormSpans, expression_nesting, factors, form_tree, Action, StopsAs, head_parts, Then, Else, Do, On, End, ElseTail, StatementsTail, ◌≡◌, ◌≢◌, ℕ, ◌+◌, ◌≤◌, ◌<◌, List, [], ◌∷◌, ◌++◌, ◌⊎◌, ⊎_elim, length, true, false, cond, Some, None, Result, Ok, Err, true≢false, refl, sym, ap, ◌∙◌, subst, arith, append_assoc, Span, Class, Lexeme, MatchResult, Expression, Form, Covers, Statement, Stop, Refused, TooDeep, NoMemory, Terminal, word, terminal, terminals, First, RuleToken, accepts, leads, class_of, a_kind, a_name, a_number, a_sign, a_word, an_operator, either, rules_of, starts, enters, followed, opened_by, argument_rules, declaration_rules, other_rules, process_rules, simple_rules, Part, ProgramPart, DeclarationsPart, DeclarationPart, ProcessPart, GroupsPart, GroupPart, VariablesPart, InstancePart, ArgumentsPart, ArgumentPart, ExpressionPart, OperatorsPart, StatementPart, SimplePart, GroupsTail, ArgumentsTail, TokenPart, LevelPart, levels, step, Refuses, TooFar, fate, Operator, Level, Or, operator_terminal, rank, Rung, whole, ors, denials, relations, sums, at, tighter, rung_of, Kind, kind_terminal, IsAbsent, Reads, Moves, Stops, Halts, ExpressionRead, StatementRead, IsStated, Begin, Close, If, Integer, Logical, NameClass, Not, NotWord, Process, Semicolon, SignClass, Word}
 use Rattle.std.specs.Result.{IsErrAnd}
 use Rattle.kahn_syntax.proofs.{WholePrograms.take_kind, WholePrograms.skip_variables, Reached.go_far, Meaning.terminals_length}
 use Rattle.kahn_syntax.proofs.Steps.{go, runs, part, skips, refuses, passes, passes_one, follows, follows_some, starts_one, starts_followed, skip_level, skip_tail, take_token, IsChain, IsOther, open_chain, open_whole, open_denial, take_comparison, take_operator}
@@ -196,6 +196,21 @@ pub made : (text : List ℕ) (d : ℕ) (g : Rung) (f : Form) (i j : List Lexeme)
 made text d g f i j k r e rest h =
     unless_memory text d (ExpressionPart g ∷ []) i r _ _
     (λ x m. subst (ExpressionRead text d g (e x) i) (sym m.2) (subst (λ y. ExpressionRead text d g (record { span = (e x).span; form = y }) i j) (sym m.0) (k (e x).span m.1))) h
+
+-- an operand of one terminal
+pub made_one : (text : List ℕ) (d : ℕ) (f : Form) (k : Terminal) (i j : List Lexeme) {X : Type 0} (r : Result X Stop) (e : X → Expression) (rest : X → List Lexeme) →
+    MatchResult r (λ x. ((e x).form ≡ f) × Covers (e x).span i j × (rest x ≡ j)) (λ x. x ≡ NoMemory) → d ≤ 64 → FormSpans text f i j → FitsLevel 7 (form_tree f) → expression_nesting (form_tree f) ≡ 0 →
+    length i ≡ length j + 1 → AreProper text j → ((s : List Part) → step (ExpressionPart factors ∷ s) k ≡ Some s) → terminals text i ≡ k ∷ terminals text j →
+    MatchResult r (λ x. ExpressionRead text d factors (e x) i (rest x)) (Stops text d (ExpressionPart factors ∷ []) i)
+made_one text d f k i j r e rest h b spans fits flat l p takes words =
+    made text d factors f i j (λ at c. record {
+      spans = (c, spans);
+      formed = fits;
+      nesting = omega (arith, b, flat);
+      shorter = omega (arith, l);
+      proper = p;
+      reads = one text d (ExpressionPart factors) [] [] k i j (λ s m. omega (arith, m, b)) takes words;
+    }) r e rest h
 
 -- a statement that is made of what it does
 pub stated : (text : List ℕ) (d : ℕ) (p : Part) (a : Action) (i j : List Lexeme) → ((at : Span) → Covers at i j → StatementRead text d p (record { span = Some at; action = a }) i j) →

@@ -1,7 +1,7 @@
 //! The forms of lexemes: words, runs of digits and signs.
 
 ghost use Rattle.std.specs.Prelude.{◌≡◌, ℕ, ◌+◌, ◌≤◌, ◌<◌, ◌↔◌, ◌∷◌, [], IsTrue, length, slice_index, IfSome, IfNone};
-ghost use Rattle.kahn_syntax.specs.{declared.lexeme.Sign.Sign, inner.Items.IsOfForm, inner.Items.form_end};
+ghost use Rattle.kahn_syntax.specs.{declared.lexeme.Sign.Sign, inner.Items.IsFormByte, inner.Items.IsOfForm, inner.Items.form_end};
 ghost use Rattle.kahn_syntax.specs.Texts.{IsBlank, IsDigit, IsLetter, IsWordByte, IsSign, IsLongest, HasForm, Closes, bytes_of_sign};
 
 use crate::lexeme::Sign;
@@ -39,35 +39,24 @@ fn is_word_byte(b: u8) -> bool
     is_letter(b) || is_digit(b) || b == b'_'
 }
 
-/// Returns where the bytes of a word end.
-fn word_end(text: &[u8], from: usize) -> usize
+// Whether a word, or else a number, goes on with this byte.
+fn goes_on(word: bool, b: u8) -> bool
+    ensures { IsTrue result ↔ IsFormByte word b }
+{
+    if word { is_word_byte(b) } else { is_digit(b) }
+}
+
+/// Returns where the bytes of a word end, or else the digits of a number.
+fn bytes_end(text: &[u8], from: usize, word: bool) -> usize
     requires { from ≤ length text.now }
     ensures low { from ≤ result }
     ensures high { result ≤ length text.now }
-    ensures bytes { (i : ℕ) → from ≤ i → i < result → IsWordByte (slice_index text.now i) }
-    ensures end { result < length text.now → IsWordByte (slice_index text.now result) → ⊥ }
+    ensures bytes { (i : ℕ) → from ≤ i → i < result → IsFormByte word (slice_index text.now i) }
+    ensures end { result < length text.now → IsFormByte word (slice_index text.now result) → ⊥ }
 {
     let mut at = from;
     'bytes: while at < text.len() {
-        if !is_word_byte(text[at]) {
-            return at;
-        }
-        at += 1;
-    }
-    at
-}
-
-/// Returns where the digits of a number end.
-fn run_end(text: &[u8], from: usize) -> usize
-    requires { from ≤ length text.now }
-    ensures low { from ≤ result }
-    ensures high { result ≤ length text.now }
-    ensures bytes { (i : ℕ) → from ≤ i → i < result → IsDigit (slice_index text.now i) }
-    ensures end { result < length text.now → IsDigit (slice_index text.now result) → ⊥ }
-{
-    let mut at = from;
-    'digits: while at < text.len() {
-        if !is_digit(text[at]) {
+        if !goes_on(word, text[at]) {
             return at;
         }
         at += 1;
@@ -135,10 +124,10 @@ pub fn form_at(text: &[u8], from: usize) -> Option<LexemeForm>
 {
     let byte = text[from];
     if is_letter(byte) {
-        return Some(LexemeForm::Word(word_end(text, from + 1)));
+        return Some(LexemeForm::Word(bytes_end(text, from + 1, true)));
     }
     if is_digit(byte) {
-        return Some(LexemeForm::Run(run_end(text, from + 1)));
+        return Some(LexemeForm::Run(bytes_end(text, from + 1, false)));
     }
     let (sign, to) = sign_at(text, from)?;
     Some(LexemeForm::Sign(sign, to))

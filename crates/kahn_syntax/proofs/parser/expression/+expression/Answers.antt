@@ -1,4 +1,4 @@
-use Rattle.kahn_syntax.proofs.Parsing.{nothing, Close, Else, ExpressionPart, ExpressionRead, ExpressionSpans, False, FitsLevel, FormedOperands, If, IsUnsigned, LevelPart, Minus, NameClass, NotWord, Number, Open, OperandsSpan, OperatorsPart, SignClass, Takes, Then, TokenPart, True, Word, a_sign, a_word, ap, arith, at, call, call_stops, choice_parts, compared_fits, comparison, deep, denials, drop, stopped, expected, expression_nesting, expression_tree, factor_rules, factors, false, first_of, form_tree, formed_next, hidden-the_row-Operand-0, joined_made, joined_nesting, level_chain, level_ends, level_fits, made, name, name_of, no_operand, no_operands, number_fits, one, one_lexeme, only_memory, opened, opens_chain, opens_denial, opens_whole, operands_made, operands_nesting, operands_nesting_next, operands_next, operands_of, operands_row, operands_row_spans, operator_more, operator_terminal, ors, refl, refused, relations, rules, rung_of, sign, starts, subst, sums, sym, terminals, then, then_stops, tighter, to_z-of_z, unexpected, vec_len, w64, whole, word, [], ◌∙◌, ◌∷◌, ◌≡◌}
+use Rattle.kahn_syntax.proofs.Parsing.{made_one, nothing, Close, Else, ExpressionPart, ExpressionRead, ExpressionSpans, False, FitsLevel, FormedOperands, If, IsUnsigned, LevelPart, Minus, NameClass, NotWord, Number, Open, OperandsSpan, OperatorsPart, SignClass, Takes, Then, TokenPart, True, Word, a_sign, a_word, ap, arith, at, call, call_stops, choice_parts, compared_fits, comparison, deep, denials, drop, stopped, expected, expression_nesting, expression_tree, factor_rules, factors, false, first_of, form_tree, formed_next, hidden-the_row-Operand-0, joined_made, joined_nesting, level_chain, level_ends, level_fits, made, name, name_of, no_operand, no_operands, number_fits, one, one_lexeme, only_memory, opened, opens_chain, opens_denial, opens_whole, operands_made, operands_nesting, operands_nesting_next, operands_next, operands_of, operands_row, operands_row_spans, operator_more, operator_terminal, ors, refl, refused, relations, rules, rung_of, sign, starts, subst, sums, sym, terminals, then, then_stops, tighter, to_z-of_z, unexpected, vec_len, w64, whole, word, [], ◌∙◌, ◌∷◌, ◌≡◌}
 use Rattle.kahn_syntax.specs.Grammar.{numeral}
 use Rattle.std.specs.Prelude.{◌==◌, length, true}
 use Rattle.kahn_syntax.proofs.parser.expression.+expression.Goals as goal
@@ -293,45 +293,22 @@ read_level-returns t c =
 pub read_factor-returns-in-Some-Number-default : goal.read_factor-returns-in-Some-Number-default
 read_factor-returns-in-Some-Number-default t c =
     let T = c.args.text.now in
-    made T c.args.depth factors _ c.args.input.now c.in-Some-Number-default.rest.now (λ at h. record {
-      spans = let u = subst IsUnsigned c.in-Some-Number-default.field-0-0-is (c.in-Some-Number-default.ensures.unsigned T c.requires.1.1.1) in (
-        h,
-        subst (λ z. Takes T (numeral z) c.args.input.now c.in-Some-Number-default.rest.now) (sym (to_z-of_z w64 c.in-Some-Number-default.number (number_fits c.in-Some-Number-default.number u.0 u.1 u.2)))
-            (one_lexeme T (numeral c.in-Some-Number-default.number) c.args.input.now c.in-Some-Number-default.rest.now c.in-Some-Number-default.ensures.passed ((first_of _ (Number c.in-Some-Number-default.number) c.args.input.now c.in-Some-Number-default.rest.now c.in-Some-Number-default.field-0-0-is c.in-Some-Number-default.ensures.first.0).1 T)),
-      );
-      formed = (omega arith, tt);
-      nesting = omega (arith, c.requires.1.1.0);
-      shorter = omega (arith, c.in-Some-Number-default.ensures.first.1);
-      proper = c.in-Some-Number-default.ensures.proper T c.requires.1.1.1;
-      reads = one T c.args.depth (ExpressionPart factors) [] [] (numeral c.in-Some-Number-default.number) c.args.input.now c.in-Some-Number-default.rest.now (λ s l. omega (arith, l, c.requires.1.1.0)) (λ s. refl) ((first_of _ (Number c.in-Some-Number-default.number) c.args.input.now c.in-Some-Number-default.rest.now (c.in-Some-Number-default.field-0-0-is) c.in-Some-Number-default.ensures.first.0).1 T);
-    })
-    c.made.result (λ x. x.0.value) (λ x. x.1.now) c.made.ensures
+    let u = subst IsUnsigned c.in-Some-Number-default.field-0-0-is (c.in-Some-Number-default.ensures.unsigned T c.requires.1.1.1) in
+    made_one T c.args.depth _ (numeral c.in-Some-Number-default.number) c.args.input.now c.in-Some-Number-default.rest.now c.made.result (λ x. x.0.value) (λ x. x.1.now) c.made.ensures c.requires.1.1.0
+    (subst (λ z. Takes T (numeral z) c.args.input.now c.in-Some-Number-default.rest.now) (sym (to_z-of_z w64 c.in-Some-Number-default.number (number_fits c.in-Some-Number-default.number u.0 u.1 u.2))) (one_lexeme T (numeral c.in-Some-Number-default.number) c.args.input.now c.in-Some-Number-default.rest.now c.in-Some-Number-default.ensures.passed ((first_of _ (Number c.in-Some-Number-default.number) c.args.input.now c.in-Some-Number-default.rest.now c.in-Some-Number-default.field-0-0-is c.in-Some-Number-default.ensures.first.0).1 T)))
+    (omega arith, tt) refl c.in-Some-Number-default.ensures.first.1 (c.in-Some-Number-default.ensures.proper T c.requires.1.1.1) (λ s. refl) ((first_of _ (Number c.in-Some-Number-default.number) c.args.input.now c.in-Some-Number-default.rest.now c.in-Some-Number-default.field-0-0-is c.in-Some-Number-default.ensures.first.0).1 T)
 
 pub read_factor-returns-in-Some-Word-True-default : goal.read_factor-returns-in-Some-Word-True-default
 read_factor-returns-in-Some-Word-True-default t c =
     let T = c.args.text.now in
-    made T c.args.depth factors _ c.args.input.now c.in-Some-Word-True-default.rest.now (λ at h. record {
-      spans = (h, (one_lexeme T (word True) c.args.input.now c.in-Some-Word-True-default.rest.now c.in-Some-Word-True-default.ensures.passed ((first_of _ (Word True) c.args.input.now c.in-Some-Word-True-default.rest.now (c.in-Some-Word-True-default.field-0-0-is ∙ ap Word c.in-Some-Word-True-default.field-0-0-0-is) c.in-Some-Word-True-default.ensures.first.0).1 T)));
-      formed = (omega arith, tt);
-      nesting = omega (arith, c.requires.1.1.0);
-      shorter = omega (arith, c.in-Some-Word-True-default.ensures.first.1);
-      proper = c.in-Some-Word-True-default.ensures.proper T c.requires.1.1.1;
-      reads = one T c.args.depth (ExpressionPart factors) [] [] (word True) c.args.input.now c.in-Some-Word-True-default.rest.now (λ s l. omega (arith, l, c.requires.1.1.0)) (λ s. refl) ((first_of _ (Word True) c.args.input.now c.in-Some-Word-True-default.rest.now (c.in-Some-Word-True-default.field-0-0-is ∙ ap Word c.in-Some-Word-True-default.field-0-0-0-is) c.in-Some-Word-True-default.ensures.first.0).1 T);
-    })
-    c.made-in-Some-Word-True-default.result (λ x. x.0.value) (λ x. x.1.now) c.made-in-Some-Word-True-default.ensures
+    made_one T c.args.depth _ (word True) c.args.input.now c.in-Some-Word-True-default.rest.now c.made-in-Some-Word-True-default.result (λ x. x.0.value) (λ x. x.1.now) c.made-in-Some-Word-True-default.ensures c.requires.1.1.0
+    (one_lexeme T (word True) c.args.input.now c.in-Some-Word-True-default.rest.now c.in-Some-Word-True-default.ensures.passed ((first_of _ (Word True) c.args.input.now c.in-Some-Word-True-default.rest.now (c.in-Some-Word-True-default.field-0-0-is ∙ ap Word c.in-Some-Word-True-default.field-0-0-0-is) c.in-Some-Word-True-default.ensures.first.0).1 T)) (omega arith, tt) refl c.in-Some-Word-True-default.ensures.first.1 (c.in-Some-Word-True-default.ensures.proper T c.requires.1.1.1) (λ s. refl) ((first_of _ (Word True) c.args.input.now c.in-Some-Word-True-default.rest.now (c.in-Some-Word-True-default.field-0-0-is ∙ ap Word c.in-Some-Word-True-default.field-0-0-0-is) c.in-Some-Word-True-default.ensures.first.0).1 T)
 
 pub read_factor-returns-in-Some-Word-False-default : goal.read_factor-returns-in-Some-Word-False-default
 read_factor-returns-in-Some-Word-False-default t c =
     let T = c.args.text.now in
-    made T c.args.depth factors _ c.args.input.now c.in-Some-Word-False-default.rest.now (λ at h. record {
-      spans = (h, (one_lexeme T (word False) c.args.input.now c.in-Some-Word-False-default.rest.now c.in-Some-Word-False-default.ensures.passed ((first_of _ (Word False) c.args.input.now c.in-Some-Word-False-default.rest.now (c.in-Some-Word-False-default.field-0-0-is ∙ ap Word c.in-Some-Word-False-default.field-0-0-0-is) c.in-Some-Word-False-default.ensures.first.0).1 T)));
-      formed = (omega arith, tt);
-      nesting = omega (arith, c.requires.1.1.0);
-      shorter = omega (arith, c.in-Some-Word-False-default.ensures.first.1);
-      proper = c.in-Some-Word-False-default.ensures.proper T c.requires.1.1.1;
-      reads = one T c.args.depth (ExpressionPart factors) [] [] (word False) c.args.input.now c.in-Some-Word-False-default.rest.now (λ s l. omega (arith, l, c.requires.1.1.0)) (λ s. refl) ((first_of _ (Word False) c.args.input.now c.in-Some-Word-False-default.rest.now (c.in-Some-Word-False-default.field-0-0-is ∙ ap Word c.in-Some-Word-False-default.field-0-0-0-is) c.in-Some-Word-False-default.ensures.first.0).1 T);
-    })
-    c.made-in-Some-Word-False-default.result (λ x. x.0.value) (λ x. x.1.now) c.made-in-Some-Word-False-default.ensures
+    made_one T c.args.depth _ (word False) c.args.input.now c.in-Some-Word-False-default.rest.now c.made-in-Some-Word-False-default.result (λ x. x.0.value) (λ x. x.1.now) c.made-in-Some-Word-False-default.ensures c.requires.1.1.0
+    (one_lexeme T (word False) c.args.input.now c.in-Some-Word-False-default.rest.now c.in-Some-Word-False-default.ensures.passed ((first_of _ (Word False) c.args.input.now c.in-Some-Word-False-default.rest.now (c.in-Some-Word-False-default.field-0-0-is ∙ ap Word c.in-Some-Word-False-default.field-0-0-0-is) c.in-Some-Word-False-default.ensures.first.0).1 T)) (omega arith, tt) refl c.in-Some-Word-False-default.ensures.first.1 (c.in-Some-Word-False-default.ensures.proper T c.requires.1.1.1) (λ s. refl) ((first_of _ (Word False) c.args.input.now c.in-Some-Word-False-default.rest.now (c.in-Some-Word-False-default.field-0-0-is ∙ ap Word c.in-Some-Word-False-default.field-0-0-0-is) c.in-Some-Word-False-default.ensures.first.0).1 T)
 
 pub read_factor-returns-in_ok-operand-in-Some-Sign-Minus-default : goal.read_factor-returns-in_ok-operand-in-Some-Sign-Minus-default
 read_factor-returns-in_ok-operand-in-Some-Sign-Minus-default t c =
@@ -361,16 +338,8 @@ read_factor-returns-in_ok-rest-in-Some-Sign-Open-default t c =
 
 pub read_factor-returns-in_ok-name-in-Some-Name-default : goal.read_factor-returns-in_ok-name-in-Some-Name-default
 read_factor-returns-in_ok-name-in-Some-Name-default t c =
-    let T = c.args.text.now in
-    made T c.args.depth factors _ c.args.input.now c.in_ok-name-in-Some-Name-default.rest.now (λ at h. record {
-      spans = (h, c.in_ok-name-in-Some-Name-default.ensures.spans);
-      formed = (omega arith, tt);
-      nesting = omega (arith, c.requires.1.1.0);
-      shorter = omega (arith, c.in_ok-name-in-Some-Name-default.ensures.shorter);
-      proper = c.in_ok-name-in-Some-Name-default.ensures.proper;
-      reads = one T c.args.depth (ExpressionPart factors) [] [] (name (name_of c.in_ok-name-in-Some-Name-default.name)) c.args.input.now c.in_ok-name-in-Some-Name-default.rest.now (λ s l. omega (arith, l, c.requires.1.1.0)) (λ s. refl) c.in_ok-name-in-Some-Name-default.ensures.words;
-    })
-    c.made-in-Some-Name-default.result (λ x. x.0.value) (λ x. x.1.now) c.made-in-Some-Name-default.ensures
+    made_one c.args.text.now c.args.depth _ (name (name_of c.in_ok-name-in-Some-Name-default.name)) c.args.input.now c.in_ok-name-in-Some-Name-default.rest.now c.made-in-Some-Name-default.result (λ x. x.0.value) (λ x. x.1.now) c.made-in-Some-Name-default.ensures c.requires.1.1.0
+    c.in_ok-name-in-Some-Name-default.ensures.spans (omega arith, tt) refl c.in_ok-name-in-Some-Name-default.ensures.shorter c.in_ok-name-in-Some-Name-default.ensures.proper (λ s. refl) c.in_ok-name-in-Some-Name-default.ensures.words
 
 pub read_level-returns-in_err-push : goal.read_level-returns-in_err-push
 read_level-returns-in_err-push t c = stopped _ _ c.from_residual-in_err-push.result c.from_residual-in_err-push.ensures.1 (λ s l. tt)
