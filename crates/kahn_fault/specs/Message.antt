@@ -17,17 +17,13 @@ use Rattle.kahn_fault.specs.declared.work.WorkFault.TheVariants as work
 abbrev pub WritesCounted : {X E : Type 0} → Option (List ℕ) → Option (List ℕ) → Result X E → ℕ → ℕ → List ℕ → Type 0
 WritesCounted old new result before after line = Writes old new result line × (after ≤ before + length line)
 
--- a line of words alone
-abbrev pub words_line : List ℕ → List ℕ
-words_line words = concat (codes "kahn: " ∷ words ∷ codes "\n" ∷ [])
-
--- a line of two parts: words and a path
-abbrev pub two_line : List ℕ → List ℕ → List ℕ
-two_line first second = concat (codes "kahn: " ∷ first ∷ second ∷ codes "\n" ∷ [])
-
--- a line with a number between its words
+-- a line of words, of what stands between, and of more words
 abbrev pub between_line : List ℕ → List ℕ → List ℕ → List ℕ
 between_line before between after = concat (codes "kahn: " ∷ before ∷ between ∷ after ∷ codes "\n" ∷ [])
+
+-- a line of words alone
+abbrev pub words_line : List ℕ → List ℕ
+words_line words = between_line words [] []
 
 -- a line with two numbers before its words
 abbrev pub numbered_line : List ℕ → List ℕ → List ℕ → List ℕ
@@ -141,9 +137,9 @@ work_line program (work.Write fault) = words_line (codes "report could not be wr
 
 -- of a text that wasn't read, by its path and what is said if it is too long
 abbrev pub read_line : List ℕ → List ℕ → ReadFault → List ℕ
-read_line path long read.Failed = two_line (codes "cannot read ") path
+read_line path long read.Failed = between_line (codes "cannot read ") path []
 read_line path long read.TooLong = words_line long
-read_line path long read.NotUtf8 = two_line path (codes " is not UTF-8")
+read_line path long read.NotUtf8 = between_line path (codes " is not UTF-8") []
 read_line path long read.NoMemory = memory_line
 
 -- what a path is called
@@ -153,7 +149,7 @@ path_words None = codes "standard input"
 
 -- the line of a fault over a program text
 abbrev pub fault_text : List ℕ → Fault → List ℕ
-fault_text program (Open path) = two_line (codes "cannot read ") (string_bytes path)
+fault_text program (Open path) = between_line (codes "cannot read ") (string_bytes path) []
 fault_text program (Program path fault) = read_line (path_words path) (codes "program text is too long") fault
 fault_text program (InputText path fault) = read_line (string_bytes path) (codes "input text is too long") fault
 fault_text program (Work fault) = work_line program fault

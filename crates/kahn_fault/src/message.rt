@@ -3,7 +3,7 @@
 ghost use Rattle.std.specs.Prelude.{◌≡◌, ◌<◌, ◌≤◌, List, ℕ, length, decimal};
 ghost use Rattle.kahn_streams.specs.Written.{Writes};
 ghost use Rattle.kahn_texts.specs.Flushes.{FlushesOnce};
-ghost use Rattle.kahn_fault.specs.Message.{WritesCounted, numbered_line, words_line, two_line, between_line, place_line, placed_line, what_words, syntax_span, syntax_words, check_span, check_words, entry_line, text_line, run_line, work_line, read_line, path_words, fault_text};
+ghost use Rattle.kahn_fault.specs.Message.{WritesCounted, numbered_line, between_line, place_line, placed_line, what_words, syntax_span, syntax_words, check_span, check_words, entry_line, text_line, run_line, work_line, read_line, path_words, fault_text};
 ghost use Rattle.kahn_fault.specs.inner.Said.{said_line};
 
 use crate::fault::Fault;
@@ -20,44 +20,15 @@ use std::sync::ledger::{Blank, Ledger};
 /// What a line says.
 #[derive(Clone, Copy)]
 enum Says<'a> {
-    /// Words alone.
-    Words(&'a str),
-    /// Words and a path, or a path and words.
-    Two(&'a str, &'a str),
+    /// Words, and a path or nothing; or a path and words.
+    Words(&'a str, &'a str),
     /// A number between words.
     Numbered(&'static str, usize, &'static str),
     /// A place in the program text, if there is one, and words.
     Placed(Option<Span>, &'static str),
 }
 
-/// Writes a line of words alone.
-fn put_words<W: Write, L: Ledger>(
-    writer: &mut W,
-    words: &str,
-    writes: &mut Steps<L>,
-) -> Result<(), WriteFault>
-    ensures { WritesCounted (W.contents writer.old) (W.contents writer.new) result writes.old writes.new (words_line words.now) }
-{
-    put_line(writer, &[b"kahn: ", words.as_bytes(), b"\n"], writes)
-}
-
-/// Writes a line of two parts.
-fn put_two<'a, W: Write, L: Ledger>(
-    writer: &mut W,
-    first: &'a str,
-    second: &'a str,
-    writes: &mut Steps<L>,
-) -> Result<(), WriteFault>
-    ensures { WritesCounted (W.contents writer.old) (W.contents writer.new) result writes.old writes.new (two_line first.now second.now) }
-{
-    put_line(
-        writer,
-        &[b"kahn: ", first.as_bytes(), second.as_bytes(), b"\n"],
-        writes,
-    )
-}
-
-/// Writes a line with a number, or what is in its place, between its words.
+/// Writes a line of words, of what stands between, and of more words.
 fn put_between<'a, W: Write, L: Ledger>(
     writer: &mut W,
     before: &'a str,
@@ -154,7 +125,7 @@ fn put_placed<W: Write, L: Ledger>(
 {
     match place {
         Some(span) => put_byte(writer, program, span.from.min(program.len()), words, writes),
-        None => put_words(writer, words, writes),
+        None => put_between(writer, words, "", "", writes),
     }
 }
 
@@ -168,8 +139,7 @@ fn put_said<W: Write, L: Ledger>(
     ensures { WritesCounted (W.contents writer.old) (W.contents writer.new) result writes.old writes.new (said_line program.now said.entry) }
 {
     match said {
-        Says::Words(words) => put_words(writer, words, writes),
-        Says::Two(first, second) => put_two(writer, first, second, writes),
+        Says::Words(first, second) => put_between(writer, first, second, "", writes),
         Says::Numbered(before, number, after) => put_number(writer, before, number, after, writes),
         Says::Placed(place, words) => put_placed(writer, program, place, words, writes),
     }
@@ -269,7 +239,7 @@ fn entry_said(fault: InputFault) -> Says<'static>
         InputFault::GivenTwice(at) => Says::Numbered("input entry ", at, ": given twice"),
         InputFault::WrongKind(at) => Says::Numbered("input entry ", at, ": kind does not agree"),
         InputFault::TooMany(at) => Says::Numbered("input entry ", at, ": too many values"),
-        InputFault::NoMemory => Says::Words("no memory"),
+        InputFault::NoMemory => Says::Words("no memory", ""),
     }
 }
 
@@ -281,8 +251,8 @@ fn text_said(fault: TextFault) -> Says<'static>
         TextFault::BadLine(line) => Says::Numbered("input line ", line, ": not a name and a colon"),
         TextFault::BadValue(line) => Says::Numbered("input line ", line, ": not a value"),
         TextFault::Input(fault) => entry_said(fault),
-        TextFault::TooLong => Says::Words("input text is too long"),
-        TextFault::NoMemory => Says::Words("no memory"),
+        TextFault::TooLong => Says::Words("input text is too long", ""),
+        TextFault::NoMemory => Says::Words("no memory", ""),
     }
 }
 
@@ -291,11 +261,11 @@ fn run_said(fault: RunFault) -> Says<'static>
     ensures { (program : List ℕ) → said_line program result ≡ run_line fault }
 {
     match fault {
-        RunFault::BadConfig => Says::Words("configuration is out of range"),
-        RunFault::UnknownWatch => Says::Words("watched channel is not declared"),
-        RunFault::NoMemory => Says::Words("no memory"),
-        RunFault::NoThread => Says::Words("no thread"),
-        RunFault::Stalled => Says::Words("workers stalled"),
+        RunFault::BadConfig => Says::Words("configuration is out of range", ""),
+        RunFault::UnknownWatch => Says::Words("watched channel is not declared", ""),
+        RunFault::NoMemory => Says::Words("no memory", ""),
+        RunFault::NoThread => Says::Words("no thread", ""),
+        RunFault::Stalled => Says::Words("workers stalled", ""),
     }
 }
 
@@ -308,7 +278,7 @@ fn work_said(fault: WorkFault) -> Says<'static>
         WorkFault::Check(fault) => Says::Placed(check_span(fault), check_words(fault)),
         WorkFault::Text(fault) => text_said(fault),
         WorkFault::Run(fault) => run_said(fault),
-        WorkFault::Write(_) => Says::Words("report could not be written"),
+        WorkFault::Write(_) => Says::Words("report could not be written", ""),
     }
 }
 
@@ -317,10 +287,10 @@ fn read_said<'a>(path: &'a str, long: &'a str, fault: ReadFault) -> Says<'a>
     ensures { (program : List ℕ) → said_line program result ≡ read_line path.now long.now fault }
 {
     match fault {
-        ReadFault::Failed => Says::Two("cannot read ", path),
-        ReadFault::TooLong => Says::Words(long),
-        ReadFault::NotUtf8 => Says::Two(path, " is not UTF-8"),
-        ReadFault::NoMemory => Says::Words("no memory"),
+        ReadFault::Failed => Says::Words("cannot read ", path),
+        ReadFault::TooLong => Says::Words(long, ""),
+        ReadFault::NotUtf8 => Says::Words(path, " is not UTF-8"),
+        ReadFault::NoMemory => Says::Words("no memory", ""),
     }
 }
 
@@ -339,7 +309,7 @@ fn fault_said(fault: &Fault) -> Says<'_>
     ensures { (program : List ℕ) → said_line program result ≡ fault_text program fault.now }
 {
     match fault {
-        Fault::Open(path) => Says::Two("cannot read ", path.as_str()),
+        Fault::Open(path) => Says::Words("cannot read ", path.as_str()),
         Fault::Program(path, fault) => {
             read_said(path_words(path), "program text is too long", *fault)
         }

@@ -43,9 +43,17 @@ kahn_app =
     (number_rule (codes "bound") 0 281474976710655 (codes "1000000")))
     (text_rule (codes "watch"))
 
--- the text that the words give for a name
-abbrev pub text_of : List Text → Text → Option Text
-text_of words name = first_of name (matches_of kahn_app words)
+-- the text that the words give for a name, by the rules of a program
+abbrev pub text_of : App → List Text → Text → Option Text
+text_of app words name = first_of name (matches_of app words)
+
+-- whether they give one
+abbrev pub is_flagged : App → List Text → Text → Bool
+is_flagged app words name = was_given (text_of app words name)
+
+-- the path that they give for a name
+abbrev pub file_of : App → List Text → Text → Option Text
+file_of app words name = option_map file_named (text_of app words name)
 
 -- a number as it is written, and `other` if none is
 abbrev pub number_or : ℕ → Option Text → ℕ
@@ -53,18 +61,22 @@ number_or other None = other
 number_or other (Some text) = digits_value 10 (without_leading_plus text)
 
 -- the number that the words give for a name
-abbrev pub number_for : List Text → Text → ℕ → ℕ
-number_for words name other = number_or other (one_of name (matches_of kahn_app words))
+abbrev pub number_for : App → List Text → Text → ℕ → ℕ
+number_for app words name other = number_or other (one_of name (matches_of app words))
 
--- the options are those that the words name, and their numbers are within their limits
+-- a run is set up as the words say, and its numbers are within their limits; where no option has the name `watch`, no channel is watched
+pub record IsSetBy (app : App) (words : List Text) (c : Config) : Type 0 where
+  pub watch : option_map string_bytes c.watch ≡ text_of app words (codes "watch")
+  pub workers : c.workers ≡ number_for app words (codes "workers") 4
+  pub quantum : c.quantum ≡ number_for app words (codes "quantum") 1000
+  pub bound : c.bound ≡ number_for app words (codes "bound") 1000000
+  pub in_range : IsInRange c.workers c.quantum c.bound
+
+-- the options are those that the words name
 pub record IsAsked (words : List Text) (o : Options) : Type 0 where
-  pub program : option_map string_bytes o.program ≡ text_of words (codes "PROGRAM")
-  pub input : option_map string_bytes o.input ≡ text_of words (codes "input")
-  pub watch : option_map string_bytes o.config.watch ≡ text_of words (codes "watch")
-  pub workers : o.config.workers ≡ number_for words (codes "workers") 4
-  pub quantum : o.config.quantum ≡ number_for words (codes "quantum") 1000
-  pub bound : o.config.bound ≡ number_for words (codes "bound") 1000000
-  pub in_range : IsInRange o.config.workers o.config.quantum o.config.bound
+  pub program : option_map string_bytes o.program ≡ text_of kahn_app words (codes "PROGRAM")
+  pub input : option_map string_bytes o.input ≡ text_of kahn_app words (codes "input")
+  pub config : IsSetBy kahn_app words o.config
 
 -- the number that a text is read as, if it is one of 64 bits; `other` if there is no text
 abbrev pub ReadsOr : ℕ → Option Text → ℕ → Type 0
@@ -83,7 +95,7 @@ abbrev pub IsTold : Error → LineFault → Type 0
 IsTold e fault = ((kind_of e ≡ OutOfMemory) × (fault ≡ NoMemory)) ⊎ ((kind_of e ≢ OutOfMemory) × (fault ≡ Refused e))
 
 -- what the words ask for; or what is at fault in them, such as `--help` and `--version`; or refused memory
-abbrev pub IsRead : List Text → Result Options LineFault → Type 0
-IsRead words (Ok o) = IsAsked words o × (fault_of kahn_app words ≡ [])
-IsRead words (Err (Refused e)) = IsAmong (kind_of e) (fault_of kahn_app words)
-IsRead words (Err NoMemory) = ⊤
+abbrev pub IsRead : {O : Type 0} → App → (List Text → O → Type 0) → List Text → Result O LineFault → Type 0
+IsRead app Asks words (Ok o) = Asks words o × (fault_of app words ≡ [])
+IsRead app Asks words (Err (Refused e)) = IsAmong (kind_of e) (fault_of app words)
+IsRead app Asks words (Err NoMemory) = ⊤

@@ -2,7 +2,7 @@
 
 ghost use Rattle.std.specs.Prelude.{◌≡◌, IfOk, map};
 ghost use Rattle.clap.specs.Words.{app_of};
-ghost use Rattle.kahn_line.specs.Draw.{draw_app, IsDrawRead};
+ghost use Rattle.kahn_line.specs.{Draw.IsDraw, Draw.draw_app, Line.IsRead};
 
 use crate::line::{LineFault, bare, bound_arg, file_copied, input_arg, number_or, program_arg};
 use clap::Command;
@@ -58,7 +58,7 @@ fn draw_command<'a>(alloc: Global) -> Result<Command<'a>, AllocError>
 /// Reads the words of a command line, the first of which is the name of the program. Fails with `Refused` if clap
 /// refuses the words or they ask for the help or the version, and with `NoMemory` if memory was refused.
 pub fn read_draw_line<'a, S: AsStr>(alloc: Global, words: &'a [S]) -> Result<DrawOptions, LineFault>
-    ensures { IsDrawRead (map S.text words.now) result }
+    ensures { IsRead draw_app IsDraw (map S.text words.now) result }
 {
     let matches = draw_command(alloc)?.try_get_matches_from(words)?;
     Ok(DrawOptions {

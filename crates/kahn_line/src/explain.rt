@@ -2,7 +2,7 @@
 
 ghost use Rattle.std.specs.Prelude.{◌≡◌, IfOk, map};
 ghost use Rattle.clap.specs.Words.{app_of};
-ghost use Rattle.kahn_line.specs.Explain.{explain_app, IsExplainRead};
+ghost use Rattle.kahn_line.specs.{Explain.IsExplain, Explain.explain_app, Line.IsRead};
 
 use crate::line::{
     LineFault, bare, bound_arg, config_of, copied, file_copied, flag_arg, input_arg, program_arg,
@@ -173,7 +173,7 @@ pub fn read_explain_line<'a, S: AsStr>(
     alloc: Global,
     words: &'a [S],
 ) -> Result<ExplainOptions, LineFault>
-    ensures { IsExplainRead (map S.text words.now) result }
+    ensures { IsRead explain_app IsExplain (map S.text words.now) result }
 {
     let matches = explain_command(alloc)?.try_get_matches_from(words)?;
     Ok(ExplainOptions {

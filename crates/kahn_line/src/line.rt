@@ -2,7 +2,7 @@
 
 ghost use Rattle.std.specs.Prelude.{◌≡◌, IfOk, codes, false, map, option_map, string_bytes};
 ghost use Rattle.clap.specs.Words.{app_of, first_value, found_of, new_rule, one_text, rule_of};
-ghost use Rattle.kahn_line.specs.Line.{bare_app, file_named, flag_rule, was_given, kahn_app, number_rule, text_rule, IsRead, IsSet, IsTold, ReadsOr};
+ghost use Rattle.kahn_line.specs.Line.{bare_app, file_named, flag_rule, was_given, kahn_app, number_rule, text_rule, IsAsked, IsRead, IsSet, IsTold, ReadsOr};
 ghost use Rattle.kahn_line.specs.declared.line.LineFault.TheVariants.{NoMemory};
 
 use clap::builder::ValueParser;
@@ -293,7 +293,7 @@ pub(crate) fn config_of(
 /// Reads the words of a command line, the first of which is the name of the program. Fails with `Refused` if clap
 /// refuses the words or they ask for the help or the version, and with `NoMemory` if memory was refused.
 pub fn read_line<'a, S: AsStr>(alloc: Global, words: &'a [S]) -> Result<Options, LineFault>
-    ensures { IsRead (map S.text words.now) result }
+    ensures { IsRead kahn_app IsAsked (map S.text words.now) result }
 {
     let matches = command(alloc)?.try_get_matches_from(words)?;
     Ok(Options {

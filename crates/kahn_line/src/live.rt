@@ -2,7 +2,7 @@
 
 ghost use Rattle.std.specs.Prelude.{◌≡◌, IfOk, codes, false, map, string_bytes};
 ghost use Rattle.clap.specs.Words.{app_of, found_of, rule_of};
-ghost use Rattle.kahn_line.specs.{Parts.found_texts, Parts.input_named, Parts.set_line, Live.at_end_rule, Live.live_app, Live.IsLiveRead};
+ghost use Rattle.kahn_line.specs.{Line.IsRead, Live.IsLive, Live.at_end_rule, Live.live_app, Parts.found_texts, Parts.input_named, Parts.joined_words, Parts.set_line};
 
 use crate::line::{
     LineFault, bare, config_of, file_copied, flag_arg, number_arg, quantum_arg, text_arg,
@@ -152,7 +152,7 @@ fn lines_at_end(
 /// words, which have to name a program text, or they ask for the help or the version, and with `NoMemory` if memory was
 /// refused.
 pub fn read_live_line<'a, S: AsStr>(alloc: Global, words: &'a [S]) -> Result<LiveOptions, LineFault>
-    ensures { IsLiveRead (map S.text words.now) result }
+    ensures { IsRead live_app IsLive (joined_words (map S.text words.now)) result }
 {
     let words = joined_words(alloc, words)?;
     let matches = live_command(alloc)?.try_get_matches_from(words.as_slice())?;

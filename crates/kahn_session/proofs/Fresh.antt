@@ -1,5 +1,7 @@
 -- What is new on the streams, one after another.
-use Rattle.kahn_session.proofs.Common.{arith, ◌≡◌, ◌∙◌, ℕ, zero, suc, ◌+◌, ◌-◌, ◌<◌, ◌≤◌, append-nil, List, [], ◌∷◌, ◌++◌, length, map, drop, get_or, add-one, append_assoc, refl, sym, ap, subst, Some, slice_get, slice_index_or, AllByRecursion, Program, Line, Value, Token, token_value, HeldRun, so_far, AreNew, Flowing, flow_lines, more_text, news_text, IsLine, values_behind, AreStale, slice_get-get_or}
+use Rattle.kahn_session.proofs.Common.{[], arith, ◌≡◌, ◌∙◌, ℕ, zero, suc, ◌+◌, ◌-◌, ◌<◌, ◌≤◌, append-nil, List, ◌∷◌, ◌++◌, length, map, drop, get_or, add-one, append_assoc, refl, sym, ap, subst, Some, slice_get, slice_index_or, Program, Line, Value, Token, token_value, HeldRun, so_far, AreNew, Flowing, flow_lines, more_text, news_text, IsLine, values_behind, AreStale, slice_get-get_or}
+use Rattle.std.proofs.Math.Seq.{drop-append_seam, drop-nil}
+use Rattle.kahn_streams.proofs.By_number.{all_at}
 use Rattle.kahn_texts.proofs.Answer_lines.{streamed_lines}
 
 -- what is new on one stream
@@ -10,17 +12,13 @@ news_line program h counts i c = more_text program c (drop (slice_index_or count
 abbrev pub rest_text : Program → HeldRun → List Line → List ℕ → ℕ → List ℕ
 rest_text program h lines counts i = news_text program (drop i lines) (values_behind h (drop i lines) (drop i counts))
 
-drop_none : (n : ℕ) → drop {A = ℕ} n [] ≡ []
-drop_none zero = refl
-drop_none (suc n) = refl
-
 split : (program : Program) (h : HeldRun) (lines : List Line) (counts : List ℕ) (i : ℕ) (d : Line) → i < length lines →
     rest_text program h lines counts i ≡ news_line program h counts i (get_or lines i d) ++ rest_text program h lines counts (suc i)
 split program h [] counts i d below = absurd (omega (arith, below))
 split program h (c ∷ lines) [] zero d below = refl
 split program h (c ∷ lines) (n ∷ counts) zero d below = refl
 split program h (c ∷ lines) [] (suc i) d below =
-    ap (λ l. news_text program (drop i lines) (values_behind h (drop i lines) l)) (sym (drop_none i)) ∙ split program h lines [] i d (omega (arith, below))
+    ap (λ l. news_text program (drop i lines) (values_behind h (drop i lines) l)) (sym (drop-nil i)) ∙ split program h lines [] i d (omega (arith, below))
 split program h (c ∷ lines) (n ∷ counts) (suc i) d below = split program h lines counts i d (omega (arith, below))
 
 -- the line of the stream at i, and those that follow
@@ -40,16 +38,12 @@ news_moved program h lines counts i d all done below e =
 -- the values behind what was let go of a stream
 pub behind_out : (f : Flowing) (i : ℕ) (c : Line) (news : List Value) → so_far f.run c ≡ slice_index_or f.out i [] ++ news → drop (slice_index_or (map length f.out) i 0) (so_far f.run c) ≡ news
 behind_out f i c news e =
-    ap (λ vs. drop (slice_index_or (map length f.out) i 0) vs) e ∙ ap (λ n. drop n (slice_index_or f.out i [] ++ news)) (counted f.out i) ∙ behind (slice_index_or f.out i []) news
+    ap (λ vs. drop (slice_index_or (map length f.out) i 0) vs) e ∙ ap (λ n. drop n (slice_index_or f.out i [] ++ news)) (counted f.out i) ∙ drop-append_seam (slice_index_or f.out i []) news
   where
     counted : (outs : List (List Value)) (i : ℕ) → slice_index_or (map length outs) i 0 ≡ length (slice_index_or outs i [])
     counted [] i = refl
     counted (vs ∷ outs) zero = refl
     counted (vs ∷ outs) (suc i) = counted outs i
-
-    behind : (vs zs : List Value) → drop (length vs) (vs ++ zs) ≡ zs
-    behind [] zs = refl
-    behind (v ∷ vs) zs = behind vs zs
 
 -- are those of the tokens that are new of it
 pub values_new : (f : Flowing) (i : ℕ) (c : Line) (ts : List Token) → slice_get (flow_lines f.run) i ≡ Some c → AreNew f c ts →
@@ -80,7 +74,7 @@ stale_up program f lines d is from to le few stale =
 
 pub nothing_left : (program : Program) (h : HeldRun) (lines : List Line) (counts : List ℕ) → rest_text program h lines counts (length lines) ≡ []
 nothing_left program h [] counts = refl
-nothing_left program h (c ∷ lines) [] = ap (λ l. news_text program (drop (length lines) lines) (values_behind h (drop (length lines) lines) l)) (sym (drop_none (length lines))) ∙ nothing_left program h lines []
+nothing_left program h (c ∷ lines) [] = ap (λ l. news_text program (drop (length lines) lines) (values_behind h (drop (length lines) lines) l)) (sym (drop-nil (length lines))) ∙ nothing_left program h lines []
 nothing_left program h (c ∷ lines) (n ∷ counts) = nothing_left program h lines counts
 
 pub tokens_new : (program : Program) (f : Flowing) (i : ℕ) (c : Line) (ts : List Token) → slice_get (flow_lines f.run) i ≡ Some c → AreNew f c ts →
@@ -101,14 +95,6 @@ news_past h [] counts i past = refl
 news_past h (c ∷ lines) counts zero past = absurd (omega (arith, past))
 news_past h (c ∷ lines) [] (suc i) past = news_past h lines [] i (omega (arith, past))
 news_past h (c ∷ lines) (n ∷ counts) (suc i) past = news_past h lines counts i (omega (arith, past))
-
-all_at : {A : Type 0} (P : A → Type 0) (xs : List A) (i : ℕ) (x : A) → AllByRecursion P xs → slice_get xs i ≡ Some x → P x
-all_at P [] i x h e = absurd cc
-all_at P (y ∷ xs) zero x h e = subst P (same e) h.0
-  where
-    same : Some y ≡ Some x → y ≡ x
-    same f = cc
-all_at P (y ∷ xs) (suc i) x h e = all_at P xs i x h.1 e
 
 -- a line of a stream is one of the network
 pub is_line : (t : Program) (h : HeldRun) (i : ℕ) (c : Line) → h.network ≡ t → slice_get (flow_lines h) i ≡ Some c → IsLine t c

@@ -1,29 +1,19 @@
 -- The line of a channel of some name, looked for from the first one on.
-use Rattle.kahn_session.proofs.Common.{Bool, true, false, ◌≡◌, ℕ, zero, suc, ◌+◌, ◌<◌, ◌≤◌, List, [], ◌∷◌, length, Some, ⊎_elim, ap, subst, sym, ◌∙◌, arith, refl, MatchOption, slice_get, slice_index_or, same_Some, Program, Line, channel_names, network_of, role_at, IsNamedAt, IsNamedLine, IsNoOther, is_other_input}
+use Rattle.kahn_session.proofs.Common.{[], Bool, true, false, ◌≡◌, ℕ, zero, suc, ◌+◌, ◌<◌, ◌≤◌, List, ◌∷◌, length, Some, ⊎_elim, ap, subst, sym, ◌∙◌, arith, refl, MatchOption, slice_get, slice_index_or, same_Some, Program, Line, channel_names, network_of, role_at, IsNamedAt, IsNamedLine, IsNoOther, is_other_input}
 use Rattle.std.specs.Prelude.{Option}
-use Rattle.std.proofs.lemmas.Bool.{cases_lt}
+use Rattle.std.proofs.{Common.true≢false, lemmas.Bool.cases_lt, lemmas.Option.slice_get_within}
 
 pub there : (lines : List Line) (n : ℕ) (d : Line) → n < length lines → slice_get lines n ≡ Some (slice_index_or lines n d)
 there [] n d below = absurd (omega (arith, below))
 there (x ∷ lines) zero d below = refl
 there (x ∷ lines) (suc n) d below = there lines n d (omega (arith, below))
 
-past_none : (lines : List Line) (n : ℕ) (x : Line) → slice_get lines n ≡ Some x → n < length lines
-past_none [] zero x h = cc
-past_none [] (suc n) x h = cc
-past_none (y ∷ lines) zero x h = omega arith
-past_none (y ∷ lines) (suc n) x h = let i : n < length lines = past_none lines n x h in omega (arith, i)
-
-not_both : (b : Bool) → b ≡ true → b ≡ false → ⊥
-not_both true e f = cc
-not_both false e f = cc
-
 -- none up to one that isn't
 pub further : (t : Program) (lines : List Line) (name : List ℕ) (n : ℕ) (d : Line) (is : Bool) → n < length lines →
     (IsNamedLine t (slice_index_or lines n d) name → is ≡ true) → is ≡ false →
     ((j : ℕ) → j < n → IsNamedAt t lines j name → ⊥) → (j : ℕ) → j < n + 1 → IsNamedAt t lines j name → ⊥
 further t lines name n d is below told other before j next (line, at, named) =
-    ⊎_elim (λ lt. before j lt (line, at, named)) (λ le. not_both is (told (subst (λ c. IsNamedLine t c name) (here (omega (arith, next, le))) named)) other) (cases_lt j n)
+    ⊎_elim (λ lt. before j lt (line, at, named)) (λ le. true≢false (sym (told (subst (λ c. IsNamedLine t c name) (here (omega (arith, next, le))) named)) ∙ other)) (cases_lt j n)
   where
     here : j ≡ n → line ≡ slice_index_or lines n d
     here e = same_Some line (slice_index_or lines n d) (sym at ∙ subst (λ k. slice_get lines k ≡ Some (slice_index_or lines n d)) (sym e) (there lines n d below))
@@ -31,7 +21,7 @@ further t lines name n d is below told other before j next (line, at, named) =
 -- none at all
 pub nowhere : (t : Program) (lines : List Line) (name : List ℕ) (n : ℕ) → length lines ≤ n → ((j : ℕ) → j < n → IsNamedAt t lines j name → ⊥) →
     (j : ℕ) → IsNamedAt t lines j name → ⊥
-nowhere t lines name n all none j (line, at, named) = none j (omega (arith, all, past_none lines j line at)) (line, at, named)
+nowhere t lines name n all none j (line, at, named) = none j (omega (arith, all, slice_get_within lines j line at)) (line, at, named)
 
 -- what a search among the lines of a program found is so of the same lines of the same program
 abbrev pub Found : Program → List Line → List ℕ → Option ℕ → Type 0

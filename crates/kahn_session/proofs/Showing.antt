@@ -1,5 +1,6 @@
 -- What went out of the streams begins what they have later, so what is new stands behind it.
-use Rattle.kahn_session.proofs.Common.{arith, ◌≡◌, ◌∙◌, ◌⊎◌, inl, inr, ℕ, zero, suc, ◌+◌, ◌<◌, ◌≤◌, Bool, true, false, append-nil, subst, List, [], ◌∷◌, ◌++◌, length, map, drop, Some, refl, sym, ap, ap₂, slice_get, slice_index_or, same_Some, network_of, Value, Line, GoesOn, HeldRun, so_far, AreNew, Flowing, flow_lines, token_value, Token, joined, HasLetGoAt, let_go_but, news_of, values_behind, waiting_from, next_of, Pace, OutBegins}
+use Rattle.kahn_session.proofs.Common.{[], arith, ◌≡◌, ◌∙◌, ◌⊎◌, inl, inr, ℕ, zero, suc, ◌+◌, ◌<◌, ◌≤◌, Bool, true, false, append-nil, subst, List, ◌∷◌, ◌++◌, length, map, drop, Some, refl, sym, ap, ap₂, slice_get, slice_index_or, same_Some, network_of, Value, Line, GoesOn, HeldRun, so_far, AreNew, Flowing, flow_lines, token_value, Token, joined, HasLetGoAt, let_go_but, news_of, values_behind, waiting_from, next_of, Pace, OutBegins}
+use Rattle.std.proofs.{Math.Seq.drop-append_seam, lemmas.Option.slice_get_within}
 use Rattle.kahn_streams.specs.Answers.{stream_lines}
 
 -- both have the same lines
@@ -8,10 +9,6 @@ lines_stay a b g = ap (λ t. stream_lines (network_of t) b.watch) g.network ∙ 
 
 pub kept_lines : (a b : HeldRun) (lines : List Line) → lines ≡ flow_lines a → GoesOn a b → lines ≡ flow_lines b
 kept_lines a b lines e g = e ∙ sym (lines_stay a b g)
-
-behind : (vs zs : List Value) → drop (length vs) (vs ++ zs) ≡ zs
-behind [] zs = refl
-behind (v ∷ vs) zs = behind vs zs
 
 put_together : (h : HeldRun) (lines : List Line) (outs : List (List Value))
     → ((j : ℕ) (c : Line) → slice_get lines j ≡ Some c → (news : List Value) × (so_far h c ≡ slice_index_or outs j [] ++ news))
@@ -22,7 +19,7 @@ put_together h (c ∷ lines) [] each = ap (λ l. so_far h c ∷ l) (put_together
 put_together h (c ∷ lines) (vs ∷ outs) each =
     let (news, e) = each 0 c refl in
     ap₂ (λ (x : List Value) (l : List (List Value)). x ∷ l)
-    (ap (λ ws. vs ++ drop (length vs) ws) e ∙ ap (λ ws. vs ++ ws) (behind vs news) ∙ sym e)
+    (ap (λ ws. vs ++ drop (length vs) ws) e ∙ ap (λ ws. vs ++ ws) (drop-append_seam vs news) ∙ sym e)
     (put_together h lines outs (λ j. each (suc j)))
 
 -- what went out and the news are the streams so far
@@ -49,15 +46,7 @@ begun_next f lines i line ts is here new before j c below there = by (before_or_
 
 -- all streams are among those so far
 pub within_lines : (lines : List Line) (j : ℕ) (c : Line) (i : ℕ) → slice_get lines j ≡ Some c → length lines ≤ i → j < i
-within_lines lines j c i there past = by (below lines j there)
-  where
-    below : (l : List Line) (j : ℕ) → slice_get l j ≡ Some c → j < length l
-    below [] j e = absurd cc
-    below (x ∷ l) zero e = omega arith
-    below (x ∷ l) (suc j) e = let h = below l j e in omega (arith, h)
-
-    by : j < length lines → j < i
-    by l = omega (arith, l, past)
+within_lines lines j c i there past = let below = slice_get_within lines j c there in omega (arith, below, past)
 
 -- the member of the same place
 pub mapped : (f : Line → List Value) (ls : List Line) (j : ℕ) (c : Line) → slice_get ls j ≡ Some c → slice_index_or (map f ls) j [] ≡ f c

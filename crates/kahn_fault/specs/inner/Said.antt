@@ -1,10 +1,9 @@
 -- Inner. The line that says something.
-use Rattle.std.specs.Prelude.{ℕ, List, decimal}
-use Rattle.kahn_fault.specs.{Message.between_line, Message.placed_line, Message.two_line, Message.words_line, declared.message.Says.Says}
+use Rattle.std.specs.Prelude.{ℕ, List, [], decimal}
+use Rattle.kahn_fault.specs.{Message.between_line, Message.placed_line, declared.message.Says.Says}
 use Rattle.kahn_fault.specs.declared.message.Says.TheVariants as said
 
 abbrev pub said_line : List ℕ → Says → List ℕ
-said_line program (said.Words words) = words_line words.now
-said_line program (said.Two first second) = two_line first.now second.now
+said_line program (said.Words first second) = between_line first.now second.now []
 said_line program (said.Numbered before n after) = between_line before.now (decimal n) after.now
 said_line program (said.Placed at words) = placed_line program at words.now

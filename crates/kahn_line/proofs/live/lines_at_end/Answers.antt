@@ -1,4 +1,4 @@
-use Rattle.kahn_line.proofs.Common.{◌∙◌, [], ap, codes, map, sym, option_copied, string_bytes, unwrap_or, IfOk-weaker, input_named, set_line}
+use Rattle.kahn_line.proofs.Common.{[], ◌∙◌, ap, codes, map, sym, option_copied, string_bytes, unwrap_or, IfOk-weaker, input_named, set_line}
 use Rattle.clap.specs.Words.{found_of}
 use Rattle.kahn_line.proofs.Live_asked.{found_lent, lent_texts, lines_lent}
 use Rattle.kahn_line.proofs.live.lines_at_end.Goals as goal
