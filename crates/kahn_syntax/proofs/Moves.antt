@@ -1,6 +1,7 @@
 -- How the parts that are open go on, over what the parser reads.
 use Rattle.kahn_syntax.proofs.Common.{AreProper, FitsLevel, FormSpans, expression_nesting, factors, form_tree, Action, StopsAs, head_parts, Then, Else, Do, On, End, ElseTail, StatementsTail, ◌≡◌, ◌≢◌, ℕ, ◌+◌, ◌≤◌, ◌<◌, List, [], ◌∷◌, ◌++◌, ◌⊎◌, ⊎_elim, length, true, false, cond, Some, None, Result, Ok, Err, true≢false, refl, sym, ap, ◌∙◌, subst, arith, append_assoc, Span, Class, Lexeme, MatchResult, Expression, Form, Covers, Statement, Stop, Refused, TooDeep, NoMemory, Terminal, word, terminal, terminals, First, RuleToken, accepts, leads, class_of, a_kind, a_name, a_number, a_sign, a_word, an_operator, either, rules_of, starts, enters, followed, opened_by, argument_rules, declaration_rules, other_rules, process_rules, simple_rules, Part, ProgramPart, DeclarationsPart, DeclarationPart, ProcessPart, GroupsPart, GroupPart, VariablesPart, InstancePart, ArgumentsPart, ArgumentPart, ExpressionPart, OperatorsPart, StatementPart, SimplePart, GroupsTail, ArgumentsTail, TokenPart, LevelPart, levels, step, Refuses, TooFar, fate, Operator, Level, Or, operator_terminal, rank, Rung, whole, ors, denials, relations, sums, at, tighter, rung_of, Kind, kind_terminal, IsAbsent, Reads, Moves, Stops, Halts, ExpressionRead, StatementRead, IsStated, Begin, Close, If, Integer, Logical, NameClass, Not, NotWord, Process, Semicolon, SignClass, Word}
 use Rattle.std.specs.Result.{IsErrAnd}
+use Rattle.kahn_syntax.specs.inner.Reads.{PartRead}
 use Rattle.kahn_syntax.proofs.{WholePrograms.take_kind, WholePrograms.skip_variables, Reached.go_far, Meaning.terminals_length}
 use Rattle.kahn_syntax.proofs.Steps.{go, runs, part, skips, refuses, passes, passes_one, follows, follows_some, starts_one, starts_followed, skip_level, skip_tail, take_token, IsChain, IsOther, open_chain, open_whole, open_denial, take_comparison, take_operator}
 
@@ -211,6 +212,12 @@ made_one text d f k i j r e rest h b spans fits flat l p takes words =
       proper = p;
       reads = one text d (ExpressionPart factors) [] [] k i j (λ s m. omega (arith, m, b)) takes words;
     }) r e rest h
+
+-- an argument of one terminal
+pub one_argument : (text : List ℕ) (S : List Lexeme → List Lexeme → Type 0) (k : Terminal) (i j : List Lexeme) → S i j → length i ≡ length j + 1 → AreProper text j →
+    ((s : List Part) → step (ArgumentPart ∷ s) k ≡ Some s) → terminals text i ≡ k ∷ terminals text j → PartRead text (ArgumentPart ∷ []) S i j
+one_argument text S k i j spans l p takes words =
+    record { spans = spans; shorter = omega (arith, l); proper = p; reads = one text 0 ArgumentPart [] [] k i j (λ s m. omega (arith, m)) takes words }
 
 -- a statement that is made of what it does
 pub stated : (text : List ℕ) (d : ℕ) (p : Part) (a : Action) (i j : List Lexeme) → ((at : Span) → Covers at i j → StatementRead text d p (record { span = Some at; action = a }) i j) →

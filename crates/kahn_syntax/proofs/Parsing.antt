@@ -3,7 +3,7 @@ pub use Rattle.kahn_syntax.proofs.Common.{declarations_nesting, TakesAll, Parame
 pub use Rattle.kahn_syntax.proofs.Levels.{compared_fits, formed_next, height, joined_made, joined_nesting, level_fits, operands_nesting_next}
 pub use Rattle.kahn_syntax.proofs.Lists.{first_of, next_made, next_passed, next_proper, next_unsigned}
 pub use Rattle.kahn_syntax.proofs.Meaning.{deep_left, deep_memory, halts_memory, is_more, is_nothing, is_other, is_too_deep, refused_left, refused_memory}
-pub use Rattle.kahn_syntax.proofs.Moves.{absent, call, call_stops, choice_parts, comparison, conditional_parts, declarations_end, deep, ends, expected, goes, groups_end, halts, kind_moves, last_member, level_chain, level_ends, made, made_one, memory_alone, next_member, no_group, no_instance, no_name, no_process, no_program, nothing, one, only_memory, opened, opened_simple, opens_arguments, opens_chain, opens_declarations, opens_denial, opens_groups, opens_process, opens_simple, opens_whole, operator_more, process_parts, refused, send_parts, stated, stopped, then, then_stops, token, unexpected, variables_end, while_parts, whole_end}
+pub use Rattle.kahn_syntax.proofs.Moves.{absent, call, call_stops, choice_parts, comparison, conditional_parts, declarations_end, deep, ends, expected, goes, groups_end, halts, kind_moves, last_member, level_chain, level_ends, made, made_one, memory_alone, next_member, no_group, no_instance, no_name, no_process, no_program, nothing, one, one_argument, only_memory, opened, opened_simple, opens_arguments, opens_chain, opens_declarations, opens_denial, opens_groups, opens_process, opens_simple, opens_whole, operator_more, process_parts, refused, send_parts, stated, stopped, then, then_stops, token, unexpected, variables_end, while_parts, whole_end}
 pub use Rattle.kahn_syntax.proofs.Negative.{negative_fits, number_fits}
 pub use Rattle.kahn_syntax.proofs.OneFault.{one_fault}
 pub use Rattle.kahn_syntax.proofs.OneList.{same_lexemes}
