@@ -7,7 +7,6 @@ pub use Rattle.kahn_graph.specs.Ran.{IsWaitMark, carried}
 pub use Rattle.kahn_graph.specs.inner.Adding.{IsWaitAt, is_wait}
 pub use Rattle.kahn_streams.proofs.By_number.{at_index}
 pub use Rattle.kahn_streams.specs.Network.{IsOnly, IsReader, IsWithin, IsWriter, Schema, actuals_of, channel_names, instance_at, instance_from, kind_at, network_of, process_of, role_at}
-pub use Rattle.kahn_streams.specs.Place.{column_of, line_of}
 pub use Rattle.kahn_streams.specs.Prints.{declaration_prints, process_prints}
 pub use Rattle.kahn_streams.specs.declared.{tree.Argument.Argument, tree.Declaration.Declaration, tree.Kind.Kind, tree.Parameter.Parameter, tree.Process.Process, tree.Program.Program, tree.Role.Role, sides.Side.Side}
 pub use Rattle.kahn_streams.specs.View.{Scope, bytes_of}

@@ -3,4 +3,3 @@ mod Marked
 mod Named
 mod Printed
 mod Texts
-mod Front

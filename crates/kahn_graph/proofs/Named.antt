@@ -1,8 +1,11 @@
 -- Values and ends of edges by the names of parameters.
-use Rattle.kahn_graph.proofs.Common.{Argument, Bool, End, IfSome, IsEdge, IsOnly, IsPortText, IsReader, IsWaitMark, IsWithin, IsWriter, Kind, List, Schema, None, Option, Parameter, Process, Program, Role, Scope, Side, Some, Standing, Stream, [], actuals_of, ap, ap₂, arith, awaited_text, bytes_of, cases_lt, channel_names, codes, column_of, concat, count_by, drop, drop_of_length-le, edge_text, inl, inr, instance_at, instance_from, kind_at, length, length-map, line_of, map, mark_text, min, network_of, not, process_of, refl, role_at, slice_get, stands, subst, suffix_len, sym, take, take_all, values_text, ℕ, ⊎_elim, ◌++◌, ◌+◌, ◌<◌, ◌==◌, ◌∙◌, ◌∷◌, ◌≡◌, ◌≤◌, ◌⊎◌}
-use Rattle.kahn_graph.proofs.Front.{front}
+use Rattle.kahn_graph.proofs.Common.{Argument, Bool, End, IfSome, IsEdge, IsOnly, IsPortText, IsReader, IsWaitMark, IsWithin, IsWriter, Kind, List, Schema, None, Option, Parameter, Process, Program, Role, Scope, Side, Some, Standing, Stream, [], actuals_of, ap, ap₂, arith, awaited_text, bytes_of, cases_lt, channel_names, codes, concat, drop, drop_of_length-le, edge_text, inl, inr, instance_at, instance_from, kind_at, length, length-map, map, mark_text, min, network_of, process_of, refl, role_at, slice_get, stands, subst, sym, values_text, ℕ, ⊎_elim, ◌++◌, ◌+◌, ◌<◌, ◌==◌, ◌∙◌, ◌∷◌, ◌≡◌, ◌≤◌, ◌⊎◌, add-one}
+use Rattle.kahn_streams.proofs.Entered.{drop_some}
 
 -- ---- values
+
+front : {X : Type 0} (xs : List X) (k : ℕ) (x : X) → slice_get xs k ≡ Some x → drop k xs ≡ x ∷ drop (k + 1) xs
+front xs k x e = drop_some xs k x e ∙ ap (λ j. x ∷ drop j xs) (sym (add-one k))
 
 pub next_value : (before : List ℕ) (qs : List Parameter) (xs : List Argument) (k : ℕ) (q : Parameter) (x : Argument) → slice_get qs k ≡ Some q → slice_get xs k ≡ Some x
     → values_text before (drop k qs) (drop k xs) ≡ values_text before (q ∷ drop (k + 1) qs) (x ∷ drop (k + 1) xs)
@@ -71,23 +74,6 @@ edge_of t streams ends ss c name tail head kind role writer reader ring e k r w 
   subst (λ l. IsWaitMark (network_of t) l c ring) same m,
   ap₂ (λ x y. mark_text c x ++ (edge_text streams c name y writer reader ++ (tail ++ (head ++ concat (awaited_text ring ∷ codes "];\n" ∷ []))))) r k,
 )
-
--- ---- places
-
-same_take : (l : List ℕ) (n m : ℕ) → m ≡ min n (length l) → take m l ≡ take n l
-same_take l n m e = ⊎_elim within past (cases_lt n (length l))
-  where
-    within : n < length l → take m l ≡ take n l
-    within lt = let same : m ≡ n = omega (arith, e, lt) in ap (λ k. take k l) same
-
-    past : length l ≤ n → take m l ≡ take n l
-    past le = let more : length l ≤ m = omega (arith, e, le) in take_all m l more ∙ sym (take_all n l le)
-
-pub same_line : (l : List ℕ) (n m : ℕ) → m ≡ min n (length l) → line_of l m ≡ line_of l n
-same_line l n m e = ap (λ x. count_by (λ b. b == 10) x + 1) (same_take l n m e)
-
-pub same_column : (l : List ℕ) (n m : ℕ) → m ≡ min n (length l) → column_of l m ≡ column_of l n
-same_column l n m e = ap (λ x. suffix_len (λ b. not (b == 10)) x + 1) (same_take l n m e)
 
 -- as many instances as the tree has
 pub as_many_trees : (t : Program) (i : ℕ) → i < length (network_of t).instances → i < length t.instances.items

@@ -12,9 +12,10 @@ use Rattle.kahn_graph.specs.Ran.{ended_text, carried, count_text, IsWaitMark}
 
 -- ---- instances
 
-abbrev pub truth_text : Bool → List ℕ
-truth_text true = codes "true"
-truth_text false = codes "false"
+-- a text where something is so, and else another one
+abbrev pub text_if : Bool → List ℕ → List ℕ → List ℕ
+text_if true one other = one
+text_if false one other = other
 
 -- a value by the name of its parameter, after what separates it from the value before
 abbrev pub named_text : List ℕ → Parameter → List ℕ → List ℕ
@@ -26,7 +27,7 @@ values_text before [] xs = []
 values_text before (q ∷ qs) [] = []
 values_text before (q ∷ qs) (A.Channel n ∷ rest) = values_text before qs rest
 values_text before (q ∷ qs) (A.Number z at ∷ rest) = named_text before q (signed_decimal z) ++ values_text (codes ", ") qs rest
-values_text before (q ∷ qs) (A.Logical b at ∷ rest) = named_text before q (truth_text b) ++ values_text (codes ", ") qs rest
+values_text before (q ∷ qs) (A.Logical b at ∷ rest) = named_text before q (text_if b (codes "true") (codes "false")) ++ values_text (codes ", ") qs rest
 
 -- a second border where the process prints
 abbrev pub border_text : Bool → List ℕ
@@ -86,8 +87,7 @@ style_text K.Logical = codes "dashed"
 
 -- a red and broad line where a ring waits on the channel
 abbrev pub awaited_text : Bool → List ℕ
-awaited_text true = codes ", color=red, penwidth=2"
-awaited_text false = []
+awaited_text ring = text_if ring (codes ", color=red, penwidth=2") []
 
 -- the name of the parameter at a side
 abbrev pub IsPort : Program → Side → List ℕ → Type 0

@@ -2,15 +2,16 @@
 
 ghost use Rattle.std.specs.Prelude.{◌≡◌, ◌<◌, ◌++◌, Option, IfOk, length, map, string_bytes};
 ghost use Rattle.kahn_streams.specs.Network.{network_of};
-ghost use Rattle.kahn_graph.specs.{Graph.place_text, Graph.mark_text, Graph.style_text, Graph.awaited_text, Graph.edge_text, Graph.IsEdge, Graph.AreEdges, inner.Adding.Adds};
+ghost use Rattle.kahn_graph.specs.{Graph.place_text, Graph.mark_text, Graph.style_text, Graph.edge_text, Graph.IsEdge, Graph.AreEdges, inner.Adding.Adds};
 ghost use Rattle.kahn_chain.specs.Chain.{AreRings, stands};
 
-use crate::pieces::add;
+use crate::nodes::text_if;
 use crate::ports::add_port;
 use crate::ran::{add_count, carried};
 use crate::stands::is_ring_channel;
 use itoa::Buffer;
 use kahn_chain::Standing;
+use kahn_marks::add;
 use kahn_streams::{End, Kind, Network, Role, Side, Stream};
 use std::alloc::AllocError;
 
@@ -52,13 +53,6 @@ fn style(kind: Kind) -> &'static str
         Kind::Integer => "solid",
         Kind::Logical => "dashed",
     }
-}
-
-// How an edge is drawn on which a ring may wait.
-fn ring_line(ring: bool) -> &'static str
-    ensures { result.now ≡ awaited_text ring }
-{
-    if ring { ", color=red, penwidth=2" } else { "" }
 }
 
 // Adds the edge of a channel, from its writer to its reader, as far as the names at its ends.
@@ -107,7 +101,8 @@ fn add_edge(
     )?;
     add_port(text, network, "taillabel", writer)?;
     add_port(text, network, "headlabel", reader)?;
-    add(text, &[ring_line(ring), "];\n"])?;
+    let awaited = text_if(ring, ", color=red, penwidth=2", "");
+    add(text, &[awaited, "];\n"])?;
     Ok(())
 }
 

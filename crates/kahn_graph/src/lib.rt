@@ -4,7 +4,6 @@
 mod edges;
 mod nodes;
 mod picture;
-mod pieces;
 mod ports;
 mod printing;
 mod ran;

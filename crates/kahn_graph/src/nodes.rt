@@ -2,25 +2,25 @@
 
 ghost use Rattle.std.specs.Prelude.{◌≡◌, ◌<◌, ◌++◌, IfOk, codes, length, map, option_map, slice_get, string_bytes};
 ghost use Rattle.kahn_streams.specs.{Network.network_of, Prints.declaration_prints, Prints.process_prints};
-ghost use Rattle.kahn_graph.specs.Graph.{named_text, values_text, node_text, IsNode, AreNodes, border_text, colour_text, ring_text, truth_text};
+ghost use Rattle.kahn_graph.specs.Graph.{named_text, values_text, node_text, IsNode, AreNodes, border_text, colour_text, ring_text, text_if};
 ghost use Rattle.kahn_chain.specs.Chain.{AreRings, stands};
 ghost use Rattle.kahn_graph.specs.inner.Adding.{Adds, AddsValue};
 
-use crate::pieces::add;
 use crate::printing::is_printing;
 use crate::ran::add_ended;
 use crate::stands::is_ring_instance;
 use crate::tips::add_tip;
 use itoa::Buffer;
 use kahn_chain::Standing;
+use kahn_marks::add;
 use kahn_streams::{Argument, End, Network, Outcome, Parameter, Process};
 use std::alloc::AllocError;
 
-// A logical value as it is written.
-fn truth_word(truth: bool) -> &'static str
-    ensures { result.now ≡ truth_text truth }
+/// A text where something is so, and else another one.
+pub(crate) fn text_if(is_so: bool, yes: &'static str, no: &'static str) -> &'static str
+    ensures { result.now ≡ text_if is_so yes.now no.now }
 {
-    if truth { "true" } else { "false" }
+    if is_so { yes } else { no }
 }
 
 // Adds a value by the name of its parameter, after what separates it from what stands before.
@@ -54,7 +54,8 @@ fn add_value(
             Ok(", ")
         }
         Argument::Logical(truth, _) => {
-            add_named(text, before, parameter, truth_word(*truth))?;
+            let value = text_if(*truth, "true", "false");
+            add_named(text, before, parameter, value)?;
             Ok(", ")
         }
     }
@@ -110,10 +111,7 @@ fn ring_border(ring: bool) -> &'static str
 fn end_of(ends: &[End], instance: usize) -> Option<End>
     ensures { result ≡ slice_get ends.now instance }
 {
-    if instance >= ends.len() {
-        return None;
-    }
-    Some(ends[instance])
+    ends.get(instance).copied()
 }
 
 // Adds the node of an instance with that number, which runs that process, as far as its colours.

@@ -7,10 +7,10 @@ ghost use Rattle.kahn_graph.specs.Graph.{IsPicture};
 
 use crate::edges::add_edges;
 use crate::nodes::add_nodes;
-use crate::pieces::add;
 use crate::printing::printing;
 use crate::stands::rings_of;
 use kahn_chain::{Standing, standings};
+use kahn_marks::add;
 use kahn_streams::{End, Network, Stream};
 use std::alloc::{AllocError, Global};
 

@@ -4,7 +4,7 @@ ghost use Rattle.std.specs.Prelude.{IfOk, IfSome, string_bytes};
 ghost use Rattle.kahn_streams.specs.Network.{network_of, IsWithin};
 ghost use Rattle.kahn_graph.specs.{Graph.IsPort, Graph.IsPortText, inner.Adding.Adds};
 
-use crate::pieces::add;
+use kahn_marks::add;
 use kahn_streams::{Network, Side};
 use std::alloc::AllocError;
 

@@ -1,12 +1,11 @@
 //! What came of a run, as a picture shows it.
 
-ghost use Rattle.std.specs.Prelude.{◌≡◌, ◌∷◌, ◌++◌, [], IfOk, codes, string_bytes};
-ghost use Rattle.std.specs.List.{concat};
+ghost use Rattle.std.specs.Prelude.{◌≡◌, ◌++◌, IfOk, string_bytes};
 ghost use Rattle.kahn_streams.specs.declared.answer.Outcome.TheVariants.{Waits};
 ghost use Rattle.kahn_graph.specs.Ran.{carried, count_text, ended_text, is_line_of, outcome_text, waited_text};
 
-use crate::pieces::add;
 use itoa::Buffer;
+use kahn_marks::add;
 use kahn_streams::{End, Failure, Line, Network, Outcome, Stream};
 use std::alloc::AllocError;
 
@@ -43,18 +42,6 @@ fn waited_name(network: &Network, outcome: Outcome) -> &str
     }
 }
 
-// Adds how an instance ended by the words of that.
-fn add_words<'a>(
-    text: &mut String,
-    word: &'a str,
-    name: &'a str,
-    events: &'a str,
-) -> Result<(), AllocError>
-    ensures { IfOk result (λ _. string_bytes text.new ≡ string_bytes text.old ++ concat (codes "\\n" ∷ word.now ∷ name.now ∷ codes " after " ∷ events.now ∷ [])) }
-{
-    add(text, &["\\n", word, name, " after ", events])
-}
-
 /// Adds how an instance ended, where that is known.
 pub(crate) fn add_ended(
     text: &mut String,
@@ -67,10 +54,9 @@ pub(crate) fn add_ended(
         return Ok(());
     };
     let mut buffer = Buffer::new();
-    let events = buffer.format(end.events);
-    let word = outcome_word(end.outcome);
-    let channel = waited_name(network, end.outcome);
-    add_words(text, word, channel, events)
+    add(text, &["\\n", outcome_word(end.outcome)])?;
+    add(text, &[waited_name(network, end.outcome)])?;
+    add(text, &[" after ", buffer.format(end.events)])
 }
 
 // Whether a line is that of a channel.

@@ -2,23 +2,13 @@
 
 ghost use Rattle.std.specs.Prelude.{◌≡◌, ◌<◌, ◌∷◌, ◌++◌, [], IfOk, codes, length, string_bytes};
 ghost use Rattle.std.specs.List.{concat};
-ghost use Rattle.kahn_streams.specs.{Network.network_of, Place.line_of, Place.column_of};
+ghost use Rattle.kahn_streams.specs.Network.{network_of};
 ghost use Rattle.kahn_graph.specs.{Graph.tip_text, inner.Adding.Adds, inner.Adding.IsTip};
 
-use crate::pieces::add;
 use itoa::Buffer;
-use kahn_streams::{Name, Network, Span};
+use kahn_marks::{add, place};
+use kahn_streams::{Name, Network};
 use std::alloc::AllocError;
-
-// The line and the column of a byte of a text, or of its end where the text has no such byte.
-fn place(source: &str, from: usize) -> (usize, usize)
-    ensures line { result.0 ≡ line_of source.now from }
-    ensures column { result.1 ≡ column_of source.now from }
-{
-    let from = from.min(source.len());
-    let span = Span { from, to: from };
-    span.place(source)
-}
 
 // Adds where a name stands, by the words of that.
 fn add_words<'a>(
