@@ -22,18 +22,11 @@ split program h (c ∷ lines) [] (suc i) d below =
 split program h (c ∷ lines) (n ∷ counts) (suc i) d below = split program h lines counts i d (omega (arith, below))
 
 -- the line of the stream at i, and those that follow
-pub news_split : (program : Program) (h : HeldRun) (lines : List Line) (counts : List ℕ) (i : ℕ) (d : Line) → i < length lines →
+news_split : (program : Program) (h : HeldRun) (lines : List Line) (counts : List ℕ) (i : ℕ) (d : Line) → i < length lines →
     rest_text program h lines counts i ≡ news_line program h counts i (get_or lines i d) ++ rest_text program h lines counts (i + 1)
 news_split program h lines counts i d below =
     subst (λ n. rest_text program h lines counts i ≡ news_line program h counts i (get_or lines i d) ++ rest_text program h lines counts n) (sym (add-one i))
     (split program h lines counts i d below)
-
-pub news_moved : (program : Program) (h : HeldRun) (lines : List Line) (counts : List ℕ) (i : ℕ) (d : Line) (all done : List ℕ) → i < length lines →
-    all ≡ done ++ rest_text program h lines counts i →
-    all ≡ (done ++ news_line program h counts i (get_or lines i d)) ++ rest_text program h lines counts (i + 1)
-news_moved program h lines counts i d all done below e =
-    e ∙ ap (λ l. done ++ l) (news_split program h lines counts i d below)
-    ∙ sym (append_assoc done (news_line program h counts i (get_or lines i d)) (rest_text program h lines counts (i + 1)))
 
 -- the values behind what was let go of a stream
 pub behind_out : (f : Flowing) (i : ℕ) (c : Line) (news : List Value) → so_far f.run c ≡ slice_index_or f.out i [] ++ news → drop (slice_index_or (map length f.out) i 0) (so_far f.run c) ≡ news
@@ -77,9 +70,18 @@ nothing_left program h [] counts = refl
 nothing_left program h (c ∷ lines) [] = ap (λ l. news_text program (drop (length lines) lines) (values_behind h (drop (length lines) lines) l)) (sym (drop-nil (length lines))) ∙ nothing_left program h lines []
 nothing_left program h (c ∷ lines) (n ∷ counts) = nothing_left program h lines counts
 
-pub tokens_new : (program : Program) (f : Flowing) (i : ℕ) (c : Line) (ts : List Token) → slice_get (flow_lines f.run) i ≡ Some c → AreNew f c ts →
+tokens_new : (program : Program) (f : Flowing) (i : ℕ) (c : Line) (ts : List Token) → slice_get (flow_lines f.run) i ≡ Some c → AreNew f c ts →
     more_text program c (map token_value ts) ≡ news_line program f.run (map length f.out) i c
 tokens_new program f i c ts at new = ap (more_text program c) (values_new f i c ts at new)
+
+-- behind streams on which nothing is new that of a number, and then those that follow
+pub moved_up : (program : Program) (f : Flowing) (lines : List Line) (d : Line) (from i : ℕ) (ts : List Token) (all done : List ℕ) → lines ≡ flow_lines f.run → from ≤ i → i < length lines
+    → AreStale f from i → AreNew f (get_or lines i d) ts → all ≡ done ++ rest_text program f.run lines (map length f.out) from
+    → all ≡ done ++ (more_text program (get_or lines i d) (map token_value ts) ++ rest_text program f.run lines (map length f.out) (i + 1))
+moved_up program f lines d from i ts all done is le below stale new e =
+    let at = subst (λ (l : List Line). slice_get l i ≡ Some (get_or lines i d)) is (slice_get-get_or lines i d below) in
+    e ∙ ap (λ l. done ++ l) (stale_up program f lines d is from i le (omega (arith, below)) stale ∙ news_split program f.run lines (map length f.out) i d below
+    ∙ ap (λ l. l ++ rest_text program f.run lines (map length f.out) (i + 1)) (sym (tokens_new program f i (get_or lines i d) ts at new)))
 
 -- the news of the stream of a number, and of no stream
 pub news_at : (h : HeldRun) (lines : List Line) (counts : List ℕ) (i : ℕ) (d : Line) → i < length lines →

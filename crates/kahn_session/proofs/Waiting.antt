@@ -1,20 +1,13 @@
 -- What waits for the rows of several streams.
 use Rattle.kahn_session.proofs.Common.{◌≡◌, ◌∙◌, ℕ, zero, suc, ◌+◌, ◌<◌, List, [], ◌∷◌, ◌++◌, length, drop, add-one, append_assoc, append-nil, Some, None, refl, sym, ap, if◌then◌else◌, ◌==◌, slice_get, list_any, Global, Vec, Value, Line, Channel, waiting_from, kept_values}
-use Rattle.std.proofs.lemmas.List.{drop_more}
+use Rattle.std.proofs.lemmas.{List.drop_more, Option.get_or_from_slice_get, Option.slice_get_within}
 
 -- a value more of those that wait, and none
 pub one_waits : (values : List Value) (place : ℕ) (left all : List Value) (value : Value) → left ++ drop place values ≡ all → slice_get values place ≡ Some value
     → (left ++ (value ∷ [])) ++ drop (place + 1) values ≡ all
 one_waits values place left all value e at =
-    append_assoc left (value ∷ []) (drop (place + 1) values) ∙ ap (λ l. left ++ l) (ap (λ n. value ∷ drop n values) (add-one place) ∙ sym (here values place at)) ∙ e
-  where
-    same : (v : Value) → Some v ≡ Some value → v ≡ value
-    same v f = cc
-
-    here : (vs : List Value) (n : ℕ) → slice_get vs n ≡ Some value → drop n vs ≡ value ∷ drop (suc n) vs
-    here [] n there = absurd cc
-    here (v ∷ vs) zero there = ap (λ w. w ∷ vs) (same v there)
-    here (v ∷ vs) (suc n) there = here vs n there
+    let here = drop_more values place value (slice_get_within values place value at) ∙ ap (λ v. v ∷ drop (place + 1) values) (get_or_from_slice_get values place value value at) in
+    append_assoc left (value ∷ []) (drop (place + 1) values) ∙ ap (λ l. left ++ l) (sym here) ∙ e
 
 pub none_waits : (values : List Value) (place : ℕ) (left all : List Value) → left ++ drop place values ≡ all → slice_get values place ≡ None → left ≡ all
 none_waits values place left all e at = sym (append-nil left) ∙ ap (λ l. left ++ l) (sym (past values place at)) ∙ e

@@ -1,5 +1,5 @@
-use Rattle.kahn_session.proofs.Common.{arith, ◌≡◌, ◌∙◌, ◌<◌, ◌≤◌, ◌++◌, List, [], Some, append-nil, ap, length, map, refl, sym, subst, slice_get, slice_index_or, Appends-nil, Appends-trans, Appends, slice_get-get_or, Line, Channel, AppendsFront, fails, goes_on_front, stops}
-use Rattle.kahn_session.proofs.Fresh.{is_line, news_line, news_moved, news_split, nothing_left, rest_text, stale_up, tokens_new}
+use Rattle.kahn_session.proofs.Common.{[], arith, ◌≡◌, ◌∙◌, ◌<◌, ◌++◌, List, Some, append-nil, append_assoc, ap, length, map, refl, sym, subst, slice_get, slice_index_or, Appends-nil, Appends-trans, Appends, slice_get-get_or, Line, Channel, token_value, more_text, AppendsFront, fails, goes_on_front, stops}
+use Rattle.kahn_session.proofs.Fresh.{is_line, moved_up, nothing_left, stale_up}
 use Rattle.kahn_session.proofs.forms.put_news.Goals as goal
 
 pub streams-init : goal.streams-init
@@ -20,38 +20,18 @@ write_news-requires g c =
 pub returns-in_err-write_news : goal.returns-in_err-write_news
 returns-in_err-write_news g c =
     let (done, split, gone, few) = c.streams.invariant in
-    let t = c.args.network.now in
-    let f = c.args.run.now.flow in
-    let counts = map length f.out in
-    let lines = c.args.lines.now in
-    let i = c.in-Some.number in
-    let below : i < length lines = c.in-Some.ensures.1 in
-    let up = split ∙ ap (λ (l : List _). done ++ l) (stale_up t f lines (Channel 0) c.requires.lines c.streams.from i c.in-Some.ensures.0 (omega (arith, below)) c.in-Some.ensures.2) in
-    let line = slice_index_or lines i (Channel 0) in
-    let at = subst (λ (l : List Line). slice_get l i ≡ Some line) c.requires.lines (slice_get-get_or lines i (Channel 0) below) in
-    let new = tokens_new t f i line c.fresh.result.now at c.fresh.ensures in
-    fails _ _ _ _ c.from_residual.ensures.0
-    (subst (AppendsFront _ _) (sym up) (goes_on_front _ _ _ done _ gone
-    (subst (AppendsFront _ _) (sym (news_split t f.run lines counts i (Channel 0) below)) (stops _ _ (news_line t f.run counts i line) _ (subst (AppendsFront _ _) new c.in_err-write_news.ensures)))))
+    let up = moved_up c.args.network.now c.args.run.now.flow c.args.lines.now (Channel 0) c.streams.from c.in-Some.number c.fresh.result.now _ done c.requires.lines c.in-Some.ensures.0 c.in-Some.ensures.1
+    c.in-Some.ensures.2 c.fresh.ensures split in
+    fails _ _ _ _ c.from_residual.ensures.0 (subst (AppendsFront _ _) (sym up) (goes_on_front _ _ _ done _ gone (stops _ _ _ _ c.in_err-write_news.ensures)))
 
 pub streams-preserved : goal.streams-preserved
 streams-preserved g c =
     let (done, split, gone, few) = c.streams.invariant in
-    let t = c.args.network.now in
-    let f = c.args.run.now.flow in
-    let counts = map length f.out in
-    let lines = c.args.lines.now in
-    let i = c.in-Some.number in
-    let below : i < length lines = c.in-Some.ensures.1 in
-    let up = split ∙ ap (λ (l : List _). done ++ l) (stale_up t f lines (Channel 0) c.requires.lines c.streams.from i c.in-Some.ensures.0 (omega (arith, below)) c.in-Some.ensures.2) in
-    let line = slice_index_or lines i (Channel 0) in
-    let at = subst (λ (l : List Line). slice_get l i ≡ Some line) c.requires.lines (slice_get-get_or lines i (Channel 0) below) in
-    let new = tokens_new t f i line c.fresh.result.now at c.fresh.ensures in (
-      done ++ news_line t f.run counts i line,
-      news_moved t f.run lines counts i (Channel 0) _ done below up,
-      Appends-trans _ _ _ done (news_line t f.run counts i line) gone (subst (Appends _ _) new c.in_ok-write_news.ensures),
-      omega (arith, below),
-    )
+    let up = moved_up c.args.network.now c.args.run.now.flow c.args.lines.now (Channel 0) c.streams.from c.in-Some.number c.fresh.result.now _ done c.requires.lines c.in-Some.ensures.0 c.in-Some.ensures.1
+    c.in-Some.ensures.2 c.fresh.ensures split in
+    let below : c.in-Some.number < length c.args.lines.now = c.in-Some.ensures.1 in
+    let new = more_text c.args.network.now (slice_index_or c.args.lines.now c.in-Some.number (Channel 0)) (map token_value c.fresh.result.now) in
+    (done ++ new, up ∙ sym (append_assoc done new _), Appends-trans _ _ _ done new gone c.in_ok-write_news.ensures, omega (arith, below))
 
 pub returns : goal.returns
 returns g c =
