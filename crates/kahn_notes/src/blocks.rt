@@ -1,15 +1,14 @@
 //! What is said of blocks where a text has more `begin`s than `end`s, or fewer, by the indentation of their lines.
 
-ghost use Rattle.std.specs.Prelude.{Contains, IfSome};
-
 use crate::foreign::closing_word;
 use crate::mending::mending;
 use crate::place::{Place, front, near};
 use crate::said::{Saying, Words, line_of, put_at, put_behind, sentence, spot_words};
 use crate::table::{finds, has_word};
 use crate::words::class_word;
-use kahn_syntax::{Lexeme, Span};
-use kahn_wanted::{Spot, bytes_between, open_behind};
+use kahn_marks::part_of;
+use kahn_syntax::Span;
+use kahn_wanted::Spot;
 use std::alloc::AllocError;
 
 /// How many lexemes before an `end` are looked at.
@@ -31,8 +30,9 @@ fn seats(place: Place) -> Result<Vec<LineLexeme>, AllocError> {
     let (mut at, mut line, mut deep, mut first) = (0, 1usize, 0usize, true);
     for lexeme in place.lexemes {
         let (word, span) = (class_word(lexeme.what), lexeme.span);
-        for byte in bytes_between(place.text, at, span.from) {
-            match (*byte, first) {
+        let (from, to) = (at, span.from);
+        for byte in part_of(place.text, Span { from, to }).bytes() {
+            match (byte, first) {
                 (b'\n', _) => {
                     line = line.saturating_add(1);
                     deep = 0;
@@ -94,19 +94,13 @@ fn is_past(seats: &[LineLexeme], begin: usize, seat: LineLexeme) -> bool {
     let (Some(begin), Some(inside)) = (seats.get(begin), inside) else {
         return false;
     };
-    let is_one_line = inside.line == begin.line;
-    let inner = if is_one_line {
-        begin.deep.saturating_add(1)
-    } else {
-        inside.deep
-    };
-    let is_level = seat.deep <= begin.deep && begin.deep < inner;
+    let is_within = inside.line == begin.line || begin.deep < inside.deep;
     seat.first
         && seat.line != begin.line
         && match seat.word {
             "process" => true,
             "end" => seat.deep < begin.deep,
-            _ => is_level,
+            _ => seat.deep <= begin.deep && is_within,
         }
 }
 
@@ -162,18 +156,6 @@ fn surplus_at(place: Place, seats: &[LineLexeme]) -> Result<Option<usize>, Alloc
     Ok(doubt)
 }
 
-/// The `begin` there, if its block is open.
-fn open_there(begins: &[Lexeme], span: Span) -> Option<Lexeme>
-    ensures { IfSome result (Contains begins.now) }
-{
-    for begin in begins {
-        if begin.span == span {
-            return Some(*begin);
-        }
-    }
-    None
-}
-
 /// What is said of the `begin` with a number, whose block ends before the lexeme with another number: by its indentation before the line of
 /// this, or on that of its `begin`; one that stands beside another one is left out.
 fn unclosed(place: Place, seats: &[LineLexeme], number: usize, end: usize) -> Saying {
@@ -190,10 +172,6 @@ fn unclosed(place: Place, seats: &[LineLexeme], number: usize, end: usize) -> Sa
             return Ok(Some((Some((begin.span, words)), Some(fix), None)));
         }
     }
-    let open = open_behind(alloc, front(place.lexemes, end))?;
-    let Some(one) = open_there(&open, begin.span) else {
-        return Ok(None);
-    };
     let (words, from) = match seats.get(end) {
         Some(end) if begin.line == end.line => ("it ends before #", end.span.from),
         Some(end) => ("by its indentation it ends before line @", end.span.from),
@@ -202,7 +180,7 @@ fn unclosed(place: Place, seats: &[LineLexeme], number: usize, end: usize) -> Sa
     let at = spot_words(alloc, text, from)?;
     let ending = sentence(alloc, words, line_of(at.as_str()), at.as_str())?;
     let words = sentence(alloc, "`begin` has no `end`: @", ending.as_str(), "")?;
-    Ok(Some((Some((one.span, words)), None, None)))
+    Ok(Some((Some((begin.span, words)), None, None)))
 }
 
 /// The lexeme that leads to several statements, to the `end` with a number.
