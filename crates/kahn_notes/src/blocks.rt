@@ -1,15 +1,14 @@
 //! What is said of blocks where a text has more `begin`s than `end`s, or fewer, by the indentation of their lines.
 
-ghost use Rattle.std.specs.Prelude.{Contains, IfSome};
-
 use crate::foreign::closing_word;
 use crate::mending::mending;
 use crate::place::{Place, front, near};
 use crate::said::{Saying, Words, line_of, put_at, put_behind, sentence, spot_words};
 use crate::table::{finds, has_word};
 use crate::words::class_word;
-use kahn_syntax::{Lexeme, Span};
-use kahn_wanted::{Spot, bytes_between, open_behind};
+use kahn_marks::part_of;
+use kahn_syntax::Span;
+use kahn_wanted::Spot;
 use std::alloc::AllocError;
 
 /// How many lexemes before an `end` are looked at.
@@ -17,7 +16,7 @@ const FAR: usize = 256;
 
 /// A lexeme, as its class is written, with the number of its line, how deep that is indented, and whether the lexeme begins it.
 #[derive(Clone, Copy)]
-struct Seat {
+struct LineLexeme {
     word: &'static str,
     span: Span,
     line: usize,
@@ -26,13 +25,14 @@ struct Seat {
 }
 
 /// The lexemes of a text, each with its line; a tab goes to the next multiple of 8.
-fn seats(place: Place) -> Result<Vec<Seat>, AllocError> {
+fn seats(place: Place) -> Result<Vec<LineLexeme>, AllocError> {
     let mut seats = Vec::new(place.alloc);
     let (mut at, mut line, mut deep, mut first) = (0, 1usize, 0usize, true);
     for lexeme in place.lexemes {
         let (word, span) = (class_word(lexeme.what), lexeme.span);
-        for byte in bytes_between(place.text, at, span.from) {
-            match (*byte, first) {
+        let (from, to) = (at, span.from);
+        for byte in part_of(place.text, Span { from, to }).bytes() {
+            match (byte, first) {
                 (b'\n', _) => {
                     line = line.saturating_add(1);
                     deep = 0;
@@ -44,7 +44,7 @@ fn seats(place: Place) -> Result<Vec<Seat>, AllocError> {
             }
         }
         at = span.from;
-        seats.push(Seat {
+        seats.push(LineLexeme {
             word,
             span,
             line,
@@ -57,7 +57,7 @@ fn seats(place: Place) -> Result<Vec<Seat>, AllocError> {
 
 /// The number of the lexeme to which the statements before an `end` belong, which has that number: on its line, or on the nearest line
 /// that is as deep. Behind it stands no block, and none that another one leads to.
-fn guard_of(seats: &[Seat], number: usize, end: Seat) -> Option<usize> {
+fn guard_of(seats: &[LineLexeme], number: usize, end: LineLexeme) -> Option<usize> {
     let (mut depth, mut found) = (0usize, None);
     for (number, seat) in front(seats, number).iter().enumerate().rev().take(FAR) {
         let behind = seats.get(number.saturating_add(1));
@@ -89,30 +89,24 @@ fn guard_of(seats: &[Seat], number: usize, end: Seat) -> Option<usize> {
 
 /// Whether a block had to end before a line: before a process, an `end` that is less deep than its `begin`, and what is no deeper than this,
 /// where the first line within is.
-fn is_past(seats: &[Seat], begin: usize, seat: Seat) -> bool {
+fn is_past(seats: &[LineLexeme], begin: usize, seat: LineLexeme) -> bool {
     let inside = seats.get(begin.saturating_add(1));
     let (Some(begin), Some(inside)) = (seats.get(begin), inside) else {
         return false;
     };
-    let is_one_line = inside.line == begin.line;
-    let inner = if is_one_line {
-        begin.deep.saturating_add(1)
-    } else {
-        inside.deep
-    };
-    let is_level = seat.deep <= begin.deep && begin.deep < inner;
+    let is_within = inside.line == begin.line || begin.deep < inside.deep;
     seat.first
         && seat.line != begin.line
         && match seat.word {
             "process" => true,
             "end" => seat.deep < begin.deep,
-            _ => is_level,
+            _ => seat.deep <= begin.deep && is_within,
         }
 }
 
 /// The block that has no `end`, by the number of its `begin`, and that of the lexeme before which it ends, of those up to a place. Where the
 /// indentation says nothing: at what may not stand in a block the innermost one; at the end of the text that of the program may be.
-fn unclosed_at(place: Place, seats: &[Seat]) -> Result<Option<(usize, usize)>, AllocError> {
+fn unclosed_at(place: Place, seats: &[LineLexeme]) -> Result<Option<(usize, usize)>, AllocError> {
     let mut open = Vec::new(place.alloc);
     let seen = front(seats, place.number.saturating_add(1));
     for (at, seat) in seen.iter().enumerate() {
@@ -134,8 +128,8 @@ fn unclosed_at(place: Place, seats: &[Seat]) -> Result<Option<(usize, usize)>, A
 }
 
 /// The `end` that is one too many, by its number, of those up to a place: deeper than its block, behind statements without a block, or the last.
-fn surplus_at(place: Place, seats: &[Seat]) -> Result<Option<usize>, AllocError> {
-    let (mut open, mut doubt): (Vec<Seat>, Option<usize>) = (Vec::new(place.alloc), None);
+fn surplus_at(place: Place, seats: &[LineLexeme]) -> Result<Option<usize>, AllocError> {
+    let (mut open, mut doubt): (Vec<LineLexeme>, Option<usize>) = (Vec::new(place.alloc), None);
     let seen = front(seats, place.number.saturating_add(1));
     for (at, seat) in seen.iter().enumerate() {
         match seat.word {
@@ -162,21 +156,9 @@ fn surplus_at(place: Place, seats: &[Seat]) -> Result<Option<usize>, AllocError>
     Ok(doubt)
 }
 
-/// The `begin` there, if its block is open.
-fn open_there(begins: &[Lexeme], span: Span) -> Option<Lexeme>
-    ensures { IfSome result (Contains begins.now) }
-{
-    for begin in begins {
-        if begin.span == span {
-            return Some(*begin);
-        }
-    }
-    None
-}
-
 /// What is said of the `begin` with a number, whose block ends before the lexeme with another number: by its indentation before the line of
 /// this, or on that of its `begin`; one that stands beside another one is left out.
-fn unclosed(place: Place, seats: &[Seat], number: usize, end: usize) -> Saying {
+fn unclosed(place: Place, seats: &[LineLexeme], number: usize, end: usize) -> Saying {
     let (alloc, text) = (place.alloc, place.text);
     let beside = [number.checked_sub(1), number.checked_add(1)];
     let mut beside = beside.iter().filter_map(|number| seats.get((*number)?));
@@ -190,10 +172,6 @@ fn unclosed(place: Place, seats: &[Seat], number: usize, end: usize) -> Saying {
             return Ok(Some((Some((begin.span, words)), Some(fix), None)));
         }
     }
-    let open = open_behind(alloc, front(place.lexemes, end))?;
-    let Some(one) = open_there(&open, begin.span) else {
-        return Ok(None);
-    };
     let (words, from) = match seats.get(end) {
         Some(end) if begin.line == end.line => ("it ends before #", end.span.from),
         Some(end) => ("by its indentation it ends before line @", end.span.from),
@@ -202,11 +180,11 @@ fn unclosed(place: Place, seats: &[Seat], number: usize, end: usize) -> Saying {
     let at = spot_words(alloc, text, from)?;
     let ending = sentence(alloc, words, line_of(at.as_str()), at.as_str())?;
     let words = sentence(alloc, "`begin` has no `end`: @", ending.as_str(), "")?;
-    Ok(Some((Some((one.span, words)), None, None)))
+    Ok(Some((Some((begin.span, words)), None, None)))
 }
 
 /// The lexeme that leads to several statements, to the `end` with a number.
-fn guard_before(seats: &[Seat], number: usize) -> Option<Seat> {
+fn guard_before(seats: &[LineLexeme], number: usize) -> Option<LineLexeme> {
     let guard = guard_of(seats, number, *seats.get(number)?)?;
     let mut between = seats.get(guard..number)?.iter();
     if between.any(|seat| seat.word == ";") {
@@ -216,14 +194,14 @@ fn guard_before(seats: &[Seat], number: usize) -> Option<Seat> {
 }
 
 /// What is said of the lexeme that leads to several statements, to an `end`.
-fn led_words(place: Place, sentence_of: &str, guard: Seat, at: usize) -> Words {
+fn led_words(place: Place, sentence_of: &str, guard: LineLexeme, at: usize) -> Words {
     let at = spot_words(place.alloc, place.text, at)?;
     sentence(place.alloc, sentence_of, guard.word, at.as_str())
 }
 
 /// What is said of the `end` with a number: it is one too many, with a word behind it that says what it ends, or closes several statements
 /// without a block behind what leads to them.
-fn surplus(place: Place, seats: &[Seat], number: usize) -> Saying {
+fn surplus(place: Place, seats: &[LineLexeme], number: usize) -> Saying {
     let (alloc, text) = (place.alloc, place.text);
     let Some(end) = seats.get(number) else {
         return Ok(None);

@@ -1,34 +1,60 @@
 //! Which change of one lexeme is told: of those that mend a place, what is most often meant.
 
 use crate::foreign::row_of_foreign;
-use crate::place::{Place, front, is_declared, lexeme_at, name_at, near};
+use crate::place::{Place, front, is_declared, name_at, near};
 use crate::said::{Saying, sentence, spot_words};
-use crate::table::{are_joined, cell, finds, may_stand, row_of};
+use crate::table::{cell, finds, fits, may_stand};
 use crate::words::class_word;
 use kahn_marks::{is_within, part_of};
 use kahn_syntax::{Class, Lexeme};
 use kahn_wanted::{Change, Reach, Spot};
 use std::alloc::{AllocError, Global};
 
-/// Lexemes, and what each is often written for.
-const OTHERS: &str = "
-= | :=
-:= | =
-, | ; par on
-; | , par
-then | do
-do | then
-input | in
-output | out
-in | input
-out | output
+/// One of two same words. A row has the lexeme before the place, the one there, the tests, where the change is, and what is put there, in the
+/// order in which it is looked for; the first change of the first row that fits is told.
+pub(crate) const TWICE: &str = "
+any | process repeat while send print wait in out input output channel | twice | here | nothing
+any | process repeat while send print wait in out input output channel | twins | before | nothing
 ";
 
-/// What is often left out, in the order in which it is looked for.
-const LEFT_OUT: &str = "; , ) ( := on then do par begin end * channel";
+/// What one lexeme is often written for, and what is one too many.
+pub(crate) const LIKELY: &str = "
+any | any | twice | here | nothing
+any | any | twins | before | nothing
+in out input output | in out input output | always | here | nothing
+any | in out input output | role | here | nothing
+any | = | always | here | :=
+any | := | always | here | =
+any | , | always | here | ; par on
+any | ; | always | here | , par on
+any | then | always | here | do
+any | do | always | here | then
+any | input | always | here | in
+any | output | always | here | out
+any | in | always | here | input
+any | out | always | here | output
+, | any | always | before | ; par on
+; | any | always | before | , par on
+any | ; , | leading | here | nothing
+; | else | late | before | nothing
+; | par | always | before | nothing
+( | , | whole | here | nothing
+, | ) | always | before | nothing
+";
 
-/// The words for directions and roles.
-const ROLES: &str = "in out input output";
+/// What is often left out.
+pub(crate) const LACKING: &str = "
+any | any | always | between | ;
+any | any | apart | between | ,
+any | any | always | between | ) (
+any | any | assigned | between | :=
+any | any | always | between | on then do par
+nothing | any | always | between | begin
+any | any | whole | between | begin end
+number ) | name | declared -then -do | between | *
+number ) | ( | always | between | *
+in out input output | any | always | between | channel
+";
 
 /// The changes that are offered at a place.
 #[derive(Drop)]
@@ -55,89 +81,46 @@ pub(crate) fn offers_of(alloc: Global, all: Vec<Reach>, at: usize) -> Result<Off
     Ok(Offers { whole, best, all })
 }
 
-/// Whether two lexemes are the same, and not numbers, `+` or `-`, which may stand side by side.
-fn are_twice(text: &str, one: Option<Lexeme>, other: Option<Lexeme>) -> bool {
-    let (Some(one), Some(other)) = (one, other) else {
+/// Whether two lexemes that stand so many behind a place are the same, and not numbers, `+` or `-`, which may stand side by side.
+pub(crate) fn are_twice(place: Place, first: isize, second: isize) -> bool {
+    let (Some(one), Some(other)) = (near(place, first), near(place, second)) else {
         return false;
     };
     one.what == other.what
         && !finds("number + -", Some(one))
-        && part_of(text, one.span) == part_of(text, other.span)
+        && part_of(place.text, one.span) == part_of(place.text, other.span)
 }
 
-/// Whether something that is often left out is looked for at a place: `:=` not behind the name of what is called, and `*` between a number or a
-/// bracket and another one or a name.
-fn may_lack(place: Place, word: &str) -> bool {
-    let is_open = finds("(", near(place, 0));
-    match word {
-        "begin" if place.number == 0 => true,
-        "begin" | "end" => place.offers.whole,
-        "," => !are_joined(place),
-        ":=" => {
-            let name = name_at(place, Spot::Before);
-            !is_open || name.is_none_or(|name| is_declared(place, name))
+/// How what a change puts there is written in the tables.
+fn put_word(change: Change) -> &'static str {
+    change.put.map_or("nothing", |class| class_word(class))
+}
+
+/// The change that is offered there, and puts this word.
+pub(crate) fn offered(place: Place, spot: Spot, put: &str) -> Option<Change> {
+    let mut best = place.offers.best.iter();
+    best.find(|one| one.spot == spot && put_word(**one) == put)
+        .copied()
+}
+
+/// The first change of a table that is offered.
+pub(crate) fn first_of(place: Place, table: &'static str) -> Option<Change> {
+    for row in table.lines() {
+        if fits(row, place) {
+            let spot = match cell(row, 3) {
+                "here" => Spot::Here,
+                "before" => Spot::Before,
+                _ => Spot::Between,
+            };
+            for put in cell(row, 4).split_whitespace() {
+                let change = offered(place, spot, put);
+                if change.is_some() {
+                    return change;
+                }
+            }
         }
-        "*" => {
-            let name = name_at(place, Spot::Here);
-            finds("number )", near(place, -1))
-                && name.map_or(is_open, |name| is_declared(place, name))
-        }
-        "channel" => finds(ROLES, near(place, -1)),
-        _ => true,
-    }
-}
-
-/// Where a word stands among some, behind so many others.
-fn rank_among(words: &str, word: &str, others: usize) -> Option<usize> {
-    let number = words.split_whitespace().position(|one| one == word)?;
-    Some(number.saturating_add(others))
-}
-
-/// The changes that are looked for, by their ranks: leaving out one of two same lexemes; these, what one is often written for, and leaving
-/// out a `;` or `,` before an `else`, where one statement stands before that; and what is often left out.
-pub(crate) const TWICE: (usize, usize) = (0, 2);
-
-pub(crate) const LIKELY: (usize, usize) = (0, 100);
-
-pub(crate) const LACKING: (usize, usize) = (100, 200);
-
-/// The rank of a change.
-fn rank(place: Place, change: Change) -> Option<usize> {
-    let (one, here, next) = (near(place, -1), near(place, 0), near(place, 1));
-    let Some(class) = change.put else {
-        let is_role = finds(ROLES, here) && (finds(ROLES, one) || finds(ROLES, next));
-        return match change.spot {
-            Spot::Here if are_twice(place.text, one, here) => Some(0),
-            Spot::Before if are_twice(place.text, near(place, -2), one) => Some(1),
-            Spot::Here if is_role => Some(2),
-            Spot::Here if finds("; ,", here) && finds("else", next) => Some(90),
-            Spot::Before if is_late_else(place) => Some(91),
-            _ => None,
-        };
-    };
-    let word = class_word(class);
-    if change.spot != Spot::Between {
-        let row = row_of(OTHERS, class_word(lexeme_at(place, change.spot)?.what))?;
-        let others = if change.spot == Spot::Here { 10 } else { 50 };
-        return rank_among(cell(row, 1), word, others);
-    }
-    if may_lack(place, word) {
-        return rank_among(LEFT_OUT, word, 100);
     }
     None
-}
-
-/// The change of the least rank, of those that are offered and have one within.
-pub(crate) fn first_of(place: Place, ranks: (usize, usize)) -> Option<Change> {
-    let (mut least, mut first) = (ranks.1, None);
-    for change in &place.offers.best {
-        let rank = rank(place, *change).unwrap_or(usize::MAX);
-        if ranks.0 <= rank && rank < least {
-            least = rank;
-            first = Some(*change);
-        }
-    }
-    first
 }
 
 /// Whether a name there is a slip away from a word, and may be one: the text doesn't declare it, and if it has one letter it stands once.
@@ -194,7 +177,7 @@ fn last_then(place: Place) -> Option<(Lexeme, usize)> {
 }
 
 /// Whether one statement and a `;` stand between `then` and the `else` at a place.
-fn is_late_else(place: Place) -> bool {
+pub(crate) fn is_late_else(place: Place) -> bool {
     finds("else", near(place, 0))
         && finds(";", near(place, -1))
         && last_then(place).is_some_and(|then| then.1 == 1)

@@ -56,6 +56,8 @@ $ @ | nothing | ; a name begins with a letter, and has letters, digits and `_`
 \u{A0} |  | ; a no-break space (U+00A0) isn't a blank here
 \u{D7} | * | ; a product is `*`
 \u{F7} | div | ; a quotient is `div`
+\u{2190} \u{2254} | := | ; a statement assigns by `:=`
+\u{2192} |  | ; there is no arrow: `send E on C` sends, `X := wait(C)` takes
 \u{2002} |  | ; an en space (U+2002) isn't a blank here
 \u{2003} |  | ; an em space (U+2003) isn't a blank here
 \u{2009} |  | ; a thin space (U+2009) isn't a blank here

@@ -18,7 +18,7 @@ bool boolean booleans | logical | ; the kinds are `integer` and `logical`; one s
 real float string char array | none | ; the kinds are `integer` and `logical`; one stands before its names
 chan chans | channel | ; a channel is `integer channel C`
 inputs outputs | none | ; an input is `integer input channel C`, an output `integer output channel C`
-var let local | none | ; a kind declares variables, right behind the `begin` of a process: `integer X`
+var let local declare | none | ; a kind declares variables, right behind the `begin` of a process: `integer X`
 function func procedure proc def fn void thread task node actor | process | ; a process is `process P(integer in U; integer out W); begin .. end`
 endif endwhile endfor fi od done tel | end | ; an `if`, a `while` or a `repeat` has no `end` of its own
 const constant | none | ; there are no constants: an instance hands a number over, `P(A, 10)`

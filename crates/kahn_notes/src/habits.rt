@@ -16,7 +16,7 @@ then | if | always | an `if` behind `then` stands between `begin` and `end`
 then | while | always | a `while` behind `then` stands between `begin` and `end`
 then | repeat | always | a `repeat` behind `then` stands between `begin` and `end`
 any | if | +operand | an `if` among operators stands in brackets
-any | name | +integer -declaration -statement | a parameter has its kind: `integer in U` is read, `integer out W` is written, `integer N` is a number
+any | name | +integer -declaration -statement bare | a parameter has its kind: `integer in U` is read, `integer out W` is written, `integer N` is a number
 ";
 
 /// These behind the changes that are most often meant.
@@ -27,9 +27,10 @@ then begin do else ; repeat | wait | always | `wait(C)` is a value: a statement 
 begin do else ; repeat | ( - | always | a statement begins with a name or a keyword; a comment goes from `comment` to `;`
 begin do else ; | do | always | a loop is `while E do S`, or `repeat S`, which has no end
 repeat | number | always | `repeat` goes on for ever: `while I < 10 do begin ..; I := I + 1 end` is ten turns
+process | ( | always | a process has a name: `process P(integer in U; integer out W); begin .. end`
 par | end else | always | `par` stands between instances: `p(A) par q(B)`
 wait | any | always | brackets stand round the channel: `wait(C)`
-( | if wait not true false number ( - | +name -) | one channel's name stands between these brackets: `if B then wait(U) else wait(V)`
+( | if wait not true false number ( - ) | +name -) | one channel's name stands between these brackets: `if B then wait(U) else wait(V)`
 on | any | always | a channel's name stands behind `on`: `send E on C`
 print | ; end else on | always | a value stands behind `print`: `print E`
 any | on | +operator +end | `on` stands behind the value of a `send`: `send E on C`; `print E` needs no channel

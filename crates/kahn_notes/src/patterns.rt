@@ -5,24 +5,30 @@
 /// for `wait`, `S` one for `send`, `P` one that starts, `E` to `G` expressions, `N` names alone, `L` names with commas between, and `T` what
 /// stands there to the end of the line; `|` without blanks stands between words of which there is one.
 pub(crate) const PATTERNS: &str = "\
-A := wait(B) | A : = < - B | V A from B | let A = V B | A < - V B
+A := wait(B) | A = receive|recv|read|get|take|await ( B ) | A = < - B | A : = < - B | V A from B | let A = V B | A < - V B
 B := wait(A) | V ( A , B ) | A ? B
 wait(A) | V [ A ] | V on|for|from A | V A | A . V ( )
 send E on O | S ( E , O ) | S ( O , E ) | S E D O | S E - > O | S O , E | S O : = E | S O < - E | S O E | O . S ( E ) | O ! E | O < - E
 send E on A | on A S E
+send A on O | A on O
 A := B + E | A < - B + E
 A := wait(B) | A < - B
 A := E | A < - E
-B := wait(A) | A - > B
-send E on O | E - > O
+B := wait(A) | A - > B | A > > B
+send E on O | E - > O | S E > > O | O < < E | output|write|put|emit|push E to O
+then send E on O | O < - E | O ! E
 A := if F then E else G | A : = E if F else G
 S | A : S
 send if E then F else G on | send E ? F : G on
 A := if E then F else G | A : = E ? F : G
+(if E then F else G) | ( E ? F : G )
 A := A + 1 | inc ( A ) | + + A | A + +
 A := A - 1 | dec ( A ) | A - -
+A := A - 1; | - - A ;
+A := A - 1 end | - - A end
 mod | ` mod ` | rem
 div | ` div `
+div 2; | / / 2 ;
 (if E > F then E else F) | max ( E , F )
 (if E < F then E else F) | min ( E , F )
 (if E < 0 then -(E) else E) | abs ( E )
@@ -31,7 +37,7 @@ else begin | else if begin
 -A | negate A
 and | and then | andalso
 or | or else | orelse
-<> | not =
+<> | not = | is not | > < | = !
 (E) mod (F) | mod ( E , F )
 (E) div (F) | div ( E , F )
 = | is | = = = | = =
@@ -42,6 +48,7 @@ on A | on ( A )
 A := E | let mut A = E | let A : = E | let|set A = E
 A := A + E | A + = E | add E to A
 A := A - E | A - = E
+A := A * (E) | A * = E
 A := B + 1 | A : = B + +
 := | : =
 A := E | A = = E
@@ -55,10 +62,10 @@ K in A | A < - chan K | K input channel A | input K A
 K D L | D L : K | L : K D
 ); | ) - > | ) is|do|=
 ); begin | ) = | ) {
-K A | let A : K = 0 | A : : K | var A K | K : A | K A = 0|false | K A : = 0
+K A | K ( A ) | let A : K = 0 | A : : K | var A K | K : A | K A = 0|false | K A : = 0
 K A) | K A : = E ) | K A = E )
 K D A | D A K | D K A | K A D | A D K | A K D | K D channel A
-K R channel A | channel A : K R | R A : K | R K channel A | channel K A R | A = R ( K )
+K R channel A | A : K R channel | R channel K A | channel K R A | channel A : K R | R A : K | R K channel A | channel K A R | A = R ( K )
 K channel L | channel L : K
 K D L | L : D K
 (K in L | ( L : K
@@ -72,11 +79,13 @@ integer D A | D channel A
 K A, B; | K A ; B ;
 R channel A | channel R A
 integer R channel A | R channel A
-K channel A | A : = make ( chan K ) | channel|chan of K A | channel < K > A | chan|channel K A | A = channel ( K )
+K channel A | A : = make ( chan K ) | channel|chan of K A | channel < K > A | chan|channel K A | A = channel ( K ) | var A : channel of K
 K channel A, B; | K channel A ; B ;
+K R channel A, B; | K R channel A ; B ;
 integer channel A | channel A | var A = channel ( ) | A = channel ( )
 A(T | process A ( T
-process A( | process A [
+process A(K D L | A ( K D L
+process A( | process A [ | process A = (
 A(E) | A [ E ]
 (E) | [ E ]
 process A(); begin | process A begin
@@ -96,9 +105,13 @@ while E do begin | while E {
 A := 0; while A < F do begin A := A + 1; | for A : = 1 to F do begin | for A = 1 to F do begin
 A := E - 1; while A < F do begin A := A + 1; | for A : = E to F do begin
 A := E; while A <= F do begin G; A := A + 1 end | for A : = E to F do G | for A = E to F do G
-A := -1; while A < F - 1 do begin A := A + 1; | for ( A = 0 ; B < F ; C + + ) { | for ( K A = 0 ; B < F ; C + + ) {
+A := E + 1; while F < A do begin A := A - 1; | for A : = E downto F do begin | for A = E downto F do begin
+A := E; while F <= A do begin G; A := A - 1 end | for A : = E downto F do G | for A = E downto F do G
+A := 0; while A < F do begin G; A := A + 1 end | for A in range ( F ) : G
+A := E - 1; while A < F do begin A := A + 1; | for ( A = E ; B < = F ; C + + ) {|begin | for ( A : = E ; B < = F ; C + + ) {|begin | for ( K A = E ; B < = F ; C + + ) {|begin
+A := -1; while A < F - 1 do begin A := A + 1; | for ( A = 0 ; B < F ; C + + ) {|begin | for ( A : = 0 ; B < F ; C + + ) {|begin | for ( K A = 0 ; B < F ; C + + ) {|begin
 repeat begin | for|loop {
- | package|program A ; | import|program|module A | # define T
+ | import|package|program|use|uses|unit A ; | import|program|module A | # define T
 then | then :
 else | else :
 do | do :

@@ -73,7 +73,7 @@ pub(crate) fn is_name(word: &str) -> bool {
 }
 
 /// Names of a text.
-pub(crate) type Names<'t> = Result<Vec<&'t str>, AllocError>;
+pub(crate) type NamesBehind<'t> = Result<Vec<&'t str>, AllocError>;
 
 /// The names among parts of a text that stand behind one of these words, alone or in a list.
 pub(crate) fn names_behind<'t>(
@@ -81,7 +81,7 @@ pub(crate) fn names_behind<'t>(
     text: &'t str,
     parts: &[Span],
     words: &str,
-) -> Names<'t> {
+) -> NamesBehind<'t> {
     let (mut names, mut naming) = (Vec::new(alloc), false);
     for part in parts {
         let word = part_of(text, *part);

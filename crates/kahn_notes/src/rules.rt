@@ -1,16 +1,17 @@
 //! What is said of a place where a text goes wrong, beside what was expected there: the first that answers.
 
 use crate::blocks::{blocks_said, closer_said};
-use crate::changes::{LACKING, LIKELY, TWICE, first_of, is_slip, slip, split_said};
+use crate::changes::{LACKING, LIKELY, TWICE, first_of, is_slip, offered, slip, split_said};
 use crate::foreign::{closing_word, foreign_word};
 use crate::habits::{EARLY, HABITS, LAST, MARKS};
+use crate::mending::{Fixed, mending};
 use crate::place::{Place, exemplified, lexeme_at, name_at, near};
 use crate::rewriting::rewritten;
-use crate::said::{Saying, fix_of, put_at, sentence, told};
-use crate::table::{advice, are_joined, cell, finds, has_word};
+use crate::said::{Saying, filled, fix_of, put_at, sentence, told};
+use crate::table::{are_joined, cell, finds, fits, has_word};
 use itoa::Buffer;
 use kahn_marks::{Fix, part_of};
-use kahn_syntax::{Class, Keyword, Sign, Span};
+use kahn_syntax::{Class, Sign, Span};
 use kahn_wanted::{Change, Spot};
 use std::alloc::AllocError;
 
@@ -62,10 +63,49 @@ fn remark_slip(place: Place) -> Result<Option<Fix>, AllocError> {
     Ok(None)
 }
 
+/// Two lexemes on one line, of which the first is so many behind a place, in the other order; not a number and a word right behind it.
+fn swapped_at(place: Place, count: isize) -> Result<Option<Fix>, AllocError> {
+    let (one, other) = (near(place, count), near(place, count.saturating_add(1)));
+    let (Some(first), Some(second)) = (one, other) else {
+        return Ok(None);
+    };
+    let (from, to) = (first.span.to, second.span.from);
+    let between = part_of(place.text, Span { from, to });
+    let is_word = between.is_empty() && finds("number", one) && finds("name", other);
+    if is_word || between.contains('\n') {
+        return Ok(None);
+    }
+    let (to, alloc) = (second.span.to, place.alloc);
+    let words = [
+        (b'@', part_of(place.text, second.span)),
+        (b'_', between),
+        (b'#', part_of(place.text, first.span)),
+    ];
+    let put = filled(alloc, "@_#", false, &words)?;
+    let span = Span { to, ..first.span };
+    let beside = span;
+    Ok(Some(Fix { span, put, beside }))
+}
+
+/// Two lexemes at a place or before it in the other order, if the text is read past one that is so many behind the place then.
+fn interchanged(place: Place, count: isize) -> Fixed {
+    let end = place.text.len();
+    let from = near(place, count).map_or(end, |lexeme| lexeme.span.from);
+    for at in [0, -1, -2] {
+        let (fix, to) = (swapped_at(place, at)?, from);
+        let fix = mending(place.alloc, place.text, Span { from, to }, fix)?;
+        if fix.is_some() {
+            return Ok(fix);
+        }
+    }
+    Ok(None)
+}
+
 /// A sentence, where a row of a table fits.
 fn advised(table: &'static str, place: Place) -> Saying {
-    match advice(table, place) {
-        Some(words) => Ok(Some((None, None, Some(exemplified(place, words)?)))),
+    let mut rows = table.lines();
+    match rows.find(|row| fits(*row, place)) {
+        Some(row) => Ok(Some((None, None, Some(exemplified(place, cell(row, 3))?)))),
         None => Ok(None),
     }
 }
@@ -78,13 +118,6 @@ fn only_change(place: Place) -> Option<Change> {
     }
 }
 
-/// A change, if it is offered.
-fn offered(place: Place, spot: Spot, put: Option<Class>) -> Option<Change> {
-    let change = Change { spot, put };
-    let mut best = place.offers.best.iter();
-    best.find(|one| **one == change).copied()
-}
-
 /// The change that puts a keyword in the place of a word of another language, if it is the one that mends the text, or the one of the table.
 fn meant_change(place: Place) -> Option<Change> {
     let (spot, row) = foreign_word(place)?;
@@ -92,8 +125,7 @@ fn meant_change(place: Place) -> Option<Change> {
     if only.is_some_and(|one| matches!(one.put, Some(Class::Word(_)))) {
         return only;
     }
-    let keyword = Keyword::named(cell(row, 1).as_bytes())?;
-    offered(place, spot, Some(Class::Word(keyword)))
+    offered(place, spot, cell(row, 1))
 }
 
 /// What is said of a word of another language; and one that ends a block there is left out.
@@ -102,7 +134,7 @@ fn foreign_said(place: Place) -> Saying {
         return Ok(None);
     };
     let (alloc, text) = (place.alloc, place.text);
-    let fix = match offered(place, spot, None) {
+    let fix = match offered(place, spot, "nothing") {
         Some(change) if closing_word(place).is_some() => fix_of(place, change)?,
         _ => None,
     };
@@ -120,15 +152,12 @@ fn foreign_said(place: Place) -> Saying {
 /// What is said of a place by a rule, of these in turn: lines of others, and a number; one of two same words; several words of another
 /// language; slips; one such word; blocks; what would mislead; changes of one lexeme; habits; and what there is else.
 fn said_by(rule: usize, place: Place) -> Saying {
-    let twice = finds(
-        "process repeat while send print wait in out input output channel",
-        near(place, 0),
-    );
     let is_group = finds(",", near(place, -1)) && finds("integer logical", near(place, 0));
+    let is_body = finds("if while repeat", near(place, 0)) && finds("begin", near(place, 1));
     match rule {
         0 => advised(MARKS, place),
         1 => told(place, decimal(place)?),
-        2 if twice => told_change(place, first_of(place, TWICE)),
+        2 => told_change(place, first_of(place, TWICE)),
         3 => told(
             place,
             rewritten(place.alloc, place.text, place.text, place.span.from)?,
@@ -143,20 +172,22 @@ fn said_by(rule: usize, place: Place) -> Saying {
         11 => told_change(place, first_of(place, LIKELY)),
         12 => split_said(place),
         13 => told_change(place, first_of(place, LACKING)),
-        14 if is_group => {
+        14 if !is_body => told(place, interchanged(place, 4)?),
+        15 if is_group => {
             let (spot, put) = (Spot::Before, Some(Class::Sign(Sign::Semicolon)));
             told_change(place, Some(Change { spot, put }))
         }
-        15 => advised(HABITS, place),
-        16 if !finds("else", near(place, 0)) => told_change(place, only_change(place)),
-        17 => advised(LAST, place),
+        16 => advised(HABITS, place),
+        17 => told(place, interchanged(place, 2)?),
+        18 if !finds("else", near(place, 0)) => told_change(place, only_change(place)),
+        19 => advised(LAST, place),
         _ => Ok(None),
     }
 }
 
 /// What is said of the lexemes of a place.
 pub(crate) fn grammar_said(place: Place) -> Saying {
-    for rule in 0..18 {
+    for rule in 0..20 {
         let said = said_by(rule, place)?;
         if said.is_some() {
             return Ok(said);

@@ -1,5 +1,6 @@
 //! Tables of words, a row a line, with cells between bars; and what stands at a place, by such words.
 
+use crate::changes::{are_twice, is_late_else};
 use crate::place::{Place, is_declared, name_at, near};
 use crate::words::class_word;
 use kahn_syntax::Lexeme;
@@ -55,6 +56,19 @@ fn holds(test: &str, place: Place) -> bool {
         (_, Some(word)) => !may_stand(word, place.wanted),
         (_, _) => match test {
             "joined" => are_joined(place),
+            "apart" => !are_joined(place),
+            "twice" => are_twice(place, -1, 0),
+            "twins" => are_twice(place, -2, -1),
+            "role" => finds("in out input output", near(place, 1)),
+            "leading" => finds("else do then", near(place, 1)),
+            "late" => is_late_else(place),
+            "whole" => place.offers.whole,
+            "declared" => name_at(place, Spot::Here).is_some_and(|name| is_declared(place, name)),
+            "assigned" => {
+                let name = name_at(place, Spot::Before);
+                !finds("(", near(place, 0)) || name.is_none_or(|name| is_declared(place, name))
+            }
+            "bare" => !finds("integer logical", near(place, 1)),
             "known" => name_at(place, Spot::Before).is_some_and(|name| is_declared(place, name)),
             "first" =>
                 matches!(place.text.get(..place.span.from), Some(text) if text.is_empty() || text.ends_with("\n")),
@@ -63,16 +77,11 @@ fn holds(test: &str, place: Place) -> bool {
     }
 }
 
-/// The words of the first row of a table that fits at a place: the lexeme before it, the one there, and the tests.
-pub(crate) fn advice(table: &'static str, place: Place) -> Option<&'static str> {
-    let mut rows = table.lines();
-    let row = rows.find(|row| {
-        let (one, here) = (cell(row, 0), cell(row, 1));
-        (one == "any" || finds(one, near(place, -1)))
-            && (here == "any" || finds(here, near(place, 0)))
-            && cell(row, 2)
-                .split_whitespace()
-                .all(|test| holds(test, place))
-    })?;
-    Some(cell(row, 3))
+/// Whether a row of a table fits at a place: the lexeme before it, the one there, and the tests.
+pub(crate) fn fits(row: &'static str, place: Place) -> bool {
+    let (one, here) = (cell(row, 0), cell(row, 1));
+    let mut tests = cell(row, 2).split_whitespace();
+    (one == "any" || finds(one, near(place, -1)))
+        && (here == "any" || finds(here, near(place, 0)))
+        && tests.all(|test| holds(test, place))
 }
