@@ -7,7 +7,6 @@ use Rattle.kahn_streams.specs.declared.tree.Taking.TheVariants as taking
 use Rattle.kahn_streams.specs.declared.tree.Declaration.TheVariants as declared
 use Rattle.kahn_streams.specs.declared.tree.Argument.TheVariants as argued
 use Rattle.kahn_streams.specs.Syntax as S
-use Rattle.std.proofs.lemmas.Simd.{map-map}
 use Rattle.kahn_syntax.specs.Grammar as whole
 
 -- ---- expressions and statements of a tree
@@ -133,6 +132,14 @@ abbrev pub network_in : ProgramTree → Schema
 network_in (whole.program ds is) =
     record { channels = map (λ c. c.1) (channels_in ds); instances = map (made_in (map (λ c. c.0) (channels_in ds)) ds) is }
 
+map_twice : {A B C : Type 0} (f : A → B) (g : B → C) (xs : List A) → map (λ x. g (f x)) xs ≡ map g (map f xs)
+map_twice f g [] = refl
+map_twice f g (x ∷ xs) = ap (λ l. g (f x) ∷ l) (map_twice f g xs)
+
+map_alike : {A B : Type 0} (f g : A → B) → ((x : A) → f x ≡ g x) → (xs : List A) → map f xs ≡ map g xs
+map_alike f g h [] = refl
+map_alike f g h (x ∷ xs) = rw (h x) (ap (λ l. g x ∷ l) (map_alike f g h xs))
+
 same_actual : (channels : Scope) (t : Taking) (x : Argument) → actual_of channels t x ≡ actual_in channels t (argument_tree x)
 same_actual channels (taking.Channel In k) (argued.Channel n) = refl
 same_actual channels (taking.Channel Out k) (argued.Channel n) = refl
@@ -146,13 +153,13 @@ same_actuals channels (p ∷ ps) [] = refl
 same_actuals channels (p ∷ ps) (x ∷ xs) = rw (same_actual channels p.taking x, same_actuals channels ps xs) refl
 
 same_names : (p : Process) → names_of p ≡ map parameter_name (map parameter_of p.parameters.items) ++ map variable_name (map variable_of p.variables.items)
-same_names p = rw (sym (map-map parameter_name parameter_of p.parameters.items), sym (map-map variable_name variable_of p.variables.items)) refl
+same_names p = rw (map_twice parameter_of parameter_name p.parameters.items, map_twice variable_of variable_name p.variables.items) refl
 
 same_process : (channels : Scope) (p : Process) (xs : List Argument) → instance_from channels (Some p) xs
     ≡ process_in channels (map parameter_of p.parameters.items) (map variable_of p.variables.items) (statement_trees p.statements.items) (map argument_tree xs)
 same_process channels p xs =
     let actuals = same_actuals channels p.parameters.items xs in
-    let kinds : map (λ v. v.kind) p.variables.items ≡ map variable_kind (map variable_of p.variables.items) = sym (map-map variable_kind variable_of p.variables.items) in
+    let kinds : map (λ v. v.kind) p.variables.items ≡ map variable_kind (map variable_of p.variables.items) = map_twice variable_of variable_kind p.variables.items in
     let body : body_of (names_of p) p.statements.items ≡ row_in (map parameter_name (map parameter_of p.parameters.items) ++ map variable_name (map variable_of p.variables.items)) (statement_trees p.statements.items) =
     same_body (names_of p) p.statements.items ∙ ap (λ n. row_in n (statement_trees p.statements.items)) (same_names p) in
     ap (λ (a : List Actual). record { actuals = a; variables = map (λ v. v.kind) p.variables.items; body = body_of (names_of p) p.statements.items }) actuals
@@ -173,7 +180,7 @@ same_instance channels (declared.Process p ∷ ds) x xs =
 
 same_channels : (ds : List Declaration) → channels_of ds ≡ channels_in (map declaration_tree ds)
 same_channels [] = refl
-same_channels (declared.Channels k r ns ∷ ds) = rw (sym (map-map {C = List ℕ × (Kind × Role)} (λ n. (n, (k, r))) name_of ns.items), same_channels ds) refl
+same_channels (declared.Channels k r ns ∷ ds) = rw (map_twice {C = List ℕ × (Kind × Role)} name_of (λ n. (n, (k, r))) ns.items, same_channels ds) refl
 same_channels (declared.Process p ∷ ds) = same_channels ds
 
 pub same_network : (t : Program) → network_of t ≡ network_in (program_tree t)
@@ -185,7 +192,7 @@ same_network t =
     ∙ ap (λ (l : List (List ℕ × (Kind × Role))). instance_in (map (λ c. c.0) l) (map declaration_tree t.declarations.items) (name_of i.process) (map argument_tree i.arguments.items)) cs in
     ap (λ (l : List (List ℕ × (Kind × Role))). record { channels = map (λ c. c.1) l; instances = (network_of t).instances }) cs
     ∙ ap (λ (l : List Node). record { channels = map (λ c. c.1) (channels_in (map declaration_tree t.declarations.items)); instances = l })
-    ((λ j. map (λ i. made i j) t.instances.items) ∙ sym (map-map (made_in (map (λ c. c.0) (channels_in (map declaration_tree t.declarations.items))) (map declaration_tree t.declarations.items)) instance_tree t.instances.items))
+    (map_alike _ _ made t.instances.items ∙ map_twice instance_tree (made_in (map (λ c. c.0) (channels_in (map declaration_tree t.declarations.items))) (map declaration_tree t.declarations.items)) t.instances.items)
 
 -- ---- two programs that are one tree
 
@@ -205,4 +212,4 @@ module _ (t u : Program) (one : program_tree t ≡ program_tree u) where
 
   pub one_processes : map (λ i. bytes_of i.process) t.instances.items ≡ map (λ i. bytes_of i.process) u.instances.items
   one_processes =
-      sym (map-map instance_name instance_tree t.instances.items) ∙ ap (map instance_name) (ap composed_in one) ∙ map-map instance_name instance_tree u.instances.items
+      map_twice instance_tree instance_name t.instances.items ∙ ap (map instance_name) (ap composed_in one) ∙ sym (map_twice instance_tree instance_name u.instances.items)

@@ -1,2 +1,2 @@
-pub mod SampleTree
+pub mod SampleText
 pub mod inner

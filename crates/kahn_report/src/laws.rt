@@ -3,8 +3,8 @@
 ghost use Rattle.kahn_texts.specs.Formats.{HasItsLines};
 ghost use Rattle.kahn_fault.specs.Work.{IsOneReport};
 ghost use Rattle.kahn_streams.specs.{Answers.IsRight, Solution.Inputs, declared.answer.Answer.Answer, declared.config.Config.Config, declared.tree.Program.Program, Network.network_of, Sample.sample_network};
-ghost use Rattle.kahn_syntax.specs.Texts.{program_tree};
-ghost use Rattle.kahn_report.specs.SampleTree.{sample_tree};
+ghost use Rattle.kahn_syntax.specs.Texts.{IsProgram};
+ghost use Rattle.kahn_report.specs.SampleText.{IsSampleText};
 ghost use Rattle.std.specs.Prelude.{◌≡◌, ℕ, List, Option};
 
 /// Two finished reports of one program text and one input text, with one channel watched or none, are the same bytes,
@@ -13,10 +13,10 @@ pub fn one_report()
     ensures { (program input : List ℕ) (config other : Config) → IsOneReport program input config other }
 {}
 
-/// The network of the sample text of Kahn's paper, by its tree and so whatever its blanks, comments and letter case, is that of the law
-/// `sample` of kahn_streams: the value at place k of X is k mod 2.
+/// The network of the sample text of Kahn's paper, whatever its blanks, comments and letter case, is that of the law `sample`
+/// of kahn_streams: the value at place k of X is k mod 2.
 pub fn sample_text()
-    ensures { (t : Program) → program_tree t ≡ sample_tree → network_of t ≡ sample_network }
+    ensures { (text : List ℕ) (t : Program) → IsSampleText text → IsProgram text t → network_of t ≡ sample_network }
 {}
 
 /// Each stream of a right answer is of a line of the network, so that its report may be written.
