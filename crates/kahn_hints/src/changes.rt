@@ -1,6 +1,6 @@
 //! Which change of one word was perhaps meant: each is tried, and the one that leaves the fewest faults is told.
 
-use crate::heads::{head_before, targets_behind};
+use crate::heads::{end_of, head_before};
 use crate::lost::{longer_of, spans_of};
 use crate::names::{NameKind, names_asked, names_seen};
 use crate::near::nearest;
@@ -26,11 +26,16 @@ impl<'p> Trial<'p> {
                         self.put_one(EditKind::Near, place.at, place.part(*span))?;
                     }
                 }
-                return Ok(());
+                self.without_name(place.at)?;
+                let names = names_seen(place, place.process, None)?;
+                return match called_first(place.word(), &names) {
+                    Some(first) => self.without_name(first.span),
+                    None => Ok(()),
+                };
             }
             CheckFault::WrongCount(_) => return self.with_counts(),
-            CheckFault::NoWriter(_) => return self.with_role(fault, "input", "input channel"),
-            CheckFault::NoReader(_) => return self.with_role(fault, "output", "output channel"),
+            CheckFault::NoWriter(_) => return self.with_role(fault, "input"),
+            CheckFault::NoReader(_) => return self.with_role(fault, "output"),
             CheckFault::TooMany(_) | CheckFault::NoMemory => return Ok(()),
             CheckFault::WrongDirection(_) => {
                 if let Some(name) = nearest(place.word(), &names_asked(place)?) {
@@ -54,7 +59,7 @@ impl<'p> Trial<'p> {
     }
 
     /// The name at the place and the one behind its `on` interchanged, where a bracket may stand between; or the channels of the first
-    /// send that ends behind the place and of another one.
+    /// send that ends behind the place and of another one, or of all of them.
     fn with_targets(&mut self) -> Tried {
         let place = self.place;
         let is_closed = place.class(1) == Some(Class::Sign(Sign::Close));
@@ -66,27 +71,64 @@ impl<'p> Trial<'p> {
         ) {
             self.with_swap(EditKind::Swap, place.at, target)?;
         }
-        let targets = targets_behind(place)?;
+        let all = place.seen();
+        let mut targets: Vec<Span> = Vec::new(place.alloc);
+        for (on, target) in all.iter().zip(all.iter().skip(1)) {
+            if on.what == Class::Word(Keyword::On) && on.span.from >= place.at.from {
+                targets.push(target.span)?;
+            }
+        }
         let Some((first, rest)) = targets.split_first() else {
             return Ok(());
         };
         for other in rest {
             self.with_swap(EditKind::Swap, *first, *other)?;
         }
+        self.with_pairs(*first, &targets)
+    }
+
+    /// The channels of neighbouring sends interchanged, two by two.
+    fn with_pairs(&mut self, first: Span, targets: &[Span]) -> Tried {
+        let place = self.place;
+        let mut put = String::new(place.alloc);
+        let mut last = Span {
+            to: first.from,
+            ..first
+        };
+        for pair in targets.chunks(2) {
+            if let [one, other] = pair {
+                let front = place.part(Span {
+                    from: last.to,
+                    to: one.from,
+                });
+                let between = place.part(Span {
+                    from: one.to,
+                    to: other.from,
+                });
+                add(
+                    &mut put,
+                    &[front, place.part(*other), between, place.part(*one)],
+                )?;
+                last = *other;
+            }
+        }
+        if targets.len() > 3 {
+            self.put(EditKind::Flip, (first, last), &[put.as_str()])?;
+        }
         Ok(())
     }
 
     /// An instance of a process that has none and could have the side; or else a role in the declaration of the channel at the place, and one
     /// instance more of any process.
-    fn with_role(&mut self, fault: CheckFault, role: &str, head: &'p str) -> Tried {
+    fn with_role(&mut self, fault: CheckFault, role: &str) -> Tried {
         let place = self.place;
         if let Some(process) = place.idle(side_of(fault)) {
             return self.with_instance(process);
         }
-        if let Some((kind, _)) = head_before(place) {
-            self.put_one(EditKind::Role, kind, role)?;
+        if let Some(kind) = head_before(place).first() {
+            self.with_word(place.at, end_of(kind.span), role, true)?;
+            self.with_word(place.at, end_of(kind.span), role, false)?;
         }
-        self.with_head(place.at, false, Some(head))?;
         for declaration in &place.program.declarations {
             if let Declaration::Process(process) = declaration {
                 self.with_instance(process)?;
@@ -95,37 +137,12 @@ impl<'p> Trial<'p> {
         Ok(())
     }
 
-    /// Other directions, kinds and roles, in a part and of the channels that are arguments.
-    fn with_flips(&mut self, place: NetworkPlace, part: Span, handed: &[Handed]) -> Tried {
-        let mut directions: Vec<Span> = Vec::new(place.alloc);
-        for (number, lexeme) in place.lexemes.iter().enumerate() {
-            let words = flipped(lexeme.what);
-            let is_within = is_in(part, lexeme.span);
-            if is_within && matches!(lexeme.what, Class::Word(Keyword::In | Keyword::Out)) {
-                directions.push(lexeme.span)?;
-            }
-            let is_tried = self.tries > 0 && !words.is_empty();
-            if is_tried && (is_within || declares_one(place, number, handed)) {
-                self.put_each(lexeme.span, words)?;
-            }
-        }
-        self.with_swaps(EditKind::Moved, &directions)
-    }
-
-    /// Each of some words in the place of a direction, kind or role.
-    fn put_each(&mut self, span: Span, words: &'static [&'static str]) -> Tried {
-        for put in words {
-            self.put_one(EditKind::Flip, span, put)?;
-        }
-        Ok(())
-    }
-
     /// Those for a name that isn't declared: a near one, or the parameter for which an instance hands over its channel; or one that nothing
     /// uses, there or declared so; or a declaration.
     fn with_unknown(&mut self) -> Tried {
         let place = self.place;
-        if longer_of(place).is_some() {
-            return Ok(());
+        if let Some((process, _)) = longer_of(place) {
+            return self.with_parameter(process);
         }
         let names = names_asked(place)?;
         let near = nearest(place.word(), &names);
@@ -149,7 +166,8 @@ impl<'p> Trial<'p> {
         }
         self.with_declared()?;
         if place.process.is_none() {
-            return self.with_names();
+            self.with_spares(place.handed_at(place.at.from))?;
+            return self.with_names(NameKind::Value);
         }
         Ok(())
     }
@@ -170,16 +188,16 @@ impl<'p> Trial<'p> {
         Ok(())
     }
 
-    /// The other names in sight, put in the place of the one at the place.
-    fn with_names(&mut self) -> Tried {
+    /// The other names in sight, put in the place of the one at the place: of channels those that don't have this side.
+    fn with_names(&mut self, side: NameKind) -> Tried {
         let place = self.place;
         for name in &names_asked(place)? {
-            if self.tries > 0 && !is_called(place.word(), name) {
-                let is_used = is_used(place, name);
-                let way = if is_used {
-                    EditKind::Used
-                } else {
-                    EditKind::Unused
+            let word = name.text.as_bytes();
+            let is_free = !is_called(place.word(), name) && place.passed(side, word).is_none();
+            if self.tries > 0 && is_free {
+                let way = match is_used(place, name) {
+                    true => EditKind::Used,
+                    false => EditKind::Unused,
                 };
                 self.put_name(way, place.at, name)?;
             }
@@ -207,25 +225,12 @@ impl<'p> Trial<'p> {
             self.with_groups(handed)?;
             self.with_spares(handed)?;
         }
-        self.with_flips(place, flips_in(place, called), handed)?;
         self.with_heads(fault)?;
+        self.with_directions(called)?;
         if is_of_names(place, fault) {
-            self.with_names()?;
+            self.with_names(side_of(fault))?;
         }
         self.with_moves(&spans)
-    }
-}
-
-/// The other direction or role, or none; the other kind.
-fn flipped(class: Class) -> &'static [&'static str] {
-    match class {
-        Class::Word(Keyword::In) => &["out", ""],
-        Class::Word(Keyword::Out) => &["in", ""],
-        Class::Word(Keyword::Integer) => &["logical"],
-        Class::Word(Keyword::Logical) => &["integer"],
-        Class::Word(Keyword::Input) => &["output", ""],
-        Class::Word(Keyword::Output) => &["input", ""],
-        _ => &[],
     }
 }
 
@@ -242,37 +247,6 @@ fn forms_in(place: NetworkPlace) -> &'static [&'static str] {
             "logical output channel ",
         ],
     }
-}
-
-/// Whether a kind or a role is that of the declaration of a channel which is one of some arguments.
-fn declares_one(place: NetworkPlace, number: usize, handed: &[Handed]) -> bool {
-    let rest = place.lexemes.get(number..).unwrap_or(&[]);
-    let second = rest.get(1).map(|lexeme| lexeme.what);
-    let mut row = rest
-        .iter()
-        .take_while(|lexeme| lexeme.what != Class::Sign(Sign::Semicolon));
-    let Some(Class::Word(Keyword::Channel | Keyword::Input | Keyword::Output)) = second else {
-        return false;
-    };
-    row.any(|lexeme| {
-        let word = word_at(place.text, lexeme.span);
-        handed.iter().any(|one| one.is_channel(word))
-    })
-}
-
-/// The part of a text in which a direction or a kind may be another one: of the process that has the fault, or the parameters of the one
-/// that an instance names, to the first `)`.
-fn flips_in(place: NetworkPlace, called: &[u8]) -> Span {
-    let Some(part) = text_of(place.program, called) else {
-        return Span { from: 0, to: 0 };
-    };
-    let mut all = place.within(part).iter();
-    let close = all.find(|lexeme| lexeme.what == Class::Sign(Sign::Close));
-    let to = match (place.process, close) {
-        (None, Some(close)) => close.span.from,
-        _ => part.to,
-    };
-    Span { to, ..part }
 }
 
 /// Whether a name stands more than once in the part of a text that sees the names at a place.

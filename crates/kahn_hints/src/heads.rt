@@ -1,109 +1,204 @@
-//! Another head for a name that is declared in a row: another direction, kind or role.
+//! Another head for declared names: another kind, direction or role.
 
 use crate::names::{NameKind, names_seen};
-use crate::place::{NetworkPlace, called_first, word_at};
+use crate::place::{NetworkPlace, called_first, is_called, process_called};
 use crate::trial::{EditKind, Trial, Tried};
 use kahn_marks::add;
-use kahn_streams::{CheckFault, Span};
-use kahn_syntax::{Class, Keyword, Sign};
+use kahn_streams::{Argument, CheckFault, Name, Process, Span};
+use kahn_syntax::{Class, Keyword, Lexeme, Sign};
 use std::alloc::AllocError;
 
-/// The last kind before a place, and all of the head that it begins: with a direction, or a role and `channel`.
-pub(crate) fn head_before(place: NetworkPlace) -> Option<(Span, Span)> {
-    let front = place.lexemes.get(..place.number)?;
-    let last = front.iter().rposition(|lexeme| is_kind(lexeme.what))?;
-    let rest = front.get(last..)?;
-    let kind = rest.first()?.span;
-    let words = rest
-        .iter()
-        .take_while(|lexeme| matches!(lexeme.what, Class::Word(_)));
-    let to = words.last()?.span.to;
-    Some((kind, Span { to, ..kind }))
+/// The place behind a part.
+pub(crate) fn end_of(part: Span) -> Span {
+    let (from, to) = (part.to, part.to);
+    Span { from, to }
 }
 
 /// Whether a lexeme is a kind.
-fn is_kind(class: Class) -> bool {
-    matches!(class, Class::Word(Keyword::Integer | Keyword::Logical))
+fn is_kind(lexeme: &Lexeme) -> bool {
+    matches!(
+        lexeme.what,
+        Class::Word(Keyword::Integer | Keyword::Logical)
+    )
 }
 
-/// Where the channels of the sends of its process stand that end behind a place.
-pub(crate) fn targets_behind(place: NetworkPlace) -> Result<Vec<Span>, AllocError> {
-    let all = place.seen();
-    let mut targets = Vec::new(place.alloc);
-    for (on, target) in all.iter().zip(all.iter().skip(1)) {
-        if on.what == Class::Word(Keyword::On) && on.span.from >= place.at.from {
-            targets.push(target.span)?;
+/// The head of the row in which the name at a place is declared: a kind, and the words behind it.
+pub(crate) fn head_before<'p>(place: NetworkPlace<'p>) -> &'p [Lexeme] {
+    let front = place.lexemes.get(..place.number).unwrap_or(&[]);
+    let first = front.iter().rposition(is_kind).unwrap_or(front.len());
+    let rest = front.get(first..).unwrap_or(&[]);
+    let mut all = rest.iter();
+    let words = all.position(|lexeme| !matches!(lexeme.what, Class::Word(_)));
+    rest.get(..words.unwrap_or(rest.len())).unwrap_or(&[])
+}
+
+/// The words that may stand in the place of one of a head: another kind, direction or role, or none.
+fn others_for(class: Class) -> &'static [&'static str] {
+    match class {
+        Class::Word(Keyword::Integer) => &["logical"],
+        Class::Word(Keyword::Logical) => &["integer"],
+        Class::Word(Keyword::In) => &["out", ""],
+        Class::Word(Keyword::Out) => &["in", ""],
+        Class::Word(Keyword::Input) => &["output", ""],
+        Class::Word(Keyword::Output) => &["input", ""],
+        _ => &[],
+    }
+}
+
+/// The names whose heads may be wrong: all of the process at a place, or the channels that the instance there hands over, and the parameters
+/// that take them.
+fn suspects<'p>(place: NetworkPlace<'p>) -> Result<Vec<&'p Name>, AllocError> {
+    let Some(instance) = place.instance() else {
+        return names_seen(place, place.process, None);
+    };
+    let channels = names_seen(place, None, Some(NameKind::Channel))?;
+    let mut names = Vec::new(place.alloc);
+    for argument in &instance.arguments {
+        if let Argument::Channel(name) = argument {
+            if let Some(channel) = called_first(name.text.as_bytes(), &channels) {
+                names.push(channel)?;
+            }
         }
     }
-    Ok(targets)
+    if let Some(process) = process_called(place.program, instance.process.text.as_bytes()) {
+        for parameter in &process.parameters {
+            names.push(&parameter.name)?;
+        }
+    }
+    Ok(names)
 }
 
 impl<'p> Trial<'p> {
-    /// The kind in the head of a declared name is the other one, or this stands behind it: of this name and those of the row behind it, of
-    /// all, and of this one alone.
-    pub(crate) fn with_head(&mut self, name: Span, is_other: bool, rest: Option<&'p str>) -> Tried {
+    /// One word of the head of a name is another one: for all names of its row; or for it and those behind it, and for it alone.
+    pub(crate) fn with_word(&mut self, name: Span, old: Span, word: &str, is_whole: bool) -> Tried {
         let place = self.place.moved_to(name);
-        let Some((kind, head)) = head_before(place) else {
+        let head = head_before(place);
+        let (Some(first), Some(last)) = (head.first(), head.last()) else {
             return Ok(());
         };
-        let (from, to) = (kind.to, head.to);
-        let rest = rest.unwrap_or(place.part(Span { from, to }).trim());
-        let found = place.part(kind);
-        let kind = match found.eq_ignore_ascii_case("logical") {
-            _ if !is_other => found,
-            true => "integer",
-            false => "logical",
-        };
-        let (mut new, mut put) = (String::new(place.alloc), String::new(place.alloc));
-        add(&mut new, &[kind, " ", rest])?;
-        let (new, mut start) = (new.trim(), head);
+        let (from, to) = (first.span.from, last.span.to);
+        if is_whole {
+            let is_inserted = old.from == old.to;
+            let way = if is_inserted {
+                EditKind::Role
+            } else {
+                EditKind::Flip
+            };
+            return self.put_one(way, if is_inserted { first.span } else { old }, word);
+        }
+        let front = place.part(Span { from, to: old.from });
+        let back = place.part(Span { from: old.to, to });
+        let mut put = String::new(place.alloc);
+        let mut start = first.span;
         if let Some(first) = place.beyond(Sign::Comma, -1) {
             add(&mut put, &[place.part(first), "; "])?;
             start = first;
         }
-        add(&mut put, &[new, " ", place.part(name)])?;
+        for part in [front.trim(), word, back.trim()] {
+            add(&mut put, &[part, if part.is_empty() { "" } else { " " }])?;
+        }
+        put.push_str(place.part(name))?;
         self.put(EditKind::Flip, (start, name), &[put.as_str()])?;
-        self.put_one(EditKind::Flip, head, new)?;
-        let Some(last) = place.beyond(Sign::Comma, 1) else {
+        let Some(next) = place.beyond(Sign::Comma, 1) else {
             return Ok(());
         };
-        add(&mut put, &["; ", place.part(head), " ", place.part(last)])?;
-        self.put(EditKind::Flip, (start, last), &[put.as_str()])
+        let head = place.part(Span { from, to });
+        add(&mut put, &["; ", head, " ", place.part(next)])?;
+        self.put(EditKind::Flip, (start, next), &[put.as_str()])
     }
 
-    /// Those of a fault of directions or kinds: of the name at the place, of what is assigned or written there, and of the parameter that
-    /// takes what stands there.
-    pub(crate) fn with_heads(&mut self, fault: CheckFault) -> Tried {
-        let place = self.place;
-        let direction = match (fault, place.asked()) {
-            (CheckFault::WrongKind(_), _) => None,
-            (_, NameKind::Source) => Some("in"),
-            (_, NameKind::Target) => Some("out"),
-            (_, NameKind::Value) => Some(""),
-            _ => return Ok(()),
-        };
-        let names = names_seen(place, place.process, None)?;
-        let targets = targets_behind(place)?;
-        let others = match (direction, place.process) {
-            (None, Some(_)) => (place.beyond(Sign::Becomes, -1), targets.first().copied()),
-            _ => (None, None),
-        };
-        for part in [Some(place.at), others.0, others.1] {
-            let word = part.map(|part| word_at(place.text, part));
-            let name = word.and_then(|word| called_first(word, &names));
-            if let Some(name) = name {
-                if direction.is_some() {
-                    self.with_head(name.span, false, direction)?;
+    /// The words of the head of a name that may be other ones: its kind, or its direction or role, where a value may have the one that is
+    /// asked for.
+    fn with_words(&mut self, name: Span, is_of_kinds: bool, is_whole: bool) -> Tried {
+        let head = head_before(self.place.moved_to(name));
+        for lexeme in head {
+            if is_kind(lexeme) == is_of_kinds {
+                for word in others_for(lexeme.what) {
+                    self.with_word(name, lexeme.span, word, is_whole)?;
                 }
-                self.with_head(name.span, true, direction)?;
             }
         }
-        if direction.is_some() || place.process.is_some() {
+        let inserted = match self.place.asked() {
+            NameKind::Source => "in",
+            NameKind::Target => "out",
+            _ => return Ok(()),
+        };
+        match (head, is_of_kinds) {
+            ([kind], false) => self.with_word(name, end_of(kind.span), inserted, is_whole),
+            _ => Ok(()),
+        }
+    }
+
+    /// Those for a fault of kinds, or of directions and roles: of all names of a row first.
+    pub(crate) fn with_heads(&mut self, fault: CheckFault) -> Tried {
+        let place = self.place;
+        let is_of_kinds = matches!(fault, CheckFault::WrongKind(_));
+        let names = suspects(place)?;
+        for is_whole in [true, false] {
+            for name in &names {
+                let its = place.moved_to(name.span);
+                let is_first = place.process.is_none() || its.beyond(Sign::Comma, -1).is_none();
+                let is_meant = if is_whole {
+                    is_first
+                } else {
+                    is_of_kinds || is_called(place.word(), name) && place.process.is_some()
+                };
+                if is_meant && self.tries > 0 {
+                    self.with_words(name.span, is_of_kinds, is_whole)?;
+                }
+            }
+        }
+        Ok(())
+    }
+
+    /// The declaration of a name left out, with the comma beside it, or with all of its row.
+    pub(crate) fn without_name(&mut self, name: Span) -> Tried {
+        let place = self.place.moved_to(name);
+        let is_comma = |behind| place.class(behind) == Some(Class::Sign(Sign::Comma));
+        let head = head_before(place);
+        let (from, to) = match head.first() {
+            _ if is_comma(-1) => (place.span(-1), Some(name)),
+            Some(_) if is_comma(1) => (Some(name), place.span(1)),
+            first => (first.map(|first| first.span), place.span(1)),
+        };
+        match (from, to) {
+            (Some(from), Some(to)) => self.put(EditKind::Flip, (from, to), &[""]),
+            _ => Ok(()),
+        }
+    }
+
+    /// One parameter more, which has the name at the place, where an instance hands over more arguments.
+    pub(crate) fn with_parameter(&mut self, process: &Process) -> Tried {
+        let place = self.place;
+        let way = match place.asked() {
+            NameKind::Source => "in ",
+            NameKind::Target => "out ",
+            _ => "",
+        };
+        for parameter in &process.parameters {
+            for kind in ["; integer ", "; logical "] {
+                let at = (parameter.name.span, parameter.name.span);
+                self.put(EditKind::Role, at, &[kind, way, place.part(place.at)])?;
+            }
+        }
+        Ok(())
+    }
+
+    /// Neighbouring directions interchanged, and neighbouring groups, of the process at a place.
+    pub(crate) fn with_directions(&mut self, called: &[u8]) -> Tried {
+        let place = self.place;
+        let Some(process) = process_called(place.program, called) else {
             return Ok(());
+        };
+        let mut directions: Vec<Span> = Vec::new(place.alloc);
+        for parameter in &process.parameters {
+            for lexeme in head_before(place.moved_to(parameter.name.span)) {
+                let is_new = directions.last().map(|last| last.from) != Some(lexeme.span.from);
+                if is_new && matches!(lexeme.what, Class::Word(Keyword::In | Keyword::Out)) {
+                    directions.push(lexeme.span)?;
+                }
+            }
         }
-        match place.parameter() {
-            Some(name) => self.with_head(name.span, true, None),
-            None => Ok(()),
-        }
+        self.with_swaps(EditKind::Moved, &directions)
     }
 }

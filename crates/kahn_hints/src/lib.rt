@@ -11,7 +11,6 @@ mod mending;
 mod names;
 mod near;
 mod notes;
-mod others;
 mod place;
 mod said;
 mod sight;

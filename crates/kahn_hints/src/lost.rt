@@ -13,7 +13,8 @@ pub(crate) fn spans_of(alloc: Global, handed: &[Handed]) -> Result<Vec<Span>, Al
     handed.iter().map(|one| one.span).collect(alloc)
 }
 
-/// Whether arguments are of the kinds that parameters take, and channels where they take these, one by one, as far as both go.
+/// Whether arguments are of the kinds that parameters take, and channels or unknown names where they take these, one by one, as far as both
+/// go.
 fn all_fit(place: NetworkPlace, parameters: &[Parameter], handed: &[Handed]) -> bool {
     for (parameter, one) in parameters.iter().zip(handed) {
         let is_fit = match (parameter.taking, one.argument) {
@@ -21,7 +22,7 @@ fn all_fit(place: NetworkPlace, parameters: &[Parameter], handed: &[Handed]) -> 
             (Taking::Value(kind), Argument::Logical(_, _)) => kind == Kind::Logical,
             (Taking::Channel(_, kind), Argument::Channel(name)) => {
                 let found = channel_called(place.program, name.text.as_bytes());
-                matches!(found, Some((found, _)) if found == kind)
+                found.is_none_or(|(found, _)| found == kind)
             }
             _ => false,
         };
@@ -167,7 +168,7 @@ impl<'p> Trial<'p> {
         }
     }
 
-    /// Spare channels in the place of all arguments of an instance that stand elsewhere before for the same side, where several do.
+    /// Spare channels in the place of all arguments of an instance that aren't declared, or stand elsewhere before for the same side, where several do.
     pub(crate) fn with_spares(&mut self, handed: &[Handed<'p>]) -> Tried {
         let place = self.place;
         let mut put = String::new(place.alloc);
@@ -178,8 +179,9 @@ impl<'p> Trial<'p> {
                 continue;
             };
             let side = taken_by(parameter).0;
-            let first = place.moved_to(one.span).passed_before(side);
-            if side != NameKind::Value && first.is_some() {
+            let its = place.moved_to(one.span);
+            let is_wrong = its.passed_before(side).is_some() || its.channel().is_none();
+            if side != NameKind::Value && is_wrong {
                 let Some(spare) = self.spare_for(parameter, &mut taken)? else {
                     return Ok(());
                 };

@@ -7,12 +7,11 @@ ghost use Rattle.kahn_hints.specs.Hints.{HasOneMore, LessensFaults, TellsFault, 
 use crate::changes::{add_change, change_for, is_elsewhere, is_of_sides};
 use crate::kept::kept;
 use crate::mending::{found_kind, left_by};
-use crate::others::others_of;
 use crate::place::{NetworkPlace, beginning, handed_in};
-use crate::said::{add_advice, add_found};
+use crate::said::{add_advice, add_found, facts_of, others_of};
 use crate::trial::{Edit, tries_of};
 use kahn_fault::{check_span, check_words};
-use kahn_marks::{Fix, MOST_NOTES, Note, Sort, first_ones};
+use kahn_marks::{Fix, MOST_NOTES, Note, Other, Sort, first_ones};
 use kahn_streams::{CheckFault, NoMemory, Program, Span};
 use kahn_syntax::lex;
 use std::alloc::Global;
@@ -44,25 +43,26 @@ fn span_of(fault: CheckFault) -> Span
     }
 }
 
-/// The words of a fault, with what is wanted and found, and what to do.
-fn words_of(
+/// The words of a fault, with what is wanted and found, and what to do; and the other places that have to do with it.
+fn told_of(
     place: NetworkPlace,
     fault: CheckFault,
     change: &Option<Edit>,
-) -> Result<String, NoMemory> {
+) -> Result<(String, Vec<Other>), NoMemory> {
     let kind = match fault {
         CheckFault::WrongKind(_) => found_kind(place)?,
         _ => None,
     };
+    let facts = facts_of(place, fault, kind)?;
     let mut words = String::from_str(place.alloc, check_words(fault))?;
-    add_found(&mut words, place, fault, kind)?;
+    add_found(&mut words, place, fault, &facts)?;
     match change {
         Some(change) if !is_of_sides(fault) => {
             add_change(&mut words, place, change)?;
         }
-        _ => add_advice(&mut words, place, fault, kind)?,
+        _ => add_advice(&mut words, place, fault, &facts)?,
     }
-    Ok(words)
+    Ok((words, others_of(place, fault, &facts)?))
 }
 
 /// The change that is told apart from the words of a fault at a place.
@@ -103,8 +103,7 @@ fn found_at(
         Some(change) => change.left == 0,
         None => false,
     };
-    let words = words_of(place, fault, &change)?;
-    let others = others_of(place, fault)?;
+    let (words, others) = told_of(place, fault, &change)?;
     let note = Note {
         sort: Sort::Error,
         span: span_of(fault),

@@ -248,6 +248,13 @@ impl<'p> NetworkPlace<'p> {
         rest.get(..instance.arguments.len()).unwrap_or(&[])
     }
 
+    /// The instance that begins there, up to its last argument.
+    pub(crate) fn whole(&self, begin: Span) -> &'p str {
+        let last = self.handed_at(begin.from).last();
+        let to = last.map_or(begin.to, |last| last.span.to);
+        self.part(Span { to, ..begin })
+    }
+
     /// Where a channel is handed over first for such a parameter.
     pub(crate) fn passed(&self, side: NameKind, word: &[u8]) -> Option<Span> {
         let mut all = self.handed.iter();

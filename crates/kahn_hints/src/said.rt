@@ -1,14 +1,15 @@
-//! The words behind those of a fault: what is wanted, what is found, and what to do.
+//! The words behind those of a fault, by what is known of its place: what is wanted, what is found, and what to do; and another place.
 
 use crate::lost::{longer_of, lost_in};
-use crate::names::{NameKind, names_asked, taken_by};
+use crate::names::{NameKind, names_asked, names_seen, taken_by};
 use crate::near::nearest;
-use crate::place::{NetworkPlace, is_called, side_of};
+use crate::place::{NetworkPlace, called_first, is_called, side_of};
 use crate::sight::{add_meant, add_names, first_once};
 use itoa::Buffer;
-use kahn_marks::{add, add_spot};
+use kahn_fault::check_words;
+use kahn_marks::{Other, add, add_spot};
 use kahn_streams::{CheckFault, Kind, Process, Role, Span};
-use kahn_syntax::{Class, Keyword};
+use kahn_syntax::{Class, Keyword, Sign};
 use std::alloc::AllocError;
 
 /// Whether memory was there for adding words.
@@ -17,45 +18,128 @@ pub(crate) type Added = Result<(), AllocError>;
 /// How many bytes of an expression stand in a sentence at most.
 const MOST_SHOWN: usize = 40;
 
-/// What to do about a channel that has a side twice.
-const JOIN: &str =
-    "; give each writer a channel of its own, and join these in a process, as in examples/merge.kahn";
+/// What is wanted, and what is found: of a fault, the first row of which all facts hold.
+const FOUND: &str = "
+name is not declared | wants-process channel |  as a process, but as a channel
+kind does not agree | integer | : wanted logical, found integer
+kind does not agree | logical | : wanted integer, found logical
+direction does not agree | source | : wanted `in`, found `out`
+direction does not agree | target | : wanted `out`, found `in`
+a channel is expected | outside is-process | , found a process
+a channel is expected | - | , found a value
+a value is expected | channel | , found a channel
+a value is expected | body | , found a channel
+a value is expected | is-process | , found a process
+a value is expected | - | , found a name; an instance hands over numbers, `true` and `false`
+limit is exceeded | - | ; a program has at most 1024 channels and 256 instances
+";
 
-const SPREAD: &str =
-    "; let a process take from it and send each value on a channel for each reader";
+/// What to do: `#` is what stands at the place, `@` a process.
+const ADVICE: &str = "
+kind does not agree | integer body | ; `# <> 0` is a truth value of `#`
+kind does not agree | logical body | ; `(if # then 1 else 0)` is a number of `#`
+kind does not agree | named outside | 
+kind does not agree | integer | ; hand over `true` or `false` there
+kind does not agree | logical | ; hand over a number there
+a value is expected | from-channel assigned | ; declare a variable for what is taken from it
+a value is expected | from-channel | ; its next value is `wait(#)`
+a value is expected | to-channel | ; it takes a value by `send E on #`
+a value is expected | outside channel | ; hand over a number, `true` or `false` there
+name is not declared | channel target integer | ; add `integer out #` to the parameters of `@`, and hand `#` to it
+name is not declared | channel target logical | ; add `logical out #` to the parameters of `@`, and hand `#` to it
+name is not declared | channel body integer | ; add `integer in #` to the parameters of `@`, and hand `#` to it
+name is not declared | channel body logical | ; add `logical in #` to the parameters of `@`, and hand `#` to it
+name is not declared | body value long | ; a constant from outside is a value parameter
+name is declared twice | channel is-process | ; channels and processes share one name space: give one of them another name
+channel has two writers | - | ; give each writer a channel of its own, and join these in a process, as in examples/merge.kahn
+channel has two readers | - | ; let a process take from it and send each value on a channel for each reader
+channel has no writer | idle | ; `@` has no instance, and could write it
+channel has no reader | idle | ; `@` has no instance, and could read it
+channel has no writer | inner unread | ; it is handed to no process: leave its declaration out
+channel has no writer | inner | ; hand it to an `out` parameter, or declare it `input` where its values come from outside
+channel has no writer | - | ; hand it to an `out` parameter
+channel has no reader | inner | ; hand it to an `in` parameter, or declare it `output` where its values are to be reported
+channel has no reader | - | ; hand it to an `in` parameter, or leave its declaration out
+";
 
-/// What to do about a channel that lacks a side.
-const SOURCE: &str =
-    "; hand it to an `out` parameter, or declare it `input` where its values come from outside";
+/// What is said of another place.
+const ELSEWHERE: &str = "
+name is declared twice | - | declared here first
+name is not declared | body | declared here, outside of the process, which sees its own names alone
+name is not declared | - | declared here as a channel, and not as a process
+channel has no writer | - | this process has no instance
+channel has no reader | - | this process has no instance
+channel has two writers | passed | handed over here first, to be written
+channel has two readers | passed | handed over here first, to be read
+channel has two writers | - | declared here as an input, which is written from outside: without `input` a process writes it
+channel has two readers | - | declared here as an output, which is read from outside: without `output` a process reads it, and --watch shows it
+a channel is expected | literal | its parameter is declared here
+";
 
-const DRAIN: &str =
-    "; hand it to an `in` parameter, or declare it `output` where its values are to be reported";
+/// A fact that always holds.
+const ALWAYS: &str = "-";
 
-/// What is wanted, and what is found; of a fault of kinds this one.
-fn found_words(place: NetworkPlace, fault: CheckFault, kind: Option<Kind>) -> &'static str {
-    let (asked, is_inner) = (place.asked(), place.process.is_some());
-    let (is_channel, is_process) = (place.channel().is_some(), place.called().is_some());
-    match fault {
-        CheckFault::Unknown(_) if is_channel && asked == NameKind::Process => {
-            " as a process, but as a channel"
+/// The sentence of the first row of a fault of which all facts hold.
+fn sentence_of(table: &'static str, fault: CheckFault, facts: &[&str]) -> Option<&'static str> {
+    for row in table.lines() {
+        let (words, rest) = row.split_once(" | ").unwrap_or(("", ""));
+        let (wanted, sentence) = rest.split_once(" | ").unwrap_or(("", ""));
+        let mut all = wanted.split_whitespace();
+        if words == check_words(fault) && all.all(|fact| facts.contains(&fact)) {
+            return Some(sentence);
         }
-        CheckFault::WrongKind(_) => match kind {
-            Some(Kind::Integer) => ": wanted logical, found integer",
-            Some(Kind::Logical) => ": wanted integer, found logical",
-            None => "",
-        },
-        CheckFault::WrongDirection(_) if asked == NameKind::Source => ": wanted `in`, found `out`",
-        CheckFault::WrongDirection(_) if asked == NameKind::Target => ": wanted `out`, found `in`",
-        CheckFault::ChannelExpected(_) if is_process && !is_inner => ", found a process",
-        CheckFault::ChannelExpected(_) => ", found a value",
-        CheckFault::ValueExpected(_) if is_channel || is_inner => ", found a channel",
-        CheckFault::ValueExpected(_) if is_process => ", found a process",
-        CheckFault::ValueExpected(_) => {
-            ", found a name; an instance hands over numbers, `true` and `false`"
-        }
-        CheckFault::TooMany(_) => "; a program has at most 1024 channels and 256 instances",
-        _ => "",
     }
+    None
+}
+
+/// The parameter of its process that has the letters at a place.
+fn parameter_there(place: NetworkPlace) -> Option<NameKind> {
+    let mut all = place.process?.parameters.iter();
+    let parameter = all.find(|parameter| is_called(place.word(), &parameter.name))?;
+    Some(taken_by(parameter).0)
+}
+
+/// What is known of the place of a fault; of one of kinds, which was found.
+pub(crate) fn facts_of(
+    place: NetworkPlace,
+    fault: CheckFault,
+    kind: Option<Kind>,
+) -> Result<Vec<&'static str>, AllocError> {
+    let (channel, parameter) = (place.channel(), parameter_there(place));
+    let kind = kind.or(channel.map(|channel| channel.0));
+    let (asked, side, word) = (place.asked(), side_of(fault), place.word());
+    let mut facts = Vec::new(place.alloc);
+    for (holds, fact) in [
+        (true, ALWAYS),
+        (place.process.is_some(), "body"),
+        (place.process.is_none(), "outside"),
+        (channel.is_some(), "channel"),
+        (matches!(channel, Some((_, Role::Inner))), "inner"),
+        (place.called().is_some(), "is-process"),
+        (place.class(0) == Some(Class::Name), "named"),
+        (place.class(0) != Some(Class::Name), "literal"),
+        (kind == Some(Kind::Integer), "integer"),
+        (kind == Some(Kind::Logical), "logical"),
+        (asked == NameKind::Process, "wants-process"),
+        (asked == NameKind::Source, "source"),
+        (asked == NameKind::Target, "target"),
+        (asked == NameKind::Value, "value"),
+        (
+            place.class(1) == Some(Class::Sign(Sign::Becomes)),
+            "assigned",
+        ),
+        (word.len() > 1, "long"),
+        (parameter == Some(NameKind::Source), "from-channel"),
+        (parameter == Some(NameKind::Target), "to-channel"),
+        (place.idle(side).is_some(), "idle"),
+        (place.passed(NameKind::Source, word).is_none(), "unread"),
+        (place.passed_before(side).is_some(), "passed"),
+    ] {
+        if holds {
+            facts.push(fact)?;
+        }
+    }
+    Ok(facts)
 }
 
 /// Adds how many parameters a process has and how many arguments an instance, each behind some words.
@@ -79,159 +163,96 @@ fn add_counts(words: &mut String, place: NetworkPlace) -> Added {
     let arguments = instance.arguments.len();
     add_numbers(words, ": wanted ", process, ", found ", arguments)?;
     let lost = lost_in(place, process)?;
-    match (lost.first(), lost.last()) {
-        (Some((_, Some(one))), Some((_, Some(other)))) if one.span == other.span => {
-            add(words, &["; is `", one.text.as_str(), "` missing?"])
+    let (Some((first, one)), Some((last, other))) = (lost.first(), lost.last()) else {
+        return Ok(());
+    };
+    if let (Some(one), Some(other)) = (one, other) {
+        if one.span == other.span {
+            return add(words, &["; is `", one.text.as_str(), "` missing?"]);
         }
-        (Some((first, _)), Some((last, _))) if first == last => match process
-            .parameters
-            .get(*first)
-        {
-            Some(parameter) => add(
-                words,
-                &["; `", parameter.name.text.as_str(), "` is missing"],
-            ),
-            None => Ok(()),
-        },
+    }
+    match process.parameters.get(*first) {
+        Some(it) if first == last => add(words, &["; `", it.name.text.as_str(), "` is missing"]),
         _ => Ok(()),
     }
 }
 
-/// Adds what is wanted and what is found; of a fault of kinds this one.
+/// Adds what is wanted and what is found.
 pub(crate) fn add_found(
     words: &mut String,
     place: NetworkPlace,
     fault: CheckFault,
-    kind: Option<Kind>,
+    facts: &[&str],
 ) -> Added {
     match fault {
         CheckFault::WrongCount(_) => add_counts(words, place),
-        _ => words.push_str(found_words(place, fault, kind)),
+        _ => words.push_str(sentence_of(FOUND, fault, facts).unwrap_or("")),
     }
-}
-
-/// Adds a sentence, in which this stands for each `#`.
-fn add_filled(words: &mut String, sentence: &str, name: &str) -> Added {
-    for (number, piece) in sentence.split("#").enumerate() {
-        words.push_str(if number == 0 { "" } else { name })?;
-        words.push_str(piece)?;
-    }
-    Ok(())
 }
 
 /// What stands at a place, where a sentence has room for it.
 fn shown<'p>(place: NetworkPlace<'p>) -> &'p str {
     let whole = place.part(place.at);
+    let is_alone = matches!(place.span(0), Some(span) if span.to == place.at.to);
+    let is_long = whole.len() > MOST_SHOWN && !is_alone;
     let is_if = place.class(0) == Some(Class::Word(Keyword::If));
-    if is_if || whole.len() > MOST_SHOWN || whole.find("\n").is_some() {
+    if is_if || is_long || whole.find("\n").is_some() {
         "E"
     } else {
         whole
     }
 }
 
-/// How a value of the wanted kind is made of an expression in a body, and what an instance hands over for one.
-fn made_words(place: NetworkPlace, found: Option<Kind>) -> &'static str {
-    match (found, place.process.is_some(), place.class(0)) {
-        (Some(Kind::Integer), true, _) => "; `# <> 0` is a truth value of `#`",
-        (Some(Kind::Logical), true, _) => "; `if # then 1 else 0` is a number of `#`",
-        (_, false, Some(Class::Name)) | (None, _, _) => "",
-        (Some(Kind::Integer), false, _) => "; hand over `true` or `false` there",
-        (Some(Kind::Logical), false, _) => "; hand over a number there",
-    }
-}
-
-/// How the next value is taken, where a parameter to be read stands for a value, or how one is sent, where one to be written does.
-fn used_words(place: NetworkPlace) -> Option<&'static str> {
-    let mut all = place.process?.parameters.iter();
-    let parameter = all.find(|parameter| is_called(place.word(), &parameter.name))?;
-    match taken_by(parameter).0 {
-        NameKind::Source => Some("; its next value is `wait(#)`"),
-        NameKind::Target => Some("; it takes a value by `send E on #`"),
-        _ => None,
-    }
-}
-
-/// Adds how a process takes a channel of the program, where it is used as if it had it; answers whether it does.
-fn add_taken(words: &mut String, place: NetworkPlace) -> Result<bool, AllocError> {
-    let (Some(process), Some((kind, _))) = (place.process, place.channel()) else {
-        return Ok(false);
-    };
-    let sentence = match (kind, place.asked()) {
-        (Kind::Integer, NameKind::Target) => "; add `integer out #` to the parameters of `",
-        (Kind::Logical, NameKind::Target) => "; add `logical out #` to the parameters of `",
-        (Kind::Integer, _) => "; add `integer in #` to the parameters of `",
-        (Kind::Logical, _) => "; add `logical in #` to the parameters of `",
-    };
-    let name = place.part(place.at);
-    add_filled(words, sentence, name)?;
-    words.push_str(process.name.text.as_str())?;
-    add_filled(words, "`, and hand `#` to it", name)?;
-    Ok(true)
-}
-
 /// Adds which name was perhaps meant: the nearest of those that may stand there, unless it is the very name, declared a second time; or
 /// else how it can be one of them, or the first five of them, each once.
-fn add_unknown(words: &mut String, place: NetworkPlace) -> Added {
+fn add_unknown(words: &mut String, place: NetworkPlace, advice: &str) -> Added {
     if let Some((process, instance)) = longer_of(place) {
         add(words, &["; `", process.name.text.as_str()])?;
         let before = "` has fewer parameters than an instance has arguments: ";
         return add_numbers(words, before, process, " and ", instance.arguments.len());
     }
+    if let Some(name) = place.parameter_for().filter(|_| !advice.is_empty()) {
+        let its = name.text.as_str();
+        return add(words, &["; `", place.name(), "` has it as `", its, "`"]);
+    }
     let names = names_asked(place)?;
     match nearest(place.word(), &names) {
         Some(name) if is_called(place.word(), name) => Ok(()),
         Some(name) => add_meant(words, name),
-        None if add_taken(words, place)? => Ok(()),
         None => {
             let list = first_once(place.alloc, &names)?;
-            if !list.is_empty() {
+            let is_listed = place.process.is_none() || place.channel().is_none();
+            if is_listed && !list.is_empty() {
                 words.push_str("; in sight: ")?;
+                add_names(words, &list)?;
             }
-            add_names(words, &list)
+            add_filled(words, place, advice, place.name())
         }
     }
 }
 
-/// Adds what to do about a channel without a writer, or without a reader: which process has no instance that could have the side.
-fn add_sideless(words: &mut String, place: NetworkPlace, side: NameKind) -> Added {
-    let is_inner = matches!(place.channel(), Some((_, Role::Inner)));
-    let is_read = place.passed(NameKind::Source, place.word()).is_some();
-    let name = place.idle(side).map(|process| process.name.text.as_str());
-    let sentence = match (side == NameKind::Target, is_inner) {
-        (true, _) if name.is_some() => "; `#` has no instance, and could write it",
-        (false, _) if name.is_some() => "; `#` has no instance, and could read it",
-        (true, true) if !is_read => "; it is handed to no process: leave its declaration out",
-        (true, true) => SOURCE,
-        (true, false) => "; hand it to an `out` parameter",
-        (false, true) => DRAIN,
-        (false, false) => "; hand it to an `in` parameter",
-    };
-    add_filled(words, sentence, name.unwrap_or(""))
+/// The first instance that begins as the one at a place does and hands over the same, if it isn't that one.
+fn alike_before(place: NetworkPlace) -> Option<Span> {
+    let at = place.instance()?.process.span;
+    let whole = place.whole(at);
+    let mut all = place.program.instances.iter();
+    let first = all.find(|one| place.whole(one.process.span) == whole)?;
+    Some(first.process.span).filter(|first| first.from < at.from)
 }
 
-/// Whether two instances, which begin there, hand over the same.
-fn are_alike(place: NetworkPlace, one: Span, other: Span) -> bool {
-    let (first, second) = (place.handed_at(one.from), place.handed_at(other.from));
-    let mut both = first.iter().zip(second);
-    first.len() == second.len()
-        && both.all(|(one, other)| place.part(one.span) == place.part(other.span))
-}
-
-/// Adds where an instance stands before the one at a place that is spelled alike; or else what to do about a channel with such a side twice.
-fn add_twice(words: &mut String, place: NetworkPlace, advice: &str) -> Added {
-    if let Some(one) = place.instance() {
-        let (at, name) = (one.process.span, one.process.text.as_bytes());
-        for other in &place.program.instances {
-            let first = other.process.span;
-            let is_called = is_called(name, &other.process);
-            if first.from < at.from && is_called && are_alike(place, first, at) {
-                let lead = "; this instance is the same as the one at ";
-                return add_spot(words, lead, place.text, first.from);
-            }
-        }
+/// Adds a sentence.
+fn add_filled(words: &mut String, place: NetworkPlace, sentence: &str, process: &str) -> Added {
+    for (number, piece) in sentence.split("#").enumerate() {
+        words.push_str(if number == 0 { "" } else { shown(place) })?;
+        let (front, rest) = piece.split_once("@").unwrap_or((piece, ""));
+        let between = if front.len() < piece.len() {
+            process
+        } else {
+            ""
+        };
+        add(words, &[front, between, rest])?;
     }
-    words.push_str(advice)
+    Ok(())
 }
 
 /// Adds what to do, where no change is known that leaves fewer faults.
@@ -239,19 +260,57 @@ pub(crate) fn add_advice(
     words: &mut String,
     place: NetworkPlace,
     fault: CheckFault,
-    kind: Option<Kind>,
+    facts: &[&str],
 ) -> Added {
-    match fault {
-        CheckFault::Unknown(_) | CheckFault::WrongDirection(_) => add_unknown(words, place),
-        CheckFault::WrongKind(_) => add_filled(words, made_words(place, kind), shown(place)),
-        CheckFault::ValueExpected(_) => {
-            add_filled(words, used_words(place).unwrap_or(""), place.part(place.at))
+    let sentence = sentence_of(ADVICE, fault, facts).unwrap_or("");
+    let first = match fault {
+        CheckFault::TwoWriters(_) | CheckFault::TwoReaders(_) => alike_before(place),
+        CheckFault::Unknown(_) | CheckFault::WrongDirection(_) => {
+            return add_unknown(words, place, sentence);
         }
-        CheckFault::TwoWriters(_) => add_twice(words, place, JOIN),
-        CheckFault::TwoReaders(_) => add_twice(words, place, SPREAD),
-        CheckFault::NoWriter(_) | CheckFault::NoReader(_) => {
-            add_sideless(words, place, side_of(fault))
-        }
-        _ => Ok(()),
+        _ => None,
+    };
+    if let Some(first) = first {
+        let lead = "; this instance is the same as the one at ";
+        return add_spot(words, lead, place.text, first.from);
     }
+    let idle = place.idle(side_of(fault));
+    let process = idle.map_or("", |idle| idle.name.text.as_str());
+    add_filled(words, place, sentence, process)
+}
+
+/// Where another place stands that has to do with a fault: a process that could have the side, where the channel is handed over first, where
+/// the name is declared, in its process or outside, or the parameter that takes it.
+fn second_place(place: NetworkPlace, fault: CheckFault) -> Result<Option<Span>, AllocError> {
+    let side = side_of(fault);
+    let process = match fault {
+        CheckFault::NoWriter(_) | CheckFault::NoReader(_) => {
+            return Ok(place.idle(side).map(|process| process.name.span));
+        }
+        CheckFault::TooMany(_) | CheckFault::NoMemory => return Ok(None),
+        CheckFault::Unknown(_) => None,
+        _ => place.process,
+    };
+    let names = names_seen(place, process, None)?;
+    let declared = called_first(place.word(), &names).map(|name| name.span);
+    let taken = match fault {
+        CheckFault::ChannelExpected(_) => place.parameter().map(|name| name.span),
+        _ => None,
+    };
+    Ok(place.passed_before(side).or(declared).or(taken))
+}
+
+/// The other places that have to do with a fault.
+pub(crate) fn others_of(
+    place: NetworkPlace,
+    fault: CheckFault,
+    facts: &[&str],
+) -> Result<Vec<Other>, AllocError> {
+    let mut others = Vec::new(place.alloc);
+    if let Some(span) = second_place(place, fault)? {
+        let sentence = sentence_of(ELSEWHERE, fault, facts).unwrap_or("declared here");
+        let words = String::from_str(place.alloc, sentence)?;
+        others.push(Other { span, words })?;
+    }
+    Ok(others)
 }

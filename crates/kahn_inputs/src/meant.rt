@@ -30,11 +30,41 @@ fn is_one_of(words: &str, word: &str) -> bool {
         .any(|one| one.eq_ignore_ascii_case(word))
 }
 
-/// The number that a word spells: also behind a `+`, before a fraction of zeros, or in hexadecimal.
+/// Letters behind a number that say how great it is, or how it is written.
+const SCALES: &str = "k m g x b o e";
+
+/// A power of ten.
+fn power_of_ten(power: &str) -> Option<i64> {
+    match power {
+        "2" => Some(100),
+        "3" => Some(1_000),
+        "4" => Some(10_000),
+        "5" => Some(100_000),
+        "6" => Some(1_000_000),
+        "9" => Some(1_000_000_000),
+        _ => None,
+    }
+}
+
+/// The number that a word spells: also behind a `+`, before a fraction of zeros, a unit or an exponent, or in hexadecimal.
 fn whole_number(word: &str) -> Option<i64> {
     let bare = word.strip_prefix("+").unwrap_or(word);
     if let Some(digits) = bare.strip_prefix("0x") {
         return i64::from_str_radix(digits, 16).ok();
+    }
+    if let Some((digits, power)) = bare.split_once("e") {
+        return digits
+            .parse::<i64>()
+            .ok()?
+            .checked_mul(power_of_ten(power)?);
+    }
+    let mut bytes = bare.as_bytes().iter();
+    let unit = bytes.position(|byte| byte.is_ascii_alphabetic());
+    if let Some((digits, unit)) = unit.and_then(|at| bare.split_at_checked(at)) {
+        let mut bytes = unit.as_bytes().iter();
+        let is_unit = bytes.all(|byte| byte.is_ascii_alphabetic());
+        let number = digits.parse::<i64>().ok();
+        return number.filter(|_| is_unit && !is_one_of(SCALES, unit));
     }
     let (digits, fraction) = bare.split_once(".").unwrap_or((bare, ""));
     let is_plain = digits == "0" || digits.strip_prefix("0").is_none();
@@ -42,21 +72,6 @@ fn whole_number(word: &str) -> Option<i64> {
         "" | "0" | "00" if is_plain => digits.parse::<i64>().ok(),
         _ => None,
     }
-}
-
-/// The input channel of these letters, or else of letters that differ in their case alone.
-fn input_called(network: &Network, word: &str) -> Option<usize> {
-    let mut found = None;
-    for number in 0..network.channels() {
-        let channel = network.channel(number);
-        if matches!(channel.role, Role::Input) && channel.name.eq_ignore_ascii_case(word) {
-            if channel.name == word {
-                return Some(number);
-            }
-            found = found.or(Some(number));
-        }
-    }
-    found
 }
 
 /// Adds a number behind a blank.
@@ -86,6 +101,40 @@ struct LineReading<'n> {
 }
 
 impl<'n> LineReading<'n> {
+    /// The input channel of these letters, or else of letters that differ in their case alone, where they are no truth value; or, where a `:`
+    /// stands behind, the one without values that is near, or the only one, if nothing was read and no channel has the name.
+    fn channel(&self, word: &str, is_head: bool) -> Option<usize> {
+        let is_value = is_one_of(TRUE, word) || is_one_of(FALSE, word);
+        let (mut alike, mut near, mut last) = (None, None, None);
+        let (mut nears, mut inputs) = (0_usize, 0_usize);
+        for number in 0..self.network.channels() {
+            let channel = self.network.channel(number);
+            let is_input = matches!(channel.role, Role::Input);
+            if channel.name == word {
+                return if is_input { Some(number) } else { None };
+            }
+            if is_input {
+                inputs = inputs.saturating_add(1);
+                last = Some(number);
+                if channel.name.eq_ignore_ascii_case(word) {
+                    alike = alike.or(last);
+                }
+                let is_given = self.channels.iter().any(|given| given.0 == number);
+                let is_long = word.len() > 3 && !is_given;
+                if is_long && is_within(word.as_bytes(), channel.name.as_bytes(), 2) {
+                    nears = nears.saturating_add(1);
+                    near = last;
+                }
+            }
+        }
+        match (alike, is_head) {
+            (Some(_), _) if is_head || !is_value => alike,
+            (_, true) if nears == 1 => near,
+            (_, true) if inputs == 1 && self.count == 0 => last,
+            _ => None,
+        }
+    }
+
     /// Reads the name of a channel.
     fn name(&mut self, channel: usize) -> Result<(), AllocError> {
         if !self.is_head {
@@ -142,16 +191,21 @@ impl<'n> LineReading<'n> {
         Ok(true)
     }
 
-    /// Reads a word; answers whether it is understood.
-    fn word(&mut self, word: &str) -> Result<bool, AllocError> {
+    /// Reads a word, behind which a `:` stands or doesn't; answers whether it is understood.
+    fn word(&mut self, word: &str, is_head: bool) -> Result<bool, AllocError> {
         if is_one_of(IDLE, word) {
             return Ok(true);
         }
-        if let Some(channel) = input_called(self.network, word) {
+        if let Some(channel) = self.channel(word, is_head) {
             self.name(channel)?;
             return Ok(!self.is_range);
         }
-        let Some((first, rest)) = word.split_once("..") else {
+        let mark = if has_between(word.as_bytes(), b'-') {
+            "-"
+        } else {
+            ".."
+        };
+        let Some((first, rest)) = word.split_once(mark) else {
             return self.value(word);
         };
         let last = rest.strip_prefix(".").unwrap_or(rest);
@@ -165,10 +219,16 @@ impl<'n> LineReading<'n> {
     /// Reads a line without comments, in which a `:` stands apart; answers whether all of its words are understood.
     fn line(&mut self, line: &str) -> Result<bool, AllocError> {
         self.is_head = false;
+        let mut words = Vec::new(self.alloc);
         for word in line.split_whitespace() {
-            if word == ":" {
+            words.push(word)?;
+        }
+        for (number, word) in words.iter().enumerate() {
+            let next = words.get(number.saturating_add(1));
+            let is_head = matches!(next, Some(next) if *next == ":");
+            if *word == ":" {
                 self.is_head = false;
-            } else if !self.word(word)? {
+            } else if !self.word(word, is_head)? {
                 return Ok(false);
             }
         }

@@ -151,6 +151,9 @@ pub(crate) fn word_words(line: &[u8], part: &[u8]) -> &'static str {
     if part.ends_with(b";") && line.trim_ascii_end().ends_with(part) {
         return "; a line has no `;` at its end";
     }
+    if has_between(part, b'-') {
+        return "; there are no ranges: each value stands there itself";
+    }
     let words = words_or(numeral_words(part), words_of(OTHERS, part));
     let digits = part.strip_prefix(b"-").unwrap_or(part);
     if !words.is_empty() {
