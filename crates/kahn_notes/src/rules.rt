@@ -15,6 +15,9 @@ use kahn_syntax::{Class, Sign, Span};
 use kahn_wanted::{Change, Spot};
 use std::alloc::AllocError;
 
+/// In a text of more bytes no lexemes are interchanged.
+const MOST_INTERCHANGED: usize = 131_072;
+
 /// What is said of a change, if it can be made in the text and mends the place.
 fn told_change(place: Place, change: Option<Change>) -> Saying {
     match change {
@@ -87,9 +90,13 @@ fn swapped_at(place: Place, count: isize) -> Result<Option<Fix>, AllocError> {
     Ok(Some(Fix { span, put, beside }))
 }
 
-/// Two lexemes at a place or before it in the other order, if the text is read past one that is so many behind the place then.
+/// Two lexemes at a place or before it in the other order, if the text is read past one that is so many behind the place then. Each such
+/// text is read anew, so that this isn't tried in a long one.
 fn interchanged(place: Place, count: isize) -> Fixed {
     let end = place.text.len();
+    if MOST_INTERCHANGED < end {
+        return Ok(None);
+    }
     let from = near(place, count).map_or(end, |lexeme| lexeme.span.from);
     for at in [0, -1, -2] {
         let (fix, to) = (swapped_at(place, at)?, from);
