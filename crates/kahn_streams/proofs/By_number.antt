@@ -1,6 +1,8 @@
 -- The channels and processes of a program by name and by number.
-use Rattle.kahn_streams.proofs.Common.{◌≡◌, ◌⊎◌, inl, inr, ℕ, zero, suc, ◌<◌, Bool, true, false, cond, List, [], ◌∷◌, ◌++◌, map, length, Option, Some, refl, ap, sym, ◌∙◌, subst, arith, bytes_eq, lookup, AllByRecursion, map-append, Name, Kind, Role, Process, Declaration, Scope, place_of, bytes_of, channels_of, process_of, entries, Global, IsChannel, IsProcess, declared_of, declared_channels, processes_of}
+use Rattle.kahn_streams.proofs.Common.{slice_get-map, slice_get_read, ◌≡◌, ◌⊎◌, inl, inr, ℕ, zero, suc, ◌<◌, Bool, true, false, cond, List, ◌∷◌, ◌++◌, map, length, Option, Some, refl, ap, sym, ◌∙◌, subst, arith, bytes_eq, lookup, AllByRecursion, map-append, Name, Kind, Role, Process, Declaration, Scope, place_of, bytes_of, channels_of, process_of, entries, Global, IsChannel, IsProcess, declared_of, declared_channels, processes_of, []}
 use Rattle.std.specs.Prelude.{slice_get, slice_index_or, ◌==◌}
+use Rattle.std.specs.Option.{option_map}
+pub use Rattle.std.proofs.lemmas.Option.{slice_get_within as within}
 use Rattle.std.proofs.Math.Logic.{⊎_elim}
 use Rattle.std.proofs.Math.Dec.{eqb-suc-zero, eqb-suc-suc, eqb-zero-suc}
 use Rattle.std.specs.List.{IsDistinct}
@@ -10,39 +12,26 @@ use Rattle.kahn_streams.proofs.Handed.{Table, keys, as_channels, bytes_true, byt
 -- ---- members of a list by number
 
 pub all_at : {A : Type 0} (P : A → Type 0) (xs : List A) (c : ℕ) (x : A) → AllByRecursion P xs → slice_get xs c ≡ Some x → P x
-all_at P [] zero x h i = cc
-all_at P [] (suc c) x h i = cc
 all_at P (y ∷ ys) zero x h i = let same : y ≡ x = cc in subst P same h.0
 all_at P (y ∷ ys) (suc c) x h i = all_at P ys c x h.1 i
+all_at P _ _ x h i = cc
 
 pub there : {A : Type 0} (xs : List A) (c : ℕ) → c < length xs → (x : A) × (slice_get xs c ≡ Some x)
 there [] c h = absurd (omega arith)
 there (x ∷ xs) zero h = (x, refl)
 there (x ∷ xs) (suc c) h = there xs c (omega arith)
 
-pub within : {A : Type 0} (xs : List A) (c : ℕ) (x : A) → slice_get xs c ≡ Some x → c < length xs
-within [] zero x h = cc
-within [] (suc c) x h = cc
-within (y ∷ ys) zero x h = omega arith
-within (y ∷ ys) (suc c) x h = let i : c < length ys = within ys c x h in omega (arith, i)
-
 pub at_index : {A : Type 0} (xs : List A) (c : ℕ) (x : A) → c < length xs → slice_index_or xs c x ≡ x → slice_get xs c ≡ Some x
-at_index [] c x lt h = absurd (omega arith)
-at_index (y ∷ ys) zero x lt h = ap Some h
-at_index (y ∷ ys) (suc c) x lt h = at_index ys c x (omega arith) h
+at_index xs c x lt h = slice_get_read xs (length xs) c x refl lt (sym h)
 
 pub mapped : {A B : Type 0} (f : A → B) (xs : List A) (c : ℕ) (x : A) → slice_get xs c ≡ Some x → slice_get (map f xs) c ≡ Some (f x)
-mapped f [] zero x h = cc
-mapped f [] (suc c) x h = cc
-mapped f (y ∷ ys) zero x h = let same : y ≡ x = cc in ap (λ z. Some (f z)) same
-mapped f (y ∷ ys) (suc c) x h = mapped f ys c x h
+mapped f xs c x h = slice_get-map f xs c ∙ ap (option_map f) h
 
 -- what stands in the image is the image of what stands there
 pub mapped_at : {A B : Type 0} (f : A → B) (xs : List A) (c : ℕ) (y : B) → slice_get (map f xs) c ≡ Some y → (x : A) × (slice_get xs c ≡ Some x) × (y ≡ f x)
-mapped_at f [] zero y h = cc
-mapped_at f [] (suc c) y h = cc
 mapped_at f (x ∷ xs) zero y h = let same : f x ≡ y = cc in (x, refl, sym same)
 mapped_at f (x ∷ xs) (suc c) y h = mapped_at f xs c y h
+mapped_at f _ _ y h = cc
 
 -- what is found first, or among the rest
 pub found_in : {X : Type 0} (b : Bool) (x y : X) (o : Option X) → cond b (Some x) o ≡ Some y → ((b ≡ true) × (x ≡ y)) ⊎ ((b ≡ false) × (o ≡ Some y))

@@ -1,5 +1,6 @@
 -- Continuations are no more than doing one thing after another.
-use Rattle.kahn_streams.proofs.Common.{fun_ext, ◌≡◌, ℕ, zero, suc, ◌-◌, Bool, true, false, List, [], ◌∷◌, refl, ap, ◌∙◌, Result, Ok, Err, neg_ℤ, not, slice_set, arith, zero-add, suc-add, Value, Failure, Logical, Expr, Literal, Variable, Wait, Negate, Not, Binary, Conditional, Stmt, Skip, Assign, Send, Print, Seq, If, While, Repeat, number, truth, ranged, apply, Port, Parameter, Printer, Tapes, Script, Give, Fail, Waits, Sends, Turns, Rest, ScriptOutcome, Got, Dry, Fault, Cut, Reached, after_event, after_send, put, wait_at, play, Store, constant, settle, value_of, turns_of, script_of, go_on, and_so, ExpressionsCompose, StatementsCompose}
+use Rattle.kahn_streams.proofs.Common.{fun_ext, ◌≡◌, ℕ, zero, suc, ◌-◌, true, List, ◌∷◌, refl, ap, ◌∙◌, slice_set, arith, zero-add, suc-add, Value, Logical, Expr, Stmt, Skip, Assign, Send, Print, Seq, If, While, Repeat, truth, Port, Parameter, Printer, Tapes, Script, Give, Fail, Waits, Sends, Turns, Rest, ScriptOutcome, Got, Dry, Fault, Cut, Reached, after_event, after_send, put, wait_at, play, Store, value_of, turns_of, script_of, go_on, and_so, ExpressionsCompose, StatementsCompose, []}
+use Rattle.kahn_streams.proofs.Fuel.{alike_by, value_related}
 
 -- x, and f on what it gives
 abbrev graft : {A B : Type 0} → Script A → (A → Script B) → Script B
@@ -49,29 +50,10 @@ play_graft zero (Turns s) f T = refl
 play_graft (suc n) (Turns s) f T = ap after_event (play_graft n s f T) ∙ less n _ _ f
 play_graft n Rest f T = refl
 
-settle_graft : {A B : Type 0} (r : Result Value Failure) (f : Value → Script A) (g : A → Script B) →
-    settle r (λ v. graft (f v) g) ≡ graft (settle r f) g
-settle_graft (Ok v) f g = refl
-settle_graft (Err k) f g = refl
-
-by_graft : {A B : Type 0} (b : Bool) (x y : Script A) (x' y' : Script B) (g : A → Script B) → x' ≡ graft x g → y' ≡ graft y g →
-    (elim b [ true ↦ x' | false ↦ y' ]) ≡ graft (elim b [ true ↦ x | false ↦ y ]) g
-by_graft true x y x' y' g h h' = h
-by_graft false x y x' y' g h h' = h'
-
 -- it is enough that what goes on is grafted
 value_graft : {A B : Type 0} (e : Expr) (s : Store) (f : Value → Script A) (f' : Value → Script B) (g : A → Script B) →
     ((v : Value) → f' v ≡ graft (f v) g) → value_of e s f' ≡ graft (value_of e s f) g
-value_graft (Literal c) s f f' g h = h (constant c)
-value_graft (Variable x) s f f' g h = h _
-value_graft (Wait q) s f f' g h = ap (Waits q) (fun_ext h)
-value_graft (Negate e) s f f' g h =
-    value_graft e s _ _ g (λ v. ap (settle (ranged (neg_ℤ (number v)))) (fun_ext h) ∙ settle_graft (ranged (neg_ℤ (number v))) f g)
-value_graft (Not e) s f f' g h = value_graft e s _ _ g (λ v. h (Logical (not (truth v))))
-value_graft (Binary o a b) s f f' g h =
-    value_graft a s _ _ g (λ v. value_graft b s _ _ g (λ w. ap (settle (apply o v w)) (fun_ext h) ∙ settle_graft (apply o v w) f g))
-value_graft (Conditional t a b) s f f' g h =
-    value_graft t s _ _ g (λ v. by_graft (truth v) _ _ _ _ g (value_graft a s f f' g h) (value_graft b s f f' g h))
+value_graft e s f f' g h = value_related (λ x y. y ≡ graft x g) (λ k. refl) (λ q i j l. ap (Waits q) (fun_ext l)) e s f f' h
 
 pub expressions_compose : (B : Type 0) → ExpressionsCompose B
 expressions_compose B n e s next T =
@@ -86,7 +68,7 @@ turns_graft : {A B : Type 0} (k : ℕ)
     turns_of k test' body' s f' ≡ graft (turns_of k test body s f) g
 turns_graft zero test test' body body' g ht hb s f f' h = refl
 turns_graft (suc k) test test' body body' g ht hb s f f' h =
-    ap Turns (ht s _ _ (λ v. by_graft (truth v) _ _ _ _ g
+    ap Turns (ht s _ _ (λ v. alike_by (λ x y. y ≡ graft x g) (truth v) _ _ _ _
     (hb s _ _ (λ r. turns_graft k test test' body body' g ht hb r f f' h))
     (h s)))
 
@@ -98,7 +80,7 @@ script_graft k (Send e q) s f f' g h = value_graft e s _ _ g (λ v. ap (Sends (P
 script_graft k (Print e) s f f' g h = value_graft e s _ _ g (λ v. ap (Sends Printer v) (h s))
 script_graft k (Seq a b) s f f' g h = script_graft k a s _ _ g (λ r. script_graft k b r f f' g h)
 script_graft k (If t a b) s f f' g h =
-    value_graft t s _ _ g (λ v. by_graft (truth v) _ _ _ _ g (script_graft k a s f f' g h) (script_graft k b s f f' g h))
+    value_graft t s _ _ g (λ v. alike_by (λ x y. y ≡ graft x g) (truth v) _ _ _ _ (script_graft k a s f f' g h) (script_graft k b s f f' g h))
 script_graft k (While t b) s f f' g h =
     turns_graft k _ _ _ _ g (λ r x x' e. value_graft t r x x' g e) (λ r x x' e. script_graft k b r x x' g e) s f f' h
 script_graft k (Repeat b) s f f' g h =

@@ -1,6 +1,6 @@
 -- Entries, one by one: the number of a name, what is given, and the lists.
-use Rattle.kahn_streams.proofs.Common.{arith, ◌≡◌, ◌≢◌, ◌⊎◌, inl, inr, ℕ, zero, suc, ◌+◌, ◌<◌, ◌==◌, Bool, true, false, List, [], ◌∷◌, ◌++◌, length, map, take, drop, replicate, set, get_or, Some, refl, sym, ap, ◌∙◌, subst, slice_get, slice_index_or, if◌then◌else◌, Result, Ok, Err, add-one, bytes_eq, eq-eqb, length-set, get_or-set_same, get_or-set_other, MatchResult, cases_eq, length-map, take-append-le, take-map, slice_get_read, slice_get-map, Program, InputFault, Input, Scope, place_of, network_of, kind_at, role_at, channels_of, channel_names, AreOfKind, IsInputFor, Lists, inputs_of, Entry, FailsFirst, asked_of_entry, channel_of, is_given, list_for, AreFit, IsFirstRefused, IsInputOf, IsFitHere}
-use Rattle.std.proofs.lemmas.Bool.{eqb-true}
+use Rattle.kahn_streams.proofs.Common.{ne_eqb, arith, ◌≡◌, ◌≢◌, ◌⊎◌, inl, inr, ℕ, zero, suc, ◌+◌, ◌<◌, ◌==◌, Bool, true, false, List, ◌∷◌, ◌++◌, length, map, take, drop, replicate, set, get_or, Some, refl, sym, ap, ◌∙◌, subst, slice_get, slice_index_or, if◌then◌else◌, Result, Ok, Err, add-one, bytes_eq, eq-eqb, length-set, get_or-set_same, get_or-set_other, MatchResult, cases_eq, length-map, take-append-le, take-map, slice_get_read, slice_get-map, Program, InputFault, Input, Scope, place_of, network_of, kind_at, role_at, channels_of, channel_names, AreOfKind, IsInputFor, Lists, inputs_of, Entry, FailsFirst, asked_of_entry, channel_of, is_given, list_for, AreFit, IsFirstRefused, IsInputOf, IsFitHere, []}
+use Rattle.std.proofs.{lemmas.Bool.eqb-true, Math.Seq.take-append_seam}
 use Rattle.std.specs.Option.{option_map}
 use Rattle.kahn_streams.specs.declared.entries.InputFault.TheVariants.{NoMemory}
 
@@ -41,12 +41,8 @@ given_same t [] e = ap (λ b. if b then true else false) (eq-eqb (channel_of t e
 given_same t (x ∷ es) e =
     ap (λ b. if channel_of t x == channel_of t e then true else b) (given_same t es e) ∙ both_true (channel_of t x == channel_of t e)
 
-not_same : (a b : ℕ) (v : Bool) → (a == b) ≡ v → a ≢ b → v ≡ false
-not_same a b true e n = absurd (n (eqb-true a b e))
-not_same a b false e n = refl
-
 given_other : (t : Program) (es : List Entry) (e : Entry) (c : ℕ) → channel_of t e ≢ c → is_given t (es ++ e ∷ []) c ≡ is_given t es c
-given_other t [] e c n = ap (λ b. if b then true else false) (not_same (channel_of t e) c (channel_of t e == c) refl n)
+given_other t [] e c n = ap (λ b. if b then true else false) (ne_eqb (channel_of t e) c n)
 given_other t (x ∷ es) e c n = ap (λ b. if channel_of t x == c then true else b) (given_other t es e c n)
 
 -- ---- the lists after one entry more
@@ -62,23 +58,8 @@ list_same t (x ∷ es) e f =
     ap (λ b. if b then x.1 else list_for t (es ++ e ∷ []) (channel_of t e)) g.0 ∙ list_same t es e g.1
 
 list_other : (t : Program) (es : List Entry) (e : Entry) (c : ℕ) → channel_of t e ≢ c → list_for t (es ++ e ∷ []) c ≡ list_for t es c
-list_other t [] e c n = ap (λ b. if b then e.1 else []) (not_same (channel_of t e) c (channel_of t e == c) refl n)
+list_other t [] e c n = ap (λ b. if b then e.1 else []) (ne_eqb (channel_of t e) c n)
 list_other t (x ∷ es) e c n = ap (λ l. if channel_of t x == c then x.1 else l) (list_other t es e c n)
-
--- ---- what an entry has to be
-
-module _ (t : Program) (given : Bool) (entry : Entry) where
-  fit_named : IsFitHere t given entry → channel_of t entry < length (channel_names t)
-  fit_named (named, rest) = named
-
-  fit_input : IsFitHere t given entry → role_at (network_of t) (channel_of t entry) ≡ Input
-  fit_input (named, (input, rest)) = input
-
-  fit_first : IsFitHere t given entry → given ≡ false
-  fit_first (named, (input, (first, rest))) = first
-
-  fit_kinded : IsFitHere t given entry → AreOfKind (kind_at (network_of t) (channel_of t entry)) entry.1
-  fit_kinded (named, (input, (first, (kinded, rest)))) = kinded
 
 -- ---- the entries that are fit
 
@@ -92,17 +73,13 @@ last [] x (suc k) e at = absurd cc
 last (y ∷ es) x zero e at = inl (omega arith, at)
 last (y ∷ es) x (suc k) e at = elim (last es x k e at) [ inl h ↦ inl (omega (arith, h.0), h.1) | inr h ↦ inr (ap suc h.0, h.1) ]
 
-take_all : (es : List Entry) (x : Entry) → take (length es) (es ++ x ∷ []) ≡ es
-take_all [] x = refl
-take_all (y ∷ es) x = ap (λ l. y ∷ l) (take_all es x)
-
 pub fit_more : (t : Program) (es : List Entry) (x : Entry) → AreFit t es → IsFitHere t (is_given t es (channel_of t x)) x → AreFit t (es ++ x ∷ [])
 unfolding Last
 fit_more t es x all one k e at =
     elim (last es x k e at) [
       | inl h ↦ subst (λ l. IsFitHere t (is_given t l (channel_of t e)) e) (sym (take-append-le k es (x ∷ []) (omega (arith, h.0)))) (all k e h.1)
       | inr h ↦ subst (λ n. IsFitHere t (is_given t (take n (es ++ x ∷ [])) (channel_of t e)) e) (sym h.0)
-          (subst (λ l. IsFitHere t (is_given t l (channel_of t e)) e) (sym (take_all es x))
+          (subst (λ l. IsFitHere t (is_given t l (channel_of t e)) e) (sym (take-append_seam es (x ∷ [])))
           (subst (λ y. IsFitHere t (is_given t es (channel_of t y)) y) h.1 one))
     ]
 
@@ -122,14 +99,14 @@ module _ (t : Program) (done : List Entry) (flags : List Bool) (lists : Lists) (
   marks_more : IsFitHere t (is_given t done (channel_of t x)) x → (c : ℕ) → slice_index_or (set flags (channel_of t x) true) c false ≡ is_given t (done ++ x ∷ []) c
   marks_more fit c = elim (cases_eq (channel_of t x) c) [
     | inl e ↦ subst (λ d. slice_index_or (set flags (channel_of t x) true) d false ≡ is_given t (done ++ x ∷ []) d) e
-        (get_or-set_same flags (channel_of t x) true false (omega (arith, fit_named t _ x fit, h.size, names_count t)) ∙ sym (given_same t done x))
+        (get_or-set_same flags (channel_of t x) true false (omega (arith, fit.0, h.size, names_count t)) ∙ sym (given_same t done x))
     | inr n ↦ get_or-set_other flags (channel_of t x) c true false (λ e. n (sym e)) ∙ h.marks c ∙ sym (given_other t done x c n)
   ]
 
   lists_more : IsFitHere t (is_given t done (channel_of t x)) x → (c : ℕ) → inputs_of (set lists (channel_of t x) x.1) c ≡ list_for t (done ++ x ∷ []) c
   lists_more fit c = elim (cases_eq (channel_of t x) c) [
     | inl e ↦ subst (λ d. inputs_of (set lists (channel_of t x) x.1) d ≡ list_for t (done ++ x ∷ []) d) e
-        (get_or-set_same lists (channel_of t x) x.1 [] (omega (arith, fit_named t _ x fit, h.made.count, names_count t)) ∙ sym (list_same t done x (fit_first t _ x fit)))
+        (get_or-set_same lists (channel_of t x) x.1 [] (omega (arith, fit.0, h.made.count, names_count t)) ∙ sym (list_same t done x (fit.1.1.0)))
     | inr n ↦ get_or-set_other lists (channel_of t x) c x.1 [] (λ e. n (sym e)) ∙ h.made.lists c ∙ sym (list_other t done x c n)
   ]
 
@@ -179,7 +156,7 @@ list_bare : (t : Program) (es : List Entry) → ((k : ℕ) (e : Entry) → slice
     → (c : ℕ) → role_at (network_of t) c ≢ Input → list_for t es c ≡ []
 list_bare t [] h c n = refl
 list_bare t (x ∷ es) h c n =
-    ap (λ b. if b then x.1 else list_for t es c) (not_same (channel_of t x) c (channel_of t x == c) refl (λ e. n (subst (λ d. role_at (network_of t) d ≡ Input) e (h zero x refl))))
+    ap (λ b. if b then x.1 else list_for t es c) (ne_eqb (channel_of t x) c (λ e. n (subst (λ d. role_at (network_of t) d ≡ Input) e (h zero x refl))))
     ∙ list_bare t es (λ k. h (suc k)) c n
 
 -- the lists of fit entries fit the network
@@ -187,8 +164,8 @@ pub made_fits : (t : Program) (es : List Entry) (lists : Lists) → IsInputOf t 
 made_fits t es lists made = record {
   count = made.count;
   lists_fit = λ c. record {
-    kinded = λ is. subst (AreOfKind (kind_at (network_of t) c)) (sym (made.lists c)) (list_kinded t es (λ k e at. fit_kinded t _ e (made.fit k e at)) c);
-    bare = λ n. made.lists c ∙ list_bare t es (λ k e at. fit_input t _ e (made.fit k e at)) c n;
+    kinded = λ is. subst (AreOfKind (kind_at (network_of t) c)) (sym (made.lists c)) (list_kinded t es (λ k e at. (made.fit k e at).1.1.1.0) c);
+    bare = λ n. made.lists c ∙ list_bare t es (λ k e at. (made.fit k e at).1.0) c n;
   };
 }
 

@@ -1,5 +1,5 @@
 -- Values that are fed: what they leave, and tokens of the input before.
-use Rattle.kahn_streams.proofs.Common.{arith, ◌≡◌, ◌≢◌, inl, inr, ℕ, ◌<◌, ◌≤◌, ◌==◌, Bool, true, false, List, [], ◌++◌, length, map, set, get_or, refl, sym, ap, ◌∙◌, subst, eq-eqb, eqb-true, append-nil, length-set, get_or-set_same, get_or-set_other, if◌then◌else◌, ∥∥₁_elim, ∥∥₁_prop, cases_eq, get_or-map, length-map, map-set, set-get_or, Program, Value, Line, FeedFault, Input, network_of, kind_at, role_at, channel_names, Entry, channel_of, most_values, AreOfKind, Lists, inputs_of, Holds, IsMeant, IsNotMeant, IsUnwelcome, IsEntryFed, fed_to, total_after, AreInputsExtended, Stands}
+use Rattle.kahn_streams.proofs.Common.{ne_eqb, arith, ◌≡◌, ◌≢◌, inl, inr, ℕ, ◌<◌, ◌≤◌, List, ◌++◌, length, map, set, get_or, refl, sym, ap, ◌∙◌, subst, eq-eqb, append-nil, length-set, get_or-set_same, get_or-set_other, if◌then◌else◌, ∥∥₁_elim, ∥∥₁_prop, cases_eq, get_or-map, length-map, map-set, set-get_or, Program, Value, Line, FeedFault, Input, network_of, role_at, Entry, channel_of, most_values, Lists, inputs_of, Holds, IsMeant, IsNotMeant, IsUnwelcome, IsEntryFed, fed_to, total_after, AreInputsExtended, Stands, []}
 use Rattle.kahn_streams.specs.declared.feeds.FeedFault.TheVariants.{UnknownName, NotAnInput, WrongKind, TooMany, NoMemory}
 use Rattle.kahn_streams.proofs.{Proved.prefix_get, Finished.inputs_grow, Entered.names_count}
 
@@ -7,23 +7,13 @@ fed_same : (t : Program) (e : Entry) → fed_to t e (channel_of t e) ≡ e.1
 fed_same t e = ap (λ b. if b then e.1 else []) (eq-eqb (channel_of t e) (channel_of t e) refl)
 
 fed_other : (t : Program) (e : Entry) (c : ℕ) → channel_of t e ≢ c → fed_to t e c ≡ []
-fed_other t e c n = by (channel_of t e == c) refl
-  where
-    by : (b : Bool) → (channel_of t e == c) ≡ b → (if b then e.1 else []) ≡ []
-    by true h = absurd (n (eqb-true (channel_of t e) c h))
-    by false h = refl
+fed_other t e c n = ap (λ b. if b then e.1 else []) (ne_eqb (channel_of t e) c n)
 
 -- ---- what an entry has to be
 
 module _ (t : Program) (e : Entry) where
-  pub meant_named : IsMeant t e → channel_of t e < length (channel_names t)
-  meant_named (named, rest) = named
-
   pub meant_input : IsMeant t e → role_at (network_of t) (channel_of t e) ≡ Input
   meant_input (named, (input, rest)) = input
-
-  pub meant_kinded : IsMeant t e → AreOfKind (kind_at (network_of t) (channel_of t e)) e.1
-  meant_kinded (named, (input, (kinded, rest))) = kinded
 
   -- what isn't meant for an input channel isn't fed for that, whatever the lists are
   pub not_many : IsNotMeant t e TooMany → ⊥
@@ -65,7 +55,7 @@ module _ (t : Program) (before : Lists) (e : Entry) where
         meant = meant;
         within = within;
         count = ap length here ∙ length-set before (channel_of t e) (inputs_of before (channel_of t e) ++ e.1);
-        lists = λ d. ap (λ l. inputs_of l d) here ∙ lists_fed (omega (arith, meant_named t e meant, fits, names_count t)) d;
+        lists = λ d. ap (λ l. inputs_of l d) here ∙ lists_fed (omega (arith, meant.0, fits, names_count t)) d;
       }
 
 -- the lists before are prefixes of those after

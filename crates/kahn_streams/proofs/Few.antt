@@ -1,5 +1,5 @@
 -- No list has more values than a channel may have.
-use Rattle.kahn_streams.proofs.Common.{arith, ◌≡◌, inl, inr, ℕ, ◌<◌, ◌≤◌, List, [], length, replicate, set, sym, ap, ◌∙◌, subst, get_or-set_same, get_or-set_other, cases_eq, Value, AreFew, most_values, Lists, inputs_of}
+use Rattle.kahn_streams.proofs.Common.{arith, ◌≡◌, inl, inr, ℕ, ◌<◌, ◌≤◌, List, length, replicate, set, sym, ap, ◌∙◌, subst, get_or-set_same, get_or-set_other, cases_eq, Value, AreFew, most_values, Lists, inputs_of, []}
 use Rattle.kahn_streams.proofs.Entered.{none_of}
 
 pub none_few : (n : ℕ) (lists : Lists) → lists ≡ replicate n [] → AreFew lists

@@ -1,5 +1,5 @@
 -- A quiet network has the whole solution.
-use Rattle.kahn_streams.proofs.Common.{fun_ext, arith, ◌≡◌, ℕ, zero, suc, ◌+◌, ◌≤◌, max, List, [], ◌∷◌, ◌++◌, refl, sym, ap, ◌∙◌, subst, append-nil, le_refl, le_trans, le_of_suc-le-suc, not-suc-le-zero, suc-le-suc, Some, pos, le-max_left, le-max_right, Value, Line, Channel, Number, Stmt, Tapes, Script, Give, Fail, Waits, Sends, Turns, Rest, ScriptOutcome, Got, Dry, Fault, Cut, Reached, after_event, after_send, put, wait_at, play, Store, exec, script_of, Schema, Node, Hands, instance_at, Source, Given, Written, Nobody, IsWhole, Histories, Inputs, tapes_of, exec_at, out, values_at, goes_to, source, fed, input_list, iterate, IsPrefix, HasEnd, HasSizes, none_left, one_more, Ending, ending, AreInputsExtended, IsExtended, IsSolution, InputsGrow, SendsStand, IsQuiet, IsSettled, IsCounted, IsUnrolled, SaysSoAgain, IsDetermined}
+use Rattle.kahn_streams.proofs.Common.{fun_ext, arith, ◌≡◌, ℕ, zero, suc, ◌+◌, ◌≤◌, max, List, ◌∷◌, ◌++◌, refl, sym, ap, ◌∙◌, subst, append-nil, le_refl, le_trans, le_of_suc-le-suc, not-suc-le-zero, suc-le-suc, Some, pos, le-max_left, le-max_right, Value, Line, Channel, Number, Stmt, Tapes, Script, Give, Fail, Waits, Sends, Turns, Rest, ScriptOutcome, Got, Dry, Fault, Cut, Reached, after_event, after_send, put, wait_at, play, Store, exec, script_of, Schema, Node, Hands, instance_at, Source, Given, Written, Nobody, IsWhole, Histories, Inputs, tapes_of, exec_at, out, values_at, goes_to, source, fed, input_list, iterate, IsPrefix, HasEnd, HasSizes, none_left, one_more, Ending, ending, AreInputsExtended, IsExtended, IsSolution, InputsGrow, SendsStand, IsQuiet, IsSettled, IsCounted, IsUnrolled, SaysSoAgain, IsDetermined, []}
 use Rattle.kahn_streams.specs.declared.value.Line.TheVariants.{Print}
 use Rattle.kahn_streams.proofs.{Fuel.gives, Fuel.play_alike, Fuel.script_alike, Runs.cut_is_full}
 use Rattle.kahn_streams.proofs.Proved.{prefix_refl, prefix_trans, prefix_get, Feeds, feeds, script_at, exec_alike, out_grows, chain, least, solves, iterates_rise, fits_all}

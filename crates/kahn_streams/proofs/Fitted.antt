@@ -1,5 +1,5 @@
 -- What an instance's names stand for, by what is handed to it.
-use Rattle.kahn_streams.proofs.Common.{◌≡◌, List, [], ◌∷◌, ◌++◌, map, Some, refl, ap, sym, ◌∙◌, subst, AllByRecursion, get_or_from_slice_get, Name, Kind, Role, Taking, OneVariable as Variable, Process, Argument, Program, Inner, In, Out, bytes_of, names_of, body_of, number_of, Agrees, scope_of, entries, IsChannel, global, Fits, AllFit, IsMade, IsSound, IsWellWired, actual_of, actuals_of, process_of, instance_from, network_of, kind_at, channel_names, taking_of, IsListed, IsFit}
+use Rattle.kahn_streams.proofs.Common.{◌≡◌, List, ◌∷◌, ◌++◌, map, Some, refl, ap, sym, ◌∙◌, subst, AllByRecursion, get_or_from_slice_get, Name, Kind, Role, Taking, OneVariable as Variable, Process, Argument, Program, Inner, In, Out, bytes_of, names_of, body_of, number_of, Agrees, scope_of, entries, IsChannel, global, Fits, AllFit, IsMade, IsSound, IsWellWired, actual_of, actuals_of, process_of, instance_from, network_of, kind_at, channel_names, taking_of, IsListed, IsFit, []}
 use Rattle.std.specs.Prelude.{slice_get}
 use Rattle.kahn_streams.specs.Types.{Parameter, Instance}
 use Rattle.kahn_streams.specs.declared.tree.Kind.TheVariants as K

@@ -1,5 +1,5 @@
 -- A script on longer tapes.
-use Rattle.kahn_streams.proofs.Common.{fun_ext, ◌≡◌, ℕ, zero, suc, ◌≤◌, ◌==◌, Bool, true, false, List, [], ◌∷◌, ◌++◌, refl, sym, ap, ◌∙◌, eqb-true, if◌then◌else◌, le_of_suc-le-suc, not-suc-le-zero, arith, Value, Tapes, Script, Give, Fail, Waits, Sends, Turns, Rest, ScriptOutcome, Got, Dry, Fault, Cut, Reached, at_once, after_event, after_send, put, wait_at, play}
+use Rattle.kahn_streams.proofs.Common.{fun_ext, ◌≡◌, ℕ, zero, suc, ◌≤◌, ◌==◌, Bool, true, false, List, ◌∷◌, ◌++◌, refl, sym, ap, ◌∙◌, eqb-true, if◌then◌else◌, le_of_suc-le-suc, not-suc-le-zero, arith, Value, Tapes, Script, Give, Fail, Waits, Sends, Turns, Rest, ScriptOutcome, Got, Dry, Fault, Cut, Reached, at_once, after_event, after_send, put, wait_at, play, []}
 
 -- each tape with more behind it
 abbrev pub and_more : Tapes → Tapes → Tapes

@@ -1,5 +1,5 @@
 -- How far a loop is unrolled makes no difference to n events, where it is unrolled to n turns.
-use Rattle.kahn_streams.proofs.Common.{◌≡◌, ℕ, zero, suc, ◌≤◌, Bool, true, false, List, [], ◌∷◌, refl, ap, Result, Ok, Err, neg_ℤ, not, slice_set, le_of_suc-le-suc, not-suc-le-zero, arith, Value, Failure, Logical, Expr, Literal, Variable, Wait, Negate, Not, Binary, Conditional, Stmt, Skip, Assign, Send, Print, Seq, If, While, Repeat, number, truth, ranged, apply, Port, Parameter, Printer, Tapes, Script, Give, Fail, Waits, Sends, Turns, Reached, after_event, after_send, put, wait_at, play, Store, constant, read, settle, value_of, turns_of, script_of}
+use Rattle.kahn_streams.proofs.Common.{◌≡◌, ℕ, zero, suc, ◌≤◌, Bool, true, false, List, ◌∷◌, refl, ap, Result, Ok, Err, neg_ℤ, not, slice_set, le_of_suc-le-suc, not-suc-le-zero, arith, Value, Failure, Logical, Expr, Literal, Variable, Wait, Negate, Not, Binary, Conditional, Stmt, Skip, Assign, Send, Print, Seq, If, While, Repeat, number, truth, ranged, apply, Port, Parameter, Printer, Tapes, Script, Give, Fail, Waits, Sends, Turns, Reached, after_event, after_send, put, wait_at, play, Store, constant, read, settle, value_of, turns_of, script_of, []}
 
 -- two scripts that n events can't tell apart
 pub data Alike {A : Type 0} : ℕ → Script A → Script A → Type 0 where
@@ -50,15 +50,27 @@ play_alike (sends {p = p} {v = v} h) T = ap (after_send p v) (play_alike h T)
 play_alike turns_last T = refl
 play_alike (turns h) T = ap after_event (play_alike h T)
 
-pub alike_by : {A : Type 0} {n : ℕ} (b : Bool) (s t s' t' : Script A) → Alike n s t → Alike n s' t' →
-    Alike n (elim b [ true ↦ s | false ↦ s' ]) (elim b [ true ↦ t | false ↦ t' ])
-alike_by true s t s' t' h h' = h
-alike_by false s t s' t' h h' = h'
+pub alike_by : {A B : Type 0} (R : Script A → Script B → Type 0) (b : Bool) (s s' : Script A) (t t' : Script B) → R s t → R s' t' →
+    R (elim b [ true ↦ s | false ↦ s' ]) (elim b [ true ↦ t | false ↦ t' ])
+alike_by R true s s' t t' h h' = h
+alike_by R false s s' t t' h h' = h'
 
-alike_settle : {A : Type 0} {n : ℕ} (r : Result Value Failure) (next next' : Value → Script A) →
-    ((v : Value) → Alike n (next v) (next' v)) → Alike n (settle r next) (settle r next')
-alike_settle (Ok v) next next' h = h v
-alike_settle (Err k) next next' h = fails
+-- R holds of what an expression does before what goes on, where it holds of what goes on, of failures and of waiting
+module _ {A B : Type 0} (R : Script A → Script B → Type 0) (failed : (k : Failure) → R (Fail k) (Fail k))
+    (waited : (q : ℕ) (f : Value → Script A) (g : Value → Script B) → ((v : Value) → R (f v) (g v)) → R (Waits q f) (Waits q g)) where
+  settle_related : (r : Result Value Failure) (f : Value → Script A) (g : Value → Script B) → ((v : Value) → R (f v) (g v)) → R (settle r f) (settle r g)
+  settle_related (Ok v) f g h = h v
+  settle_related (Err k) f g h = failed k
+
+  pub value_related : (e : Expr) (s : Store) (f : Value → Script A) (g : Value → Script B) → ((v : Value) → R (f v) (g v)) → R (value_of e s f) (value_of e s g)
+  value_related (Literal c) s f g h = h (constant c)
+  value_related (Variable x) s f g h = h (read s x)
+  value_related (Wait q) s f g h = waited q f g h
+  value_related (Negate e) s f g h = value_related e s _ _ (λ v. settle_related (ranged (neg_ℤ (number v))) f g h)
+  value_related (Not e) s f g h = value_related e s _ _ (λ v. h (Logical (not (truth v))))
+  value_related (Binary o a b) s f g h = value_related a s _ _ (λ v. value_related b s _ _ (λ w. settle_related (apply o v w) f g h))
+  value_related (Conditional t a b) s f g h =
+      value_related t s _ _ (λ v. alike_by R (truth v) _ _ _ _ (value_related a s f g h) (value_related b s f g h))
 
 alike_waits : {A : Type 0} (n q : ℕ) (next next' : Value → Script A) →
     ((v : Value) → Alike n (next v) (next' v)) → Alike n (Waits q next) (Waits q next')
@@ -71,16 +83,7 @@ alike_sends (suc n) p v s t h = sends (fewer h)
 
 pub value_alike : {A : Type 0} (n : ℕ) (e : Expr) (s : Store) (next next' : Value → Script A) →
     ((v : Value) → Alike n (next v) (next' v)) → Alike n (value_of e s next) (value_of e s next')
-value_alike n (Literal c) s next next' h = h (constant c)
-value_alike n (Variable x) s next next' h = h (read s x)
-value_alike n (Wait q) s next next' h = alike_waits n q next next' h
-value_alike n (Negate e) s next next' h =
-    value_alike n e s _ _ (λ v. alike_settle (ranged (neg_ℤ (number v))) next next' h)
-value_alike n (Not e) s next next' h = value_alike n e s _ _ (λ v. h (Logical (not (truth v))))
-value_alike n (Binary o a b) s next next' h =
-    value_alike n a s _ _ (λ v. value_alike n b s _ _ (λ w. alike_settle (apply o v w) next next' h))
-value_alike n (Conditional t a b) s next next' h =
-    value_alike n t s _ _ (λ v. alike_by (truth v) _ _ _ _ (value_alike n a s next next' h) (value_alike n b s next next' h))
+value_alike n e s next next' h = value_related (Alike n) (λ k. fails) (alike_waits n) e s next next' h
 
 -- a way to go on that keeps scripts alike
 abbrev pub Keeps : {A X : Type 0} → ℕ → (Store → (X → Script A) → Script A) → (Store → (X → Script A) → Script A) → Type 0
@@ -104,7 +107,7 @@ turns_alike (suc n) (suc k) zero test body body' le le' kt kb s next next' h = a
 turns_alike (suc n) (suc k) (suc k') test body body' le le' kt kb s next next' h =
     turns
     (kt n (omega arith) s _ _ (λ v.
-    alike_by (truth v) _ _ _ _
+    alike_by (Alike n) (truth v) _ _ _ _
     (kb n (omega arith) s _ _ (λ r.
     turns_alike n k k' test body body' (le_of_suc-le-suc le) (le_of_suc-le-suc le')
     (λ m l. kt m (omega (arith, l))) (λ m l. kb m (omega (arith, l))) r next next' (λ x. fewer (h x))))
@@ -121,7 +124,7 @@ script_alike n k k' (Seq a b) le le' s next next' h =
     script_alike n k k' a le le' s _ _ (λ r. script_alike n k k' b le le' r next next' h)
 script_alike n k k' (If t a b) le le' s next next' h =
     value_alike n t s _ _ (λ v.
-    alike_by (truth v) _ _ _ _
+    alike_by (Alike n) (truth v) _ _ _ _
     (script_alike n k k' a le le' s next next' h)
     (script_alike n k k' b le le' s next next' h))
 script_alike n k k' (While t b) le le' s next next' h =

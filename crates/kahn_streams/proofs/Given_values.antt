@@ -1,5 +1,5 @@
 -- What is given to the input channels stands.
-use Rattle.kahn_streams.proofs.Common.{◌≡◌, ◌≤◌, ℕ, Some, ap, sym, ◌∙◌, slice_get, length, List, [], get_or_past, Program, Value, Inner, Input, Schema, network_of, role_at, source_by, first_writer, Given, Channel, fed, iterate, Lists, inputs_of, Holds}
+use Rattle.kahn_streams.proofs.Common.{◌≡◌, ◌≤◌, ℕ, Some, ap, sym, ◌∙◌, slice_get, length, List, get_or_past, Program, Value, Inner, Input, Schema, network_of, role_at, source_by, first_writer, Given, Channel, fed, iterate, Lists, inputs_of, Holds, []}
 use Rattle.kahn_streams.specs.declared.tree.Kind.TheVariants as KindOf
 
 pub stands_given : (t : Program) (lists : Lists) (c k : ℕ) (v : Value) → role_at (network_of t) c ≡ Input →

@@ -1,5 +1,5 @@
 -- What is handed over, and by which names.
-use Rattle.kahn_streams.proofs.Common.{◌≡◌, ℕ, Bool, true, false, cond, ◌&&◌, List, [], ◌∷◌, ◌++◌, map, refl, ap, sym, ◌∙◌, subst, bytes_eq, true≢false, bytes_eq-Decides, Name, Kind, Role, Direction, Program, Side, Inner, Input, Output, In, Out, bytes_of, Global, IsChannel, Handover, handed_from, same_direction, ends, writers, readers, IsOne, IsWired, is_closed}
+use Rattle.kahn_streams.proofs.Common.{◌≡◌, ℕ, Bool, true, false, cond, ◌&&◌, List, ◌∷◌, ◌++◌, map, refl, ap, sym, ◌∙◌, subst, bytes_eq, true≢false, bytes_eq-Decides, Name, Kind, Role, Direction, Program, Side, Inner, Input, Output, In, Out, bytes_of, Global, IsChannel, Handover, handed_from, same_direction, ends, writers, readers, IsOne, IsWired, is_closed, []}
 
 abbrev pub keys : {A : Type 0} → List (List ℕ × A) → List (List ℕ)
 keys xs = map (λ e. e.0) xs

@@ -1,5 +1,5 @@
 -- What the tables of a network say of it.
-use Rattle.kahn_streams.proofs.Common.{◌≡◌, ℕ, ◌<◌, List, map, length, Option, None, Some, refl, ap, sym, ◌∙◌, subst, string_bytes, length-map, get_or_from_slice_get, Name, Kind, Role, Process, Declaration, Program, bytes_of, IsMadeOf, network_of, instance_at, instance_from, kind_at, role_at, channel_source, process_of, idle, IsOnly, IsWriter, IsReader, source_of, channel_names, the_process as the_declared, shown, channel_line, lines_of, first, process_at, IsKept, declared_channels, writers, readers, IsMade, IsWellWired}
+use Rattle.kahn_streams.proofs.Common.{◌≡◌, ℕ, ◌<◌, List, map, length, Option, None, Some, refl, ap, sym, ◌∙◌, subst, string_bytes, length-map, get_or_from_slice_get, Name, Kind, Role, Process, Declaration, Program, bytes_of, IsMadeOf, network_of, instance_at, instance_from, process_of, idle, IsOnly, IsWriter, IsReader, source_of, channel_names, the_process as the_declared, shown, channel_line, lines_of, first, process_at, IsKept, declared_channels, writers, readers, IsMade, IsWellWired}
 use Rattle.std.specs.Prelude.{slice_get, slice_index_or}
 use Rattle.kahn_streams.specs.{Types.Argument, Types.Instance, Wires.Line, declared.wires.Wire.Wire, inner.Sources.IsWire}
 use Rattle.kahn_streams.specs.declared.tree.Declaration.TheVariants as D

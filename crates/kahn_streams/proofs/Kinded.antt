@@ -1,6 +1,6 @@
 -- What a process does keeps kinds: from values of the right kinds, on tapes of the right kinds, it sends values of
 -- the right kinds.
-use Rattle.kahn_streams.proofs.Common.{◌≡◌, ℕ, zero, suc, ◌+ℤ◌, ◌-ℤ◌, ◌*ℤ◌, ◌==◌, ℤ, neg_ℤ, int_div, int_rem, Bool, true, false, not, List, [], ◌∷◌, Option, Some, Result, Ok, Err, refl, sym, ◌∙◌, subst, eqb-true, slice_get, slice_set, if◌then◌else◌, AllByRecursion, Kind, Operator, Taking, Value, Failure, In, Out, Constant, Number, Truth, Expr, Literal, Variable, Wait, Negate, Not, Binary, Conditional, Stmt, Skip, Assign, Send, Print, Seq, If, While, Repeat, gives, constant_kind, HasKind, Agrees, Integer, Logical, number, truth, fits_64, is_zero, ranged, apply, Port, Parameter, Printer, Tapes, Script, Give, Fail, Waits, Sends, Turns, Rest, Reached, put, wait_at, play, Store, constant, read, settle, value_of, turns_of, script_of, kind_of_value}
+use Rattle.kahn_streams.proofs.Common.{◌≡◌, ℕ, zero, suc, ◌+ℤ◌, ◌-ℤ◌, ◌*ℤ◌, ◌==◌, ℤ, neg_ℤ, int_div, int_rem, Bool, true, false, not, List, ◌∷◌, Option, Some, Result, Ok, Err, refl, sym, ◌∙◌, subst, eqb-true, slice_get, slice_set, if◌then◌else◌, AllByRecursion, Kind, Operator, Taking, Value, Failure, In, Out, Constant, Number, Truth, Expr, Literal, Variable, Wait, Negate, Not, Binary, Conditional, Stmt, Skip, Assign, Send, Print, Seq, If, While, Repeat, gives, constant_kind, HasKind, Agrees, Integer, Logical, number, truth, fits_64, is_zero, ranged, apply, Port, Parameter, Printer, Tapes, Script, Give, Fail, Waits, Sends, Turns, Rest, Reached, put, wait_at, play, Store, constant, read, settle, value_of, turns_of, script_of, kind_of_value, []}
 use Rattle.kahn_streams.specs.declared.tree.Kind.TheVariants as K
 use Rattle.kahn_streams.specs.declared.tree.Operator.TheVariants.{Or, And, Equal, Unequal, Less, AtMost, Greater, AtLeast, Add, Subtract, Multiply, Divide, Remainder}
 use Rattle.kahn_streams.specs.declared.tree.Taking.TheVariants as T
@@ -89,23 +89,26 @@ abbrev pub IsSent : List Taking → Port × Value → Type 0
 IsSent w (Parameter q, v) = slice_get w q ≡ Some (T.Channel Out (kind_of_value v))
 IsSent w (Printer, v) = Unit {0}
 
--- as long as what it takes has the right kinds, what it sends has the right kinds
-abbrev pub IsKept : {A : Type 0} → List Taking → Script A → Type 0
-IsKept w (Give a) = Unit {0}
-IsKept w (Fail k) = Unit {0}
-IsKept w (Waits q go) = (v : Value) → IsTaken w q v → IsKept w (go v)
-IsKept w (Sends p v s) = IsSent w (p, v) × IsKept w s
-IsKept w (Turns s) = IsKept w s
-IsKept w Rest = Unit {0}
+abbrev pub IsIn : List Taking → ℕ → Type 0
+IsIn w q = (k : Kind) × (slice_get w q ≡ Some (T.Channel In k))
 
-settle_kept : {A : Type 0} (w : List Taking) (k : Kind) (r : Result Value Failure) (next : Value → Script A) → GivesKind k r →
-    ((v : Value) → kind_of_value v ≡ k → IsKept w (next v)) → IsKept w (settle r next)
-settle_kept w k (Ok v) next h g = g v h
-settle_kept w k (Err f) next h g = tt
+-- It waits only where it may; and under C, as long as what it takes has the right kinds, what it sends has the right kinds.
+abbrev pub IsKept : {A : Type 0} → Type 0 → List Taking → Script A → Type 0
+IsKept C w (Give a) = Unit {0}
+IsKept C w (Fail k) = Unit {0}
+IsKept C w (Waits q go) = IsIn w q × ((v : Value) → (C → IsTaken w q v) → IsKept C w (go v))
+IsKept C w (Sends p v s) = (C → IsSent w (p, v)) × IsKept C w s
+IsKept C w (Turns s) = IsKept C w s
+IsKept C w Rest = Unit {0}
 
-kept_by : {A : Type 0} (w : List Taking) (b : Bool) (s t : Script A) → IsKept w s → IsKept w t → IsKept w (elim b [ true ↦ s | false ↦ t ])
-kept_by w true s t h i = h
-kept_by w false s t h i = i
+settle_kept : {A : Type 0} (C : Type 0) (w : List Taking) (k : Kind) (r : Result Value Failure) (next : Value → Script A) → (C → GivesKind k r) →
+    ((v : Value) → (C → kind_of_value v ≡ k) → IsKept C w (next v)) → IsKept C w (settle r next)
+settle_kept C w k (Ok v) next h g = g v h
+settle_kept C w k (Err f) next h g = tt
+
+kept_by : {A : Type 0} (C : Type 0) (w : List Taking) (b : Bool) (s t : Script A) → IsKept C w s → IsKept C w t → IsKept C w (elim b [ true ↦ s | false ↦ t ])
+kept_by C w true s t h i = h
+kept_by C w false s t h i = i
 
 pub constant_kept : (c : Constant) → kind_of_value (constant c) ≡ constant_kind c
 constant_kept (Number z) = refl
@@ -114,48 +117,48 @@ constant_kept (Truth b) = refl
 same_taken : (k j : Kind) (o : Option Taking) → o ≡ Some (T.Channel In k) → o ≡ Some (T.Channel In j) → j ≡ k
 same_taken k j o h e = cc
 
-value_kept : {A : Type 0} (w : List Taking) (e : Expr) (k : Kind) (s : Store) (next : Value → Script A) → HasKind w e k → IsStored w s →
-    ((v : Value) → kind_of_value v ≡ k → IsKept w (next v)) → IsKept w (value_of e s next)
-value_kept w (Literal c) k s next h i g = g (constant c) (constant_kept c ∙ sym h)
-value_kept w (Variable x) k s next h i g = g (read s x) (read_kept w s x k i h)
-value_kept w (Wait q) k s next h i g = λ v e. g v (same_taken k (kind_of_value v) (slice_get w q) h e)
-value_kept w (Negate e) k s next h i g =
-    value_kept w e K.Integer s _ h.0 i (λ v j. settle_kept w K.Integer (ranged (neg_ℤ (number v))) next (ranged_kept (neg_ℤ (number v))) (λ u l. g u (l ∙ sym h.1)))
-value_kept w (Not e) k s next h i g = value_kept w e K.Logical s _ h.0 i (λ v j. g (Logical (not (truth v))) (sym h.1))
-value_kept w (Binary o a b) k s next h i g =
-    value_kept w a h.0.0 s _ h.0.2 i (λ v j.
-    value_kept w b h.0.0 s _ h.0.3 i (λ u l.
-    settle_kept w (gives o) (apply o v u) next (apply_kept o v u) (λ x m. g x (m ∙ sym h.1))))
-value_kept w (Conditional t a b) k s next h i g =
-    value_kept w t K.Logical s _ h.0 i (λ v j.
-    kept_by w (truth v) _ _ (value_kept w a k s next h.1 i g) (value_kept w b k s next h.2 i g))
+value_kept : {A : Type 0} (C : Type 0) (w : List Taking) (e : Expr) (k : Kind) (s : Store) (next : Value → Script A) → HasKind w e k → (C → IsStored w s) →
+    ((v : Value) → (C → kind_of_value v ≡ k) → IsKept C w (next v)) → IsKept C w (value_of e s next)
+value_kept C w (Literal c) k s next h i g = g (constant c) (λ x. constant_kept c ∙ sym h)
+value_kept C w (Variable x) k s next h i g = g (read s x) (λ y. read_kept w s x k (i y) h)
+value_kept C w (Wait q) k s next h i g = ((k, h), λ v e. g v (λ y. same_taken k (kind_of_value v) (slice_get w q) h (e y)))
+value_kept C w (Negate e) k s next h i g =
+    value_kept C w e K.Integer s _ h.0 i (λ v j. settle_kept C w K.Integer (ranged (neg_ℤ (number v))) next (λ y. ranged_kept (neg_ℤ (number v))) (λ u l. g u (λ y. l y ∙ sym h.1)))
+value_kept C w (Not e) k s next h i g = value_kept C w e K.Logical s _ h.0 i (λ v j. g (Logical (not (truth v))) (λ y. sym h.1))
+value_kept C w (Binary o a b) k s next h i g =
+    value_kept C w a h.0.0 s _ h.0.2 i (λ v j.
+    value_kept C w b h.0.0 s _ h.0.3 i (λ u l.
+    settle_kept C w (gives o) (apply o v u) next (λ y. apply_kept o v u) (λ x m. g x (λ y. m y ∙ sym h.1))))
+value_kept C w (Conditional t a b) k s next h i g =
+    value_kept C w t K.Logical s _ h.0 i (λ v j.
+    kept_by C w (truth v) _ _ (value_kept C w a k s next h.1 i g) (value_kept C w b k s next h.2 i g))
 
 -- a body that goes on from stores of the right kinds to such stores
-abbrev Passes : {A X : Type 0} → List Taking → (X → Type 0) → (Store → (X → Script A) → Script A) → Type 0
-Passes {A} {X} w P f = (s : Store) (next : X → Script A) → IsStored w s → ((x : X) → P x → IsKept w (next x)) → IsKept w (f s next)
+abbrev Passes : {A X : Type 0} → Type 0 → List Taking → (X → Type 0) → (Store → (X → Script A) → Script A) → Type 0
+Passes {A} {X} C w P f = (s : Store) (next : X → Script A) → (C → IsStored w s) → ((x : X) → (C → P x) → IsKept C w (next x)) → IsKept C w (f s next)
 
-turns_kept : {A : Type 0} (w : List Taking) (k : ℕ) (test : Store → (Value → Script A) → Script A) (body : Store → (Store → Script A) → Script A) →
-    Passes w (λ v. kind_of_value v ≡ K.Logical) test → Passes w (IsStored w) body → Passes w (IsStored w) (turns_of k test body)
-turns_kept w zero test body ht hb s next i g = tt
-turns_kept w (suc k) test body ht hb s next i g =
-    ht s _ i (λ v j. kept_by w (truth v) _ _ (hb s _ i (λ r l. turns_kept w k test body ht hb r next l g)) (g s i))
+turns_kept : {A : Type 0} (C : Type 0) (w : List Taking) (k : ℕ) (test : Store → (Value → Script A) → Script A) (body : Store → (Store → Script A) → Script A) →
+    Passes C w (λ v. kind_of_value v ≡ K.Logical) test → Passes C w (IsStored w) body → Passes C w (IsStored w) (turns_of k test body)
+turns_kept C w zero test body ht hb s next i g = tt
+turns_kept C w (suc k) test body ht hb s next i g =
+    ht s _ i (λ v j. kept_by C w (truth v) _ _ (hb s _ i (λ r l. turns_kept C w k test body ht hb r next l g)) (g s i))
 
-pub script_kept : {A : Type 0} (w : List Taking) (k : ℕ) (b : Stmt) (s : Store) (next : Store → Script A) → Agrees w b → IsStored w s →
-    ((r : Store) → IsStored w r → IsKept w (next r)) → IsKept w (script_of k b s next)
-script_kept w k Skip s next h i g = g s i
-script_kept w k (Assign x e) s next h i g =
-    value_kept w e h.0 s _ h.2 i (λ v j. g (slice_set s x v) (set_kept w s x h.0 v i h.1 j))
-script_kept w k (Send e q) s next h i g =
-    value_kept w e h.0 s _ h.2 i (λ v j. (subst (λ z. slice_get w q ≡ Some (T.Channel Out z)) (sym j) h.1, g s i))
-script_kept w k (Print e) s next h i g = value_kept w e h.0 s _ h.1 i (λ v j. (tt, g s i))
-script_kept w k (Seq a b) s next h i g = script_kept w k a s _ h.0 i (λ r j. script_kept w k b r next h.1 j g)
-script_kept w k (If t a b) s next h i g =
-    value_kept w t K.Logical s _ h.0 i (λ v j.
-    kept_by w (truth v) _ _ (script_kept w k a s next h.1 i g) (script_kept w k b s next h.2 i g))
-script_kept w k (While t b) s next h i g =
-    turns_kept w k _ _ (λ r f j l. value_kept w t K.Logical r f h.0 j l) (λ r f j l. script_kept w k b r f h.1 j l) s next i g
-script_kept w k (Repeat b) s next h i g =
-    turns_kept w k _ _ (λ r f j l. l (Logical true) refl) (λ r f j l. script_kept w k b r f h j l) s next i g
+pub script_kept : {A : Type 0} (C : Type 0) (w : List Taking) (k : ℕ) (b : Stmt) (s : Store) (next : Store → Script A) → Agrees w b → (C → IsStored w s) →
+    ((r : Store) → (C → IsStored w r) → IsKept C w (next r)) → IsKept C w (script_of k b s next)
+script_kept C w k Skip s next h i g = g s i
+script_kept C w k (Assign x e) s next h i g =
+    value_kept C w e h.0 s _ h.2 i (λ v j. g (slice_set s x v) (λ y. set_kept w s x h.0 v (i y) h.1 (j y)))
+script_kept C w k (Send e q) s next h i g =
+    value_kept C w e h.0 s _ h.2 i (λ v j. ((λ y. subst (λ z. slice_get w q ≡ Some (T.Channel Out z)) (sym (j y)) h.1), g s i))
+script_kept C w k (Print e) s next h i g = value_kept C w e h.0 s _ h.1 i (λ v j. ((λ y. tt), g s i))
+script_kept C w k (Seq a b) s next h i g = script_kept C w k a s _ h.0 i (λ r j. script_kept C w k b r next h.1 j g)
+script_kept C w k (If t a b) s next h i g =
+    value_kept C w t K.Logical s _ h.0 i (λ v j.
+    kept_by C w (truth v) _ _ (script_kept C w k a s next h.1 i g) (script_kept C w k b s next h.2 i g))
+script_kept C w k (While t b) s next h i g =
+    turns_kept C w k _ _ (λ r f j l. value_kept C w t K.Logical r f h.0 j l) (λ r f j l. script_kept C w k b r f h.1 j l) s next i g
+script_kept C w k (Repeat b) s next h i g =
+    turns_kept C w k _ _ (λ r f j l. l (Logical true) (λ y. refl)) (λ r f j l. script_kept C w k b r f h j l) s next i g
 
 -- ---- runs
 
@@ -177,14 +180,14 @@ wait_kept w zero q U (v ∷ vs) go h i step = tt
 wait_kept w (suc n) q U (v ∷ vs) go h i step = step n v (put U q vs) i.0 (λ r. put_by w U q vs h i.1 r (r == q) refl)
 
 -- all that is sent has the kind of the parameter it is sent to
-pub play_kept : {A : Type 0} (w : List Taking) (n : ℕ) (s : Script A) (U : Tapes) → IsKept w s → AreTapesKept w U →
+pub play_kept : {A : Type 0} (w : List Taking) (n : ℕ) (s : Script A) (U : Tapes) → IsKept (Unit {0}) w s → AreTapesKept w U →
     AllByRecursion (IsSent w) (play n s U).sent
 play_kept w n (Give a) U h i = tt
 play_kept w n (Fail k) U h i = tt
 play_kept w n (Waits q go) U h i =
-    wait_kept w n q U (U q) (λ m v V. play m (go v) V) i (i q) (λ m v V e j. play_kept w m (go v) V (h v e) j)
+    wait_kept w n q U (U q) (λ m v V. play m (go v) V) i (i q) (λ m v V e j. play_kept w m (go v) V (h.1 v (λ y. e)) j)
 play_kept w zero (Sends p v s) U h i = tt
-play_kept w (suc n) (Sends p v s) U h i = (h.0, play_kept w n s U h.1 i)
+play_kept w (suc n) (Sends p v s) U h i = (h.0 tt, play_kept w n s U h.1 i)
 play_kept w zero (Turns s) U h i = tt
 play_kept w (suc n) (Turns s) U h i = play_kept w n s U h i
 play_kept w n Rest U h i = tt

@@ -1,5 +1,5 @@
 -- The instances of a well wired program keep kinds, and so do the iterates.
-use Rattle.kahn_streams.proofs.Common.{Actual, Reads, Writes, ◌≡◌, ◌≢◌, ℕ, zero, suc, pos, Bool, true, false, List, [], ◌∷◌, ◌++◌, map, Some, refl, sym, ap, ◌∙◌, eqb-true, slice_get, slice_index_or, if◌then◌else◌, AllByRecursion, Kind, Role, Direction, Taking, Program, Value, Inner, Input, Output, In, Out, Number, IsWellWired, Hands, Node, Schema, instance_at, actual_at, kind_at, role_at, is_written, any_written, first_writer, source_by, Source, Given, Written, Nobody, network_of, Channel, Port, Parameter, Printer, Give, Store, script_of, Histories, opening_of, default_of, opening, tape_of, tapes_of, exec_at, goes_to, values_at, out, source, fed, iterate, kind_of_value, AreOfKind, IsListFor, IsInputFor, Lists, inputs_of, AreKinded, taking_of, takings_of, IsFit}
+use Rattle.kahn_streams.proofs.Common.{Actual, Reads, Writes, ◌≡◌, ◌≢◌, ℕ, zero, suc, pos, Bool, true, false, List, ◌∷◌, ◌++◌, map, Some, refl, sym, ap, ◌∙◌, eqb-true, slice_get, slice_index_or, if◌then◌else◌, AllByRecursion, Kind, Role, Direction, Taking, Program, Value, Inner, Input, Output, In, Out, Number, IsWellWired, Hands, Node, Schema, instance_at, actual_at, kind_at, role_at, is_written, any_written, first_writer, source_by, Source, Given, Written, Nobody, network_of, Channel, Port, Parameter, Printer, Give, Store, script_of, Histories, opening_of, default_of, opening, tape_of, tapes_of, exec_at, goes_to, values_at, out, source, fed, iterate, kind_of_value, AreOfKind, IsListFor, IsInputFor, Lists, inputs_of, AreKinded, taking_of, takings_of, IsFit, []}
 use Rattle.kahn_streams.specs.declared.tree.Kind.TheVariants as K
 use Rattle.kahn_streams.specs.declared.tree.Taking.TheVariants as T
 use Rattle.kahn_streams.proofs.{Dry.fit_at, Fitted.instances_fit}
@@ -68,14 +68,14 @@ record KeepsKinds (N : Schema) (i : Node) : Type 0 where
   names : List Taking
   takes : (H : Histories) → AreKinded N H → AreTapesKept names (tapes_of i H)
   sends : (q c : ℕ) (j : Kind) → slice_get names q ≡ Some (T.Channel Out j) → is_written (actual_at i q) c ≡ true → j ≡ kind_at N c
-  body : (n : ℕ) → IsKept {A = Store} names (script_of n i.body (opening i) Give)
+  body : (n : ℕ) → IsKept {A = Store} (Unit {0}) names (script_of n i.body (opening i) Give)
 
 fit_keeps : (N : Schema) (i : Node) → IsFit N i → KeepsKinds N i
 fit_keeps N i fit = record {
   names = takings_of N i;
   takes = λ H g q. tapes_kept N H i.actuals i.variables g q;
   sends = λ q c j e w. sends_kept N i.actuals i.variables q c j e w;
-  body = λ n. script_kept (takings_of N i) n i.body (opening i) Give fit.0 (opening_kept N i.actuals i.variables) (λ r j. tt);
+  body = λ n. script_kept (Unit {0}) (takings_of N i) n i.body (opening i) Give fit.0 (λ y. opening_kept N i.actuals i.variables) (λ r j. tt);
 }
 
 instances_keep : (t : Program) → IsWellWired t → (p : ℕ) → KeepsKinds (network_of t) (instance_at (network_of t) p)

@@ -1,5 +1,5 @@
 -- A table of numbers while names are noted in it, one after another.
-use Rattle.kahn_streams.proofs.Common.{◌≡◌, ℕ, suc, ◌+◌, Bool, true, false, List, [], ◌∷◌, length, Option, None, Some, refl, sym, ap, subst, ◌∙◌, arith, cond, if◌then◌else◌, bytes_eq, common_steps, bytes_eq-Decides, update, Process, Scope, place_of, names_of, number_in, noted}
+use Rattle.kahn_streams.proofs.Common.{◌≡◌, ℕ, suc, ◌+◌, Bool, true, false, List, ◌∷◌, length, Option, None, Some, refl, sym, ap, subst, ◌∙◌, arith, cond, if◌then◌else◌, bytes_eq, common_steps, bytes_eq-Decides, update, Process, Scope, place_of, names_of, number_in, noted, []}
 
 -- what stands for a name once all these are noted, the first with the number n
 abbrev pub noted_all : Scope → ℕ → List ℕ → Option ℕ → Option ℕ

@@ -1,5 +1,5 @@
 -- The actuals of a network that pass a test, by their places.
-use Rattle.kahn_streams.proofs.Common.{◌≡◌, ℕ, zero, suc, ◌+◌, ◌<◌, Bool, true, false, cond, ◌⊎◌, inl, inr, List, [], ◌∷◌, ◌++◌, length, Option, None, Some, refl, ap, sym, ◌∙◌, subst, arith, Schema, Node, Actual, Hands, Source, Written, Nobody, idle, actual_at, first_writer, any_written, is_written, IsWithin, handed_at, IsOnly, first, side_at, Side}
+use Rattle.kahn_streams.proofs.Common.{◌≡◌, ℕ, zero, suc, ◌+◌, ◌<◌, Bool, true, false, cond, ◌⊎◌, inl, inr, List, ◌∷◌, ◌++◌, length, Option, None, Some, refl, ap, sym, ◌∙◌, subst, arith, Schema, Node, Actual, Hands, Source, Written, Nobody, idle, actual_at, first_writer, any_written, is_written, IsWithin, handed_at, IsOnly, first, side_at, Side, []}
 use Rattle.std.specs.Prelude.{slice_index_or, pos}
 use Rattle.kahn_streams.specs.Syntax as S
 use Rattle.kahn_streams.proofs.Handed.{AtMostOne}

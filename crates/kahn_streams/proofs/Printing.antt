@@ -1,5 +1,5 @@
 -- The statements of a block and of a body, one after another.
-use Rattle.kahn_streams.proofs.Common.{◌≡◌, ◌||◌, Bool, false, List, [], ◌∷◌, refl, ap, Row_of-Statement, end_of-Statement, more_of-Statement, Statement, prints_in, Scope, statement_of, stmt_of, row_of, body_of}
+use Rattle.kahn_streams.proofs.Common.{◌≡◌, ◌||◌, Bool, false, List, ◌∷◌, refl, ap, Row_of-Statement, end_of-Statement, more_of-Statement, Statement, prints_in, Scope, statement_of, stmt_of, row_of, body_of, []}
 use Rattle.kahn_streams.specs.declared.tree.Action.TheBlock.{items-the_row-Statement}
 
 abbrev pub any_prints : Scope → List Statement → Bool

@@ -1,5 +1,5 @@
 -- The laws of the meaning, proved.
-use Rattle.kahn_streams.proofs.Common.{fun_ext, ◌≡◌, ◌⊎◌, ℕ, zero, suc, ◌≤◌, ◌<◌, max, Bool, true, false, List, [], ◌∷◌, ◌++◌, refl, sym, ap, ◌∙◌, subst, inl, inr, append_assoc, append-nil, le_refl, eq-or-lt_of_le, le_of_suc-le-suc, not-suc-le-zero, arith, slice_index_or, slice_get, Some, pos, if◌then◌else◌, le-max_left, le-max_right, Value, Line, Channel, Number, Port, Tapes, Script, Give, ScriptOutcome, Got, Dry, Fault, Cut, Reached, play, Store, script_of, Schema, Node, Actual, Reads, Writes, Hands, instance_at, actual_at, Source, Given, Written, Nobody, Histories, Inputs, opening, tape_of, tapes_of, exec_at, out, values_at, goes_to, source, fed, input_list, iterate, IsPrefix, IsExtended, IsChain, HasOneValue, IsSolved, IsSolution, IsBelow, AreSame, KeepsTape, Frame}
+use Rattle.kahn_streams.proofs.Common.{fun_ext, ◌≡◌, ◌⊎◌, ℕ, zero, suc, ◌≤◌, ◌<◌, max, Bool, true, false, List, ◌∷◌, ◌++◌, refl, sym, ap, ◌∙◌, subst, inl, inr, append_assoc, append-nil, le_refl, eq-or-lt_of_le, le_of_suc-le-suc, not-suc-le-zero, arith, slice_index_or, slice_get, Some, pos, if◌then◌else◌, le-max_left, le-max_right, Value, Line, Channel, Number, Port, Tapes, Script, Give, ScriptOutcome, Got, Dry, Fault, Cut, Reached, play, Store, script_of, Schema, Node, Actual, Reads, Writes, Hands, instance_at, actual_at, Source, Given, Written, Nobody, Histories, Inputs, opening, tape_of, tapes_of, exec_at, out, values_at, goes_to, source, fed, input_list, iterate, IsPrefix, IsExtended, IsChain, HasOneValue, IsSolved, IsSolution, IsBelow, AreSame, KeepsTape, Frame, []}
 use Rattle.kahn_streams.proofs.Framed.{and_more, widened, cut_short, Stays, frame_play, dry_play, Begins, begins_nil, grows_play}
 use Rattle.kahn_streams.proofs.Fuel.{Alike, gives, script_alike, play_alike}
 

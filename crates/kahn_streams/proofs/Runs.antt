@@ -1,5 +1,5 @@
 -- A run is its steps.
-use Rattle.kahn_streams.proofs.Common.{fun_ext, ◌≡◌, ℕ, zero, suc, ◌==◌, Bool, true, false, List, [], ◌∷◌, ◌++◌, length, refl, sym, ap, ◌∙◌, subst, eqb-true, if◌then◌else◌, append-nil, arith, Value, Tapes, Script, Give, Fail, Waits, Sends, Turns, Rest, ScriptOutcome, Dry, Cut, Reached, at_once, after_event, after_send, put, wait_at, play, Step, Took, Sent, Turned, Follows, here, took, sent, turned, empty, values_taken, sends_of, and_then, since, halted, RanBy}
+use Rattle.kahn_streams.proofs.Common.{fun_ext, ◌≡◌, ℕ, zero, suc, ◌==◌, Bool, true, false, List, ◌∷◌, ◌++◌, length, refl, sym, ap, ◌∙◌, subst, eqb-true, if◌then◌else◌, append-nil, arith, Value, Tapes, Script, Give, Fail, Waits, Sends, Turns, Rest, ScriptOutcome, Dry, Cut, Reached, at_once, after_event, after_send, put, wait_at, play, Step, Took, Sent, Turned, Follows, here, took, sent, turned, empty, values_taken, sends_of, and_then, since, halted, RanBy, []}
 use Rattle.kahn_streams.proofs.Framed.{and_more}
 use Rattle.kahn_streams.proofs.Fuel.{Alike, gives, fails, waits_last, waits, sends_last, sends, turns_last, turns}
 
@@ -145,11 +145,3 @@ cut_is_full sends_last T e = refl
 cut_is_full (sends h) T e = ap suc (cut_is_full h T e)
 cut_is_full turns_last T e = refl
 cut_is_full (turns h) T e = ap suc (cut_is_full h T e)
-
--- the same steps from a script that is alike
-pub follows_alike : {A : Type 0} {s t s' : Script A} {steps : List Step} {n : ℕ} → Follows s steps s' → Alike (and_then steps n) s t →
-    (t' : Script A) × Follows t steps t' × Alike n s' t'
-follows_alike {t = t} here h = (t, here, h)
-follows_alike (took {v = v} f) (waits h) = let r = follows_alike f (h v) in (r.0, took r.1, r.2)
-follows_alike (sent f) (sends h) = let r = follows_alike f h in (r.0, sent r.1, r.2)
-follows_alike (turned f) (turns h) = let r = follows_alike f h in (r.0, turned r.1, r.2)

@@ -1,5 +1,5 @@
 -- The history on X of the sample network.
-use Rattle.kahn_streams.proofs.Common.{◌≡◌, ℕ, zero, suc, ◌+◌, ◌-◌, ◌%◌, ◌≤◌, true, List, [], ◌∷◌, ◌++◌, length, refl, sym, ap, ◌∙◌, subst, slice_get, Some, pos, arith, fun_ext, Value, Line, Integer, Logical, Channel, Parameter, Printer, Tapes, Script, Give, play, Store, turns_of, script_of, Step, Took, Sent, Turned, Follows, here, took, sent, turned, values_taken, sends_of, and_then, Schema, instance_at, Written, Histories, tapes_of, out, values_at, goes_to, iterate, IsPrefix, Stands, source, le-max_left, le-max_right, max, ne_eqb, ◌==◌, if◌then◌else◌}
+use Rattle.kahn_streams.proofs.Common.{◌≡◌, ℕ, zero, suc, ◌+◌, ◌-◌, ◌%◌, ◌≤◌, true, List, ◌∷◌, ◌++◌, length, refl, sym, ap, ◌∙◌, subst, slice_get, Some, pos, arith, fun_ext, Value, Line, Integer, Logical, Channel, Parameter, Printer, Tapes, Script, Give, play, Store, turns_of, script_of, Step, Took, Sent, Turned, Follows, here, took, sent, turned, values_taken, sends_of, and_then, Schema, instance_at, Written, Histories, tapes_of, out, values_at, goes_to, iterate, IsPrefix, Stands, source, le-max_left, le-max_right, max, ne_eqb, ◌==◌, if◌then◌else◌, []}
 use Rattle.kahn_streams.specs.Syntax as S
 use Rattle.kahn_streams.proofs.{Proved.values_append, Proved.prefix_trans, Proved.prefix_get, Proved.script_at, Proved.solves, Proved.one_value, Proved.iterates_rise, Runs.play_on, Runs.follows_append, Framed.and_more}
 use Rattle.kahn_streams.specs.Sample.{no_input, f_turn, g_turn, h_turn, sample_network, Sample}

@@ -1,5 +1,5 @@
 -- The sides of a channel by names and by numbers.
-use Rattle.kahn_streams.proofs.Common.{◌≡◌, ℕ, suc, ◌<◌, Bool, true, false, cond, List, [], ◌∷◌, ◌++◌, map, length, Some, refl, ap, sym, ◌∙◌, subst, arith, bytes_eq, AllByRecursion, length-map, get_or_from_slice_get, Name, Kind, Role, Direction, Taking, Argument, Program, Side, Inner, Input, Output, In, Out, Scope, place_of, bytes_of, Actual, Reads, Writes, Hands, is_written, actual_of, actuals_of, channels_of, process_of, instance_from, network_of, channel_source, source_by, role_at, kind_at, first_writer, IsWriter, IsReader, IsOnly, HasOne, HasNone, IsServed, source_of, channel_names, first, Handover, declared_channels, handed, handed_in, handed_by, handed_from, parameters_of, ends, writers, readers, IsOne, IsWired, IsMade, IsWellWired, side_at}
+use Rattle.kahn_streams.proofs.Common.{◌≡◌, ℕ, suc, ◌<◌, Bool, true, false, cond, List, ◌∷◌, ◌++◌, map, length, Some, refl, ap, sym, ◌∙◌, subst, arith, bytes_eq, AllByRecursion, length-map, get_or_from_slice_get, Name, Kind, Role, Direction, Taking, Argument, Program, Side, Inner, Input, Output, In, Out, Scope, place_of, bytes_of, Actual, Reads, Writes, is_written, actual_of, actuals_of, channels_of, process_of, instance_from, network_of, channel_source, source_by, role_at, kind_at, first_writer, IsWithin, IsWriter, IsReader, IsOnly, HasOne, HasNone, IsServed, source_of, channel_names, first, Handover, declared_channels, handed, handed_in, handed_by, handed_from, parameters_of, ends, writers, readers, IsOne, IsWired, IsMade, IsWellWired, side_at, []}
 use Rattle.std.specs.Prelude.{slice_get, ◌==◌}
 use Rattle.std.proofs.lemmas.Bool.{eq-eqb}
 use Rattle.kahn_streams.specs.Types.{Parameter, Instance}
@@ -12,36 +12,25 @@ use Rattle.kahn_streams.proofs.Handed as Handed
 
 -- ---- a test for each direction
 
-abbrev pub is_read : ℕ → Actual → Bool
-is_read c (Reads d) = d == c
-is_read c (Writes d) = false
-is_read c (Hands v) = false
-
 abbrev pub is_handed : Direction → ℕ → Actual → Bool
 is_handed Out c a = is_written a c
-is_handed In c a = is_read c a
+is_handed In c (Reads d) = d == c
+is_handed In c _ = false
 
-same_number : (d c : ℕ) → (d == c) ≡ true → d ≡ c
-same_number d c h = grind (arith, h)
+-- what is handed over there
+abbrev hand : Direction → ℕ → Actual
+hand Out c = Writes c
+hand In c = Reads c
 
-own_number : (c : ℕ) → (c == c) ≡ true
-own_number c = eq-eqb c c refl
+hands : (d : Direction) (c : ℕ) (a : Actual) → is_handed d c a ≡ true → a ≡ hand d c
+hands Out c (Writes e) h = let same : e ≡ c = grind (arith, h) in ap Writes same
+hands In c (Reads e) h = let same : e ≡ c = grind (arith, h) in ap Reads same
+hands In c _ h = cc
+hands Out c _ h = cc
 
-writes_to : (c : ℕ) (a : Actual) → is_written a c ≡ true → a ≡ Writes c
-writes_to c (Reads d) h = cc
-writes_to c (Writes d) h = ap Writes (same_number d c h)
-writes_to c (Hands v) h = cc
-
-writes_back : (c : ℕ) (a : Actual) → a ≡ Writes c → is_written a c ≡ true
-writes_back c a h = ap (λ z. is_written z c) h ∙ own_number c
-
-reads_from : (c : ℕ) (a : Actual) → is_read c a ≡ true → a ≡ Reads c
-reads_from c (Reads d) h = ap Reads (same_number d c h)
-reads_from c (Writes d) h = cc
-reads_from c (Hands v) h = cc
-
-reads_back : (c : ℕ) (a : Actual) → a ≡ Reads c → is_read c a ≡ true
-reads_back c a h = ap (is_read c) h ∙ own_number c
+hands_back : (d : Direction) (c : ℕ) → is_handed d c (hand d c) ≡ true
+hands_back Out c = eq-eqb c c refl
+hands_back In c = eq-eqb c c refl
 
 -- ---- the same sides by names and by numbers
 
@@ -52,31 +41,19 @@ IsNumbered names c x = (y : List ℕ) → (place_of names y == c) ≡ bytes_eq x
 one_argument : (names : Scope) (c : ℕ) (x : List ℕ) (d : Direction) (s : Side) (w : Taking) (y : Argument) (ss : List Side) (hs : List Handover) → IsNumbered names c x → ss ≡ ends d x hs →
     cond (is_handed d c (actual_of names w y)) (s ∷ ss) ss ≡ ends d x (handed s w y ++ hs)
 one_argument names c x Out s (T.Channel Out k) (A.Channel n) ss hs t h = λ j. cond (t (bytes_of n) j) (s ∷ h j) (h j)
-one_argument names c x Out s (T.Channel In k) (A.Channel n) ss hs t h = h
-one_argument names c x In s (T.Channel Out k) (A.Channel n) ss hs t h = h
 one_argument names c x In s (T.Channel In k) (A.Channel n) ss hs t h = λ j. cond (t (bytes_of n) j) (s ∷ h j) (h j)
-one_argument names c x Out s (T.Channel Out k) (A.Number z at) ss hs t h = h
-one_argument names c x Out s (T.Channel In k) (A.Number z at) ss hs t h = h
-one_argument names c x In s (T.Channel Out k) (A.Number z at) ss hs t h = h
-one_argument names c x In s (T.Channel In k) (A.Number z at) ss hs t h = h
-one_argument names c x Out s (T.Channel Out k) (A.Logical b at) ss hs t h = h
-one_argument names c x Out s (T.Channel In k) (A.Logical b at) ss hs t h = h
-one_argument names c x In s (T.Channel Out k) (A.Logical b at) ss hs t h = h
-one_argument names c x In s (T.Channel In k) (A.Logical b at) ss hs t h = h
 one_argument names c x Out s (T.Value k) (A.Channel n) ss hs t h = h
 one_argument names c x In s (T.Value k) (A.Channel n) ss hs t h = h
-one_argument names c x Out s (T.Value k) (A.Number z at) ss hs t h = h
-one_argument names c x In s (T.Value k) (A.Number z at) ss hs t h = h
-one_argument names c x Out s (T.Value k) (A.Logical b at) ss hs t h = h
-one_argument names c x In s (T.Value k) (A.Logical b at) ss hs t h = h
+one_argument names c x Out s (T.Channel In k) (A.Channel n) ss hs t h = h
+one_argument names c x In s (T.Channel Out k) (A.Channel n) ss hs t h = h
+one_argument names c x _ s _ _ ss hs t h = h
 
 all_arguments : (names : Scope) (c : ℕ) (x : List ℕ) (d : Direction) (i q : ℕ) (ps : List Parameter) (ys : List Argument) → IsNumbered names c x →
     picks (is_handed d c) i q (actuals_of names ps ys) ≡ ends d x (handed_in i q ps ys)
-all_arguments names c x d i q [] ys t = refl
-all_arguments names c x d i q (p ∷ ps) [] t = refl
 all_arguments names c x d i q (p ∷ ps) (y ∷ ys) t =
     one_argument names c x d (side_at i q) p.taking y (picks (is_handed d c) i (suc q) (actuals_of names ps ys)) (handed_in i (suc q) ps ys) t
     (all_arguments names c x d i (suc q) ps ys t)
+all_arguments names c x d i q _ _ t = refl
 
 one_instance : (t : Program) (names : Scope) (c : ℕ) (x : List ℕ) (d : Direction) (i : ℕ) (y : Instance) → IsNumbered names c x → IsMade t y →
     picks (is_handed d c) i 0 (instance_from names (process_of t.declarations.items (bytes_of y.process)) y.arguments.items).actuals ≡ ends d x (handed_by t i y)
@@ -120,21 +97,21 @@ sides_same t h c e at d =
 wired_at : (t : Program) → IsWellWired t → (c : ℕ) (e : Name × (Kind × Role)) → slice_get (declared_channels t.declarations.items) c ≡ Some e → IsWired t (e.0, (e.1.0, e.1.1))
 wired_at t h c e at = all_at (IsWired t) (declared_channels t.declarations.items) c e h.channels at
 
+one_side : (t : Program) → IsWellWired t → (c : ℕ) (e : Name × (Kind × Role)) → slice_get (declared_channels t.declarations.items) c ≡ Some e → (d : Direction) →
+    IsOnly (λ s. IsWithin (network_of t) s × (N.handed_at (network_of t) s ≡ hand d c)) (first (ends d (bytes_of e.0) (handed_from t 0 t.instances.items)))
+one_side t h c e at d =
+    let n = network_of t in
+    let es = ends d (bytes_of e.0) (handed_from t 0 t.instances.items) in
+    only_as (Passes (is_handed d c) n) (λ s. IsWithin n s × (N.handed_at n s ≡ hand d c)) (first es) (λ s p. (p.0, hands d c (N.handed_at n s) p.1))
+    (λ s p. (p.0, ap (is_handed d c) p.1 ∙ hands_back d c)) (only (is_handed d c) n es (sides_same t h c e at d) (Handed.served t e.0 e.1.0 e.1.1 d (wired_at t h c e at)).0)
+
 pub one_writer : (t : Program) → IsWellWired t → (c : ℕ) (e : Name × (Kind × Role)) → slice_get (declared_channels t.declarations.items) c ≡ Some e →
     IsOnly (IsWriter (network_of t) c) (first (writers t (bytes_of e.0)))
-one_writer t h c e at =
-    let n = network_of t in
-    let few = (Handed.served t e.0 e.1.0 e.1.1 Out (wired_at t h c e at)).0 in
-    only_as (Passes (is_handed Out c) n) (IsWriter n c) (first (writers t (bytes_of e.0))) (λ s p. (p.0, writes_to c (N.actual_at (N.instance_at n s.instance) s.parameter) p.1))
-    (λ s p. (p.0, writes_back c (N.actual_at (N.instance_at n s.instance) s.parameter) p.1)) (only (is_handed Out c) n (writers t (bytes_of e.0)) (sides_same t h c e at Out) few)
+one_writer t h c e at = one_side t h c e at Out
 
 pub one_reader : (t : Program) → IsWellWired t → (c : ℕ) (e : Name × (Kind × Role)) → slice_get (declared_channels t.declarations.items) c ≡ Some e →
     IsOnly (IsReader (network_of t) c) (first (readers t (bytes_of e.0)))
-one_reader t h c e at =
-    let n = network_of t in
-    let few = (Handed.served t e.0 e.1.0 e.1.1 In (wired_at t h c e at)).0 in
-    only_as (Passes (is_handed In c) n) (IsReader n c) (first (readers t (bytes_of e.0))) (λ s p. (p.0, reads_from c (N.actual_at (N.instance_at n s.instance) s.parameter) p.1))
-    (λ s p. (p.0, reads_back c (N.actual_at (N.instance_at n s.instance) s.parameter) p.1)) (only (is_handed In c) n (readers t (bytes_of e.0)) (sides_same t h c e at In) few)
+one_reader t h c e at = one_side t h c e at In
 
 -- ---- where a channel's values come from
 

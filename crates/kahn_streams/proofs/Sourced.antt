@@ -1,12 +1,8 @@
 -- Where the values of each channel come from that is handed to an instance of a well wired program.
-use Rattle.kahn_streams.proofs.Common.{arith, ◌≡◌, inl, inr, ℕ, zero, suc, ◌<◌, ◌≤◌, length, Option, Some, None, refl, sym, ap, ◌∙◌, subst, slice_get, pos, slice_get-get_or, get_or_past, Program, Role, Side, Inner, Input, Output, Number, Schema, Node, Actual, Reads, Writes, Hands, network_of, instance_at, actual_at, role_at, idle, Given, Written, first_writer, source_by, channel_source, IsWithin, IsWriter, IsReader, IsOnly, HasOne, IsServed, IsListed, IsFit, source_of, IsWellWired}
+use Rattle.kahn_streams.proofs.Common.{◌≡◌, inl, inr, ℕ, ◌<◌, length, Option, Some, None, refl, sym, ap, ◌∙◌, subst, slice_get, pos, slice_get-get_or, get_or_past, Program, Role, Side, Inner, Input, Output, Number, Schema, Actual, Reads, Writes, Hands, network_of, instance_at, actual_at, role_at, idle, Given, Written, first_writer, source_by, channel_source, IsWithin, IsWriter, IsReader, IsOnly, HasOne, IsServed, IsListed, IsFit, source_of, IsWellWired}
+use Rattle.std.proofs.Math.Nat.{lt_of_not-le}
 use Rattle.kahn_streams.specs.inner.Sources.{HasSender, IsFed}
 use Rattle.kahn_streams.proofs.{Fitted.instances_fit, By_number.all_at, Sided.one_writer, Sided.sourced, Sided.declared_there, Sided.channel_served}
-
-below : (q n : ℕ) → (n ≤ q → ⊥) → q < n
-below q zero h = absurd (h (omega arith))
-below zero (suc n) h = omega arith
-below (suc q) (suc n) h = let i : q < n = below q n (λ le. h (omega (arith, le))) in omega (arith, i)
 
 -- ---- what is handed to nobody is no channel
 
@@ -15,16 +11,12 @@ is_channel (Reads d) c = d ≡ c
 is_channel (Writes d) c = d ≡ c
 is_channel (Hands v) c = ⊥
 
-past_parameters : (i : Node) (q c : ℕ) → is_channel (actual_at i q) c → length i.actuals ≤ q → ⊥
-past_parameters i q c h le = subst (λ a. is_channel a c) (get_or_past i.actuals q (Hands (Number (pos 0))) le) h
-
-past_instances : (N : Schema) (p q c : ℕ) → is_channel (actual_at (instance_at N p) q) c → length N.instances ≤ p → ⊥
-past_instances N p q c h le = subst (λ i. is_channel (actual_at i q) c) (get_or_past N.instances p idle le) h
-
 -- a channel is handed over only by an instance that is there, at a parameter that is there
 pub handed_within : (N : Schema) (p q c : ℕ) → is_channel (actual_at (instance_at N p) q) c → IsWithin N (record { instance = p; parameter = q })
-handed_within N p q c h =
-    (below p (length N.instances) (past_instances N p q c h), below q (length (instance_at N p).actuals) (past_parameters (instance_at N p) q c h))
+handed_within N p q c h = (
+  lt_of_not-le (λ le. subst (λ i. is_channel (actual_at i q) c) (get_or_past N.instances p idle le) h),
+  lt_of_not-le (λ le. subst (λ a. is_channel a c) (get_or_past (instance_at N p).actuals q (Hands (Number (pos 0))) le) h),
+)
 
 listed_channel : (N : Schema) (a : Actual) (c : ℕ) → IsListed N a → is_channel a c → c < length N.channels
 listed_channel N (Reads d) c l h = subst (λ k. k < length N.channels) h l

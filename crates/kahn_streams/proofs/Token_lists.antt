@@ -1,14 +1,10 @@
 -- Lists of tokens.
-use Rattle.kahn_streams.proofs.Common.{◌≡◌, ℕ, suc, ◌+◌, List, [], ◌∷◌, ◌++◌, length, ◌∙◌, arith, add-zero, ∥∥₁_prop, is_prop→PathP, Line, Program, Token, Lists, Holds}
-use Rattle.kahn_streams.specs.Tokens.{IsOf, Follow, AllOf}
+use Rattle.kahn_streams.proofs.Common.{◌≡◌, ℕ, suc, ◌+◌, List, ◌∷◌, ◌++◌, length, ◌∙◌, arith, add-zero, ∥∥₁_prop, is_prop→PathP, Line, Program, Token, Lists, Holds, []}
+use Rattle.kahn_streams.specs.Tokens.{IsOf, Follow}
 
 pub follow_push : (line : Line) (from : ℕ) (ts : List Token) (t : Token) → Follow line from ts → t.line ≡ line → t.place ≡ from + length ts → Follow line from (ts ++ t ∷ [])
 follow_push line from [] t f l p = (l, p ∙ add-zero from, tt)
 follow_push line from (u ∷ ts) t f l p = (f.0, f.1, follow_push line (suc from) ts t f.2 l (omega (arith, p)))
-
-pub all_push : (net : Program) (inp : Lists) (ts : List Token) (t : Token) → AllOf net inp ts → IsOf net inp t → AllOf net inp (ts ++ t ∷ [])
-all_push net inp [] t a o = (o, tt)
-all_push net inp (u ∷ ts) t a o = (a.0, all_push net inp ts t a.1 o)
 
 -- what a token's type keeps, for the network and the input that it is of
 pub token_stands : (net : Program) (inp : Lists) (line : Line) (place : ℕ) (t : Token) → IsOf net inp t → t.line ≡ line → t.place ≡ place → Holds net inp line place t.value

@@ -19,8 +19,3 @@ IsOf network input t = (t.network.value ≡ network) × (t.input.value ≡ input
 abbrev pub Follow : Line → ℕ → List Token → Type 0
 Follow line from [] = Unit {0}
 Follow line from (t ∷ ts) = (t.line ≡ line) × (t.place ≡ from) × Follow line (suc from) ts
-
--- these are tokens of this network and this input
-abbrev pub AllOf : Program → Lists → List Token → Type 0
-AllOf network input [] = Unit {0}
-AllOf network input (t ∷ ts) = IsOf network input t × AllOf network input ts

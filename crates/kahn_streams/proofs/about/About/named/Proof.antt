@@ -1,5 +1,5 @@
 -- `named` makes a value of no bytes, whose ghost field is the value that its caller names.
-use mathlib.Core.List.{[], ◌∷◌}
+use mathlib.Core.List.{◌∷◌, []}
 use Rattle.std.proofs.Common.{refl}
 use Rattle.std.proofs.raw_atomic.Walks.{proved}
 use mir.Syntax.{Fn, a_type}

@@ -1,4 +1,4 @@
-use Rattle.kahn_streams.proofs.Common.{rules, ◌≡◌, ◌∙◌, sym, ap, subst, Some, Process, IsMadeOf, network_of, instance_at, instance_from, channel_names, the_process, process_at}
+use Rattle.kahn_streams.proofs.Common.{rules, ◌≡◌, ◌∙◌, sym, ap, subst, Some, Process, IsMadeOf, the_process, process_at}
 use Rattle.kahn_streams.specs.declared.tree.Declaration.TheVariants as D
 use Rattle.kahn_streams.proofs.{By_number.at_index, Kept_network.declared_number, Kept_network.instance_kept}
 use Rattle.kahn_streams.proofs.network.Network.instance.Goals as goal
