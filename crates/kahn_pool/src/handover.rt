@@ -54,13 +54,13 @@ pub(crate) fn hand_over<'n>(bench: Sequential<'n>, mut idles: Vec<Idle>) -> (Vac
 pub(crate) fn first_jobs<'n>(
     alloc: Global,
     network: &'n Network,
-    input: &'n Input,
+    input: &Input,
     watch: Option<usize>,
 ) -> Result<(Vacant<'n>, Vec<Idle>), NoMemory>
     ensures code { IfOk result (λ r. r.0.code ≡ network.now) }
     ensures held { IfOk result (λ r. (bound : ℕ) → AreHeld network.now input.now watch bound r.1.items bound) }
 {
-    let Ok(bench) = Sequential::new(alloc, network, input, Some(input), watch) else {
+    let Ok(bench) = Sequential::new(alloc, network, input, None, watch) else {
         return Err(NoMemory);
     };
     let idles = lanes(&bench, alloc, input)?;
