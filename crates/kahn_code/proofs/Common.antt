@@ -14,7 +14,7 @@ pub use Rattle.kahn_code.specs.declared.instruction.Test.{Test}
 pub use Rattle.kahn_code.specs.declared.listing.Listed.{Listed}
 pub use Rattle.kahn_code.specs.declared.progress.Pause.{Pause}
 pub use Rattle.kahn_code.specs.declared.progress.Progress.{Progress}
-pub use Rattle.kahn_code.specs.inner.Gone.{AllBegin, regrown, kept_behind, nothing_gone}
+pub use Rattle.kahn_code.specs.inner.Gone.{AllBegin, AreBehind, AreGivenFrom, regrown, spare_before, kept_behind, nothing_gone}
 pub use Rattle.kahn_code.specs.inner.Forms.{AreFormed, HasFormedCode, IsFormed, reach_in, hands_channel, test_reach, Aims, HasTurn, IsJoined, AreForms, AreInPlace, IsInPlace, before_none, instruction_of, instructions_of, meanings, HasRemainder, HasSum, HasTest, IsPlain, IsTurn, TellsRest, further}
 pub use Rattle.kahn_code.specs.inner.Tapped.{OnNoMemory, WantsSpare, spares_of, Tapped, regrown_tap, HasForgotten, IsEvent, OnForwarded, tapped_of}
 pub use Rattle.kahn_streams.proofs.By_number.{all_at, within}

@@ -1,10 +1,14 @@
 -- Plain queues that go on for a longer input.
 use Rattle.std.proofs.Common.{slice_get, slice_set}
-use Rattle.kahn_code.proofs.Common.{arith, ◌≡◌, ℕ, zero, suc, ◌+◌, ◌<◌, ◌≤◌, ◌==◌, Bool, true, false, List, [], ◌∷◌, ◌++◌, drop, length, map, refl, sym, ap, ◌∙◌, subst, eqb-true, eq-eqb, length-set, Option, option_map, Some, slice_index_or, if◌then◌else◌, slice_get-map, HasMore, drop-append_seam, ne_eqb, append-nil, length-map, length-append, same_Some, slice_get_read, Input, network_of, role_at, Lists, Value, inputs_of, AreInputsExtended, Waiting, Lines, AreQueued, HasPoured, IsPoured, IsQueue, taken_of, waiting_of, regrown}
+use Rattle.kahn_code.proofs.Common.{arith, ◌≡◌, ℕ, zero, suc, ◌+◌, ◌<◌, ◌≤◌, ◌==◌, Bool, true, false, List, [], ◌∷◌, ◌++◌, length, map, refl, sym, ap, ◌∙◌, subst, eqb-true, eq-eqb, length-set, Option, option_map, Some, slice_index_or, if◌then◌else◌, slice_get-map, HasMore, ne_eqb, append-nil, length-map, length-append, same_Some, slice_get_read, slice_get_within, ◌^◌, AreGivenFrom, Input, network_of, role_at, Lists, Value, inputs_of, AreInputsExtended, Waiting, Lines, AreQueued, HasPoured, IsPoured, IsQueue, taken_of, waiting_of, regrown}
 use Rattle.kahn_streams.proofs.Given_values.{no_channel}
 use Rattle.kahn_code.proofs.Queued.{queue_at, set_each, set_get, set_here, still_queued}
 
 -- ---- the list of a channel into which values are poured
+
+behind : {X : Type 0} (xs ys : List X) (k : ℕ) → slice_get (xs ++ ys) (length xs + k) ≡ slice_get ys k
+behind [] ys k = let e : 0 + k ≡ k = omega arith in ap (slice_get ys) e
+behind (x ∷ xs) ys k = let e : suc (length xs) + k ≡ suc (length xs + k) = omega arith in ap (slice_get (x ∷ (xs ++ ys))) e ∙ behind xs ys k
 
 module _ (before : Lists) (c : ℕ) (values : List Value) (after : Lists) (p : IsPoured before c values after) where
   pub poured_grown : AreInputsExtended (inputs_of before) (inputs_of after)
@@ -13,8 +17,9 @@ module _ (before : Lists) (c : ℕ) (values : List Value) (after : Lists) (p : I
   poured_list : inputs_of after c ≡ inputs_of before c ++ values
   poured_list = p c ∙ ap (λ b. inputs_of before c ++ (if b then values else [])) (eq-eqb c c refl)
 
-  pub poured_rest : (n : ℕ) → n ≡ length (inputs_of before c) → drop n (inputs_of after c) ≡ values
-  poured_rest n e = ap (drop n) poured_list ∙ ap (λ k. drop k (inputs_of before c ++ values)) e ∙ drop-append_seam (inputs_of before c) values
+  pub poured_at : (n k : ℕ) (v : Value) → n ≡ length (inputs_of before c) → slice_get values k ≡ Some v → slice_get (inputs_of after c) (n + k) ≡ Some v
+  poured_at n k v e at =
+      ap (λ l. slice_get l (n + k)) poured_list ∙ ap (λ m. slice_get (inputs_of before c ++ values) (m + k)) e ∙ behind (inputs_of before c) values k ∙ at
 
   pub poured_length : length (inputs_of after c) ≡ length (inputs_of before c) + length values
   poured_length = ap length poured_list ∙ length-append (inputs_of before c) values
@@ -89,14 +94,10 @@ module _ {s n : Lines} (is : s ≡ n) (h : AreQueued s) (c : ℕ) (input : role_
       pub then_room : length values ≤ w1.spare → length values ≤ w2.spare
       then_room l = rw is_then l
 
-      pub then_role : role_at (network_of w2.network) w2.channel ≡ Input
-      then_role = rw (is_then, own.network, own.channel) role
-
-      pub then_here : drop (w2.taken + w2.waiting) (inputs_of w2.input w2.channel) ≡ values
-      then_here = rw (is_then, own.channel) (poured_rest s.input c values after p (w1.taken + w1.waiting) (own.given role))
-
-      pub then_few : (k : ℕ) → length (inputs_of after c) < k → length (inputs_of w2.input w2.channel) < k
-      then_few k l = rw (is_then, own.channel) l
+      pub then_given : length (inputs_of after c) < 2 ^ 64 → AreGivenFrom w2.network w2.input w2.channel (w2.taken + w2.waiting) values
+      then_given few = rw (is_then, own.network, own.channel)
+          (λ k v at. let here = poured_at s.input c values after p (w1.taken + w1.waiting) k v (own.given role) at in
+          (role, here, omega (arith, slice_get_within (inputs_of after c) (w1.taken + w1.waiting + k) v here, few)))
 
       module _ (w3 : Waiting) (more3 : HasMore (length values) w2 w3) {lists : Lists} (named : lists ≡ after) where
         abbrev poured : Lines

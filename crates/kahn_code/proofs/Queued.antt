@@ -31,10 +31,10 @@ queued t lists i queues wired first = record {
 }
 
 -- nothing was taken, and nothing given but on input channels
-first_none : (r : Role) (vs : List Value) → is_output r ≡ false → (r ≡ Input → ⊥) → at_first r vs ≡ 0
-first_none Inner vs e n = refl
-first_none Input vs e n = absurd (n refl)
-first_none Output vs e n = let h : true ≡ false = e in absurd cc
+pub first_none : (r : Role) (vs : List Value) → (r ≡ Input → ⊥) → at_first r vs ≡ 0
+first_none Inner vs n = refl
+first_none Input vs n = absurd (n refl)
+first_none Output vs n = refl
 
 module _ (t : Program) (lists : Lists) (queues : List Waiting) (first : AreFirst t lists queues) where
   pub taken_zero : (d : ℕ) (o : Option Waiting) → slice_get queues d ≡ o → taken_of o ≡ 0
@@ -47,7 +47,7 @@ module _ (t : Program) (lists : Lists) (queues : List Waiting) (first : AreFirst
   given_zero d (Some w) inner n e =
       let f = first.each d w e in
       let a = f.taken in
-      let b = f.waiting ∙ first_none (role_at (network_of t) d) (inputs_of lists d) inner n in
+      let b = f.waiting ∙ first_none (role_at (network_of t) d) (inputs_of lists d) n in
       omega (arith, a, b)
 
 -- ---- one place of a list is set
@@ -145,8 +145,8 @@ module _ (s : Lines) (h : AreQueued s) (c : ℕ) (w w' : Waiting) (inside : c < 
   rooms_stay more q = room_set s.queues c w w' (actual_here s q) queue_at (λ e. more)
 
 -- a take leaves the room that there was
-room_taken : (w w' : Waiting) (o : Option Token) → IfSome o (λ _. w'.spare ≡ w.spare + 1) → IfNone o ((w' ≡ w) × (w.waiting ≡ 0)) → 0 < w.spare → 0 < w'.spare
-room_taken w w' (Some t) more none lt = omega (arith, more)
+room_taken : (w w' : Waiting) (o : Option Token) → IfSome o (λ _. 0 < w.spare → w'.spare ≡ w.spare + 1) → IfNone o ((w' ≡ w) × (w.waiting ≡ 0)) → 0 < w.spare → 0 < w'.spare
+room_taken w w' (Some t) more none lt = omega (arith, more lt)
 room_taken w w' None more none lt = subst (λ (x : Waiting). 0 < x.spare) (sym none.0) lt
 
 -- what a take leaves
@@ -222,7 +222,7 @@ module _ {s n : Lines} (is : s ≡ n) (h : AreQueued s) (q c : ℕ) (reads : act
           keeps = rw (← is) (λ r d other read. more_stay s h c w w' read_inside value (let e = kept.1 in omega (arith, e)) r);
         }
 
-    pub took_rooms : (w' : Waiting) (o : Option Token) → IfSome o (λ _. w'.spare ≡ w.spare + 1) → IfNone o ((w' ≡ w) × (w.waiting ≡ 0)) → StaySo (roomy_at n) (roomy_at (changed s c w'))
+    pub took_rooms : (w' : Waiting) (o : Option Token) → IfSome o (λ _. 0 < w.spare → w'.spare ≡ w.spare + 1) → IfNone o ((w' ≡ w) × (w.waiting ≡ 0)) → StaySo (roomy_at n) (roomy_at (changed s c w'))
     took_rooms w' o more none = rw (← is) (rooms_stay s h c w w' read_inside value (room_taken w w' o more none))
 
 -- of which it writes channel c
@@ -236,6 +236,11 @@ module _ {s n : Lines} (is : s ≡ n) (h : AreQueued s) (q c : ℕ) (writes_it :
   -- no other end writes it
   write_once : (p r : ℕ) → (p ≡ s.instance → r ≡ q → ⊥) → actual_at (instance_at (network_of s.network) p) r ≡ Writes c → ⊥
   write_once p r other e = let o = writes_once s.network h.wired p r s.instance q c e write_here in other o.0 o.1
+
+  pub written_by : {w : Waiting} → w ≡ slice_index_or s.queues c w → role_at (network_of w.network) w.channel ≡ Input → ⊥
+  written_by {w} value =
+      let mine = own s h c w w write_inside value in
+      rw (mine.network, mine.channel) (writes s.network h.wired s.instance q c write_here).1
 
   module _ {w : Waiting} (value : w ≡ slice_index_or s.queues c w) (w' : Waiting) where
     -- where room was made

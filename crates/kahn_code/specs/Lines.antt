@@ -2,18 +2,16 @@
 use Rattle.std.specs.Prelude.{◌≡◌, ℕ, ◌+◌, ◌==◌, List, [], ◌++◌, length, Option, Some, None, slice_get, if◌then◌else◌}
 use Rattle.kahn_code.specs.Common.{Program, Lists, Role, Value, Actual, Reads, Writes, Hands, network_of, instance_at, actual_at, role_at, IsWellWired, Inner, Input, Output, inputs_of}
 
--- of which network, input and channel its tokens are; how many were taken; how many wait; for how many more there is room
+-- of which network, input and channel its tokens are; how many were taken; how many wait, and how many of these are still read where the
+-- input has them; for how many more there is room
 pub record Waiting : Type 0 where
   pub network : Program
   pub input : Lists
   pub channel : ℕ
   pub taken : ℕ
   pub waiting : ℕ
+  pub lent : ℕ
   pub spare : ℕ
-
--- so many of its tokens were taken, so many wait, and for so many more there is room
-abbrev pub waiting_in : Program → Lists → ℕ → ℕ → ℕ → ℕ → Waiting
-waiting_in network input channel taken waiting spare = record { network = network; input = input; channel = channel; taken = taken; waiting = waiting; spare = spare }
 
 -- the same queue, in which so many tokens more wait
 abbrev pub HasMore : ℕ → Waiting → Waiting → Type 0

@@ -1,6 +1,6 @@
 //! Every channel of a network in a plain queue, for a run on one thread.
 
-ghost use Rattle.std.specs.Prelude.{◌≡◌, ◌<◌, ◌+◌, ◌^◌, IfOk, MatchResult, length, slice_get};
+ghost use Rattle.std.specs.Prelude.{◌≡◌, ◌<◌, ◌+◌, ◌^◌, IfOk, IfSome, MatchResult, length, slice_get};
 ghost use Rattle.kahn_code.specs.Common.{Channel, Input as InputRole, IsOf, network_of, role_at, IsWellWired, Lists, inputs_of, Names, action_row, form_row, codes};
 ghost use Rattle.kahn_code.specs.Lines.{AreFirst, AreQueued, HasPoured, IsPoured, Lines, actual_here, next_at, place_at, queue_of, spare_of, taken_of, waiting_of};
 
@@ -13,14 +13,14 @@ use std::marker::Model;
 
 /// The plain queues of all channels. They are the ports of one instance at a time.
 #[derive(Drop)]
-pub struct Plain<A: Allocator> {
+pub struct Plain<'i, A: Allocator> {
     network: About<Network>,
     input: About<Input>,
     instance: usize,
-    queues: Vec<Queue<A>, A>,
+    queues: Vec<Queue<'i, A>, A>,
 }
 
-impl<A: Allocator> Model for Plain<A> {
+impl<'i, A: Allocator> Model for Plain<'i, A> {
     ghost Value = { Lines };
 
     ghost coded = { Prim.hlevel (codes, action_row.coded, form_row.coded) };
@@ -30,25 +30,31 @@ impl<A: Allocator> Model for Plain<A> {
     ghost invariant = { λ s. AreQueued (record { network = s.network.value; input = s.input.value; instance = s.instance; queues = s.queues.items }) };
 }
 
-impl<A: Allocator + Copy + Drop> Plain<A> {
-    /// The queues of a network before anything was taken or put: each input channel has its whole list. Fails only if
-    /// memory was refused.
-    pub fn new(alloc: A, network: &Network, input: &Input) -> Result<Plain<A>, CodeFault>
+impl<'i, A: Allocator + Copy + Drop> Plain<'i, A> {
+    /// The queues of a network before anything was taken or put: each input channel has its whole list, which is read where an input that
+    /// is lent has it. Fails only if memory was refused.
+    pub fn new(
+        alloc: A,
+        network: &Network,
+        input: &Input,
+        lent: Option<&'i Input>,
+    ) -> Result<Plain<'i, A>, CodeFault>
+        requires { IfSome lent (λ i. i.now ≡ input.now) }
         ensures names { IfOk result (λ p. (p.network ≡ network.now) × (p.input ≡ input.now)) }
         ensures first { IfOk result (λ p. AreFirst network.now input.now p.queues) }
     {
-        let queues = first_queues(alloc, network, input)?;
+        let queues = first_queues(alloc, network, input, lent)?;
         let _program = network.program();
         Ok(Plain::named(queues, network, input))
     }
 
     // The plain queues of the network and the input that are named.
     #[tactic(auto, using(crate::proofs::Queued::queued))]
-    fn named(queues: Vec<Queue<A>, A>, _network: &Network, _input: &Input) -> Plain<A>
+    fn named(queues: Vec<Queue<'i, A>, A>, _network: &Network, _input: &Input) -> Plain<'i, A>
         ghost names: { Names }
         requires queues { AreFirst names.network names.input queues.items }
         requires wired { IsWellWired names.network }
-        ensures { (result.network ≡ names.network) × (result.input ≡ names.input) × (result.queues ≡ queues.items) }
+        ensures { (result.network ≡ names.network) × (result.input ≡ names.input) × (result.queues ≡ queues.entry.items) }
     {
         Plain {
             network: About::named(),
@@ -59,7 +65,7 @@ impl<A: Allocator + Copy + Drop> Plain<A> {
     }
 }
 
-impl<A: Allocator> Plain<A> {
+impl<'i, A: Allocator> Plain<'i, A> {
     /// Makes them the ports of this instance.
     pub fn at(&mut self, instance: usize)
         ensures { self.new ≡ record self.old { instance = instance } }
@@ -117,7 +123,7 @@ impl<A: Allocator> Plain<A> {
     }
 }
 
-impl<A: Allocator> Ports for Plain<A> {
+impl<'i, A: Allocator> Ports for Plain<'i, A> {
     ghost site = { λ s. record { network = s.network; input = s.input; instance = s.instance } };
 
     ghost next = { λ s q. next_at s.queues (actual_here s q) };

@@ -20,7 +20,7 @@ pub(crate) struct Bench<'n> {
     watch: Option<usize>,
     code: Code,
     cells: Vec<Cell>,
-    queues: Plain<Global>,
+    queues: Plain<'n, Global>,
 }
 
 impl<'n> Model for Bench<'n> {
@@ -71,7 +71,7 @@ impl<'n> Bench<'n> {
     {
         let code = compile(alloc, network)?;
         let cells = named_cells(alloc, network, &code, input, watch)?;
-        let queues = Plain::new(alloc, network, input)?;
+        let queues = Plain::new(alloc, network, input, None)?;
         queues.counted();
         let _program = network.program();
         Ok(Bench::named(network, input, watch, code, cells, queues))
@@ -84,11 +84,11 @@ impl<'n> Bench<'n> {
         watch: Option<usize>,
         code: Code,
         cells: Vec<Cell>,
-        queues: Plain<Global>,
+        queues: Plain<'n, Global>,
     ) -> Bench<'n>
         ghost input: { Lists }
         requires { HaveSeats (seats_of network.now input watch code.network.value cells.items queues) }
-        ensures { result ≡ seats_of network.now input watch code.network.value cells.items queues }
+        ensures { result ≡ seats_of network.now input watch code.network.value cells.items queues.entry }
     {
         Bench {
             network,

@@ -60,7 +60,7 @@ pub(crate) fn first_jobs<'n>(
     ensures code { IfOk result (λ r. r.0.code ≡ network.now) }
     ensures held { IfOk result (λ r. (bound : ℕ) → AreHeld network.now input.now watch bound r.1.items bound) }
 {
-    let Ok(bench) = Sequential::new(alloc, network, input, watch) else {
+    let Ok(bench) = Sequential::new(alloc, network, input, None, watch) else {
         return Err(NoMemory);
     };
     let idles = lanes(&bench, alloc, input)?;

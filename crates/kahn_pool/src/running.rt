@@ -72,7 +72,7 @@ fn run_open<R: Threads + Wait + Sync, G: Gate + Sync>(
     let Ok(ends) = Vec::with_capacity(alloc, network.instances()) else {
         return Err(RunFault::NoMemory);
     };
-    let mut bench = Sequential::new(alloc, network, input, most.watch)?;
+    let mut bench = Sequential::new(alloc, network, input, Some(input), most.watch)?;
     let (streams, kept) = room_for_answer(alloc, network, input, most.watch)?;
     let blank = Blank::new(1);
     let run = run_until_wide::<G, Brand>(blank, &mut bench, gate, true, ends, plan);

@@ -1,6 +1,6 @@
 -- The names of the crates below and of this crate's definitions that proofs cite, passed on from one place.
 pub use Rattle.kahn_code.proofs.Lists.{at_last, one_first, own_of, sent_stands, stand_in, kept_grown}
-pub use Rattle.kahn_code.proofs.Poured.{poured_grown, poured_length, poured_rest}
+pub use Rattle.kahn_code.proofs.Poured.{poured_at, poured_grown, poured_length}
 pub use Rattle.kahn_code.proofs.Queued.{given_zero, set_each, set_here, taken_zero}
 pub use Rattle.kahn_code.proofs.Readers.{driven, joins_within}
 pub use Rattle.kahn_code.specs.Cells.{AllStand, AreKeptTokens, StoodBy, View, exec_on, is_streamed, sent_on}

@@ -33,16 +33,6 @@ is_poured c values ls d = by (c == d) refl
     by true f = subst (λ k. inputs_of (poured_lists c values ls) k ≡ inputs_of ls k ++ values) (eqb-true c d f) (here c values ls)
     by false f = other c d values ls (λ e. true≢false (sym (eq-eqb c d e) ∙ f)) ∙ sym (append-nil (inputs_of ls d))
 
--- the values that begin those from a place on stand from there on
-pub from_there : (xs : List Value) (n : ℕ) (vs : List Value) → drop n xs ≡ vs → (k : ℕ) (v : Value) → slice_get vs k ≡ Some v → slice_get xs (n + k) ≡ Some v
-from_there xs n vs e k v f = along xs n (n + k) refl ∙ ap (λ l. slice_get l k) e ∙ f
-  where
-    along : (xs : List Value) (n m : ℕ) → m ≡ n + k → slice_get xs m ≡ slice_get (drop n xs) k
-    along xs zero m e = let s : m ≡ k = omega (arith, e) in ap (slice_get xs) s
-    along [] (suc n) m e = refl
-    along (x ∷ xs) (suc n) zero e = absurd (omega (arith, e))
-    along (x ∷ xs) (suc n) (suc m) e = along xs n m (omega (arith, e))
-
 -- ---- what waits
 
 pub waits_at : (qs : List Waiting) (c : ℕ) → slice_index_or (map (λ w. w.waiting) qs) c 0 ≡ waiting_of (slice_get qs c)

@@ -30,7 +30,7 @@ pub struct Sequential<'n> {
     watch: Option<usize>,
     code: Code,
     taps: Vec<Tap>,
-    queues: Plain<Global>,
+    queues: Plain<'n, Global>,
     awake: Awake,
     looks: Looks,
 }
@@ -51,20 +51,22 @@ impl<'n> Model for Sequential<'n> {
 }
 
 impl<'n> Sequential<'n> {
-    /// All processes at their openings. Fails only if memory was refused.
+    /// All processes at their openings. The values of an input that is lent are read where it has them. Fails only if memory was refused.
     pub fn new(
         alloc: Global,
         network: &'n Network,
         input: &Input,
+        lent: Option<&'n Input>,
         watch: Option<usize>,
     ) -> Result<Sequential<'n>, CodeFault>
+        requires { IfSome lent (λ i. i.now ≡ input.now) }
         ensures names { IfOk result (λ b. (b.network ≡ network.now) × (b.input ≡ input.now) × (b.watch ≡ watch)) }
         ensures fresh { IfOk result (λ b. all_events (sight_of b) ≡ 0) }
         ensures whole { IfOk result (λ b. AreWhole (length (network_of network.now).instances) b.gone) }
     {
         let code = compile(alloc, network)?;
         let taps = named_taps(alloc, network, &code, input, watch)?;
-        let queues = Plain::new(alloc, network, input)?;
+        let queues = Plain::new(alloc, network, input, lent)?;
         let awake = Awake::new(alloc, network)?;
         let looks = Looks::new(alloc, network, &code)?;
         let _program = network.program();
@@ -78,13 +80,13 @@ impl<'n> Sequential<'n> {
         watch: Option<usize>,
         code: Code,
         taps: Vec<Tap>,
-        queues: Plain<Global>,
+        queues: Plain<'n, Global>,
         awake: Awake,
         looks: Looks,
     ) -> Sequential<'n>
         ghost input: { Lists }
         requires { IsLaid (table_of network.now input watch code.network.value taps.items queues) }
-        ensures { result ≡ table_of network.now input watch code.network.value taps.items queues }
+        ensures { result ≡ table_of network.now input watch code.network.value taps.items queues.entry }
     {
         Sequential {
             network,
@@ -313,7 +315,7 @@ impl<'n> Sequential<'n> {
     }
 
     /// Its queues.
-    pub fn queues(&self) -> &Plain<Global>
+    pub fn queues(&self) -> &Plain<'n, Global>
         ensures { result.now ≡ self.now.queues }
     {
         &self.queues
@@ -450,7 +452,7 @@ pub struct Vacant<'n> {
     input: About<Input>,
     watch: Option<usize>,
     code: Code,
-    queues: Plain<Global>,
+    queues: Plain<'n, Global>,
     awake: Awake,
     looks: Looks,
 }

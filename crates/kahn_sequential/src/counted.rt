@@ -113,7 +113,7 @@ fn run_counting(
 {
     let ends = Vec::with_capacity(alloc, network.instances())?;
     let room = Vec::with_capacity(alloc, network.channels())?;
-    let mut bench = Sequential::new(alloc, network, input, plan.watch)?;
+    let mut bench = Sequential::new(alloc, network, input, Some(input), plan.watch)?;
     let (streams, kept) = room_for_answer(alloc, network, input, plan.watch)?;
     let blank = Blank::new(1);
     let part = run_part_alone::<Open, Brand>(blank, &mut bench, &Open, ends, plan);

@@ -150,7 +150,7 @@ impl<'n> Flow<'n> {
         let numbers = numbers_of(alloc, network, &lines)?;
         let mut given = Vec::new(alloc);
         give_watched(network, &input, plan.watch, &mut given)?;
-        let bench = Sequential::new(alloc, network, &input, plan.watch)?;
+        let bench = Sequential::new(alloc, network, &input, None, plan.watch)?;
         Ok(Flow {
             alloc,
             network,

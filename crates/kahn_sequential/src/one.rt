@@ -54,7 +54,7 @@ pub fn run_watched<G: Gate>(
     ensures { IfOk result (IsRightAlone network.now input.now plan.watch plan.bound) }
 {
     let ends = Vec::with_capacity(alloc, network.instances())?;
-    let mut bench = Sequential::new(alloc, network, input, plan.watch)?;
+    let mut bench = Sequential::new(alloc, network, input, Some(input), plan.watch)?;
     let (streams, kept) = room_for_answer(alloc, network, input, plan.watch)?;
     let blank = Blank::new(1);
     let part = run_part_alone::<G, Brand>(blank, &mut bench, gate, ends, plan);

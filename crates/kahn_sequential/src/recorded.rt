@@ -294,7 +294,7 @@ fn run_kept(
     let ends = Vec::with_capacity(alloc, network.instances())?;
     let room = Vec::with_capacity(alloc, network.channels())?;
     let mut channels = channel_streams(alloc, network, input)?;
-    let mut bench = Sequential::new(alloc, network, input, plan.watch)?;
+    let mut bench = Sequential::new(alloc, network, input, Some(input), plan.watch)?;
     let (streams, kept) = room_for_answer(alloc, network, input, plan.watch)?;
     bench.stood();
     let blank = Blank::new(1);

@@ -167,8 +167,8 @@ impl Input {
         self.list(channel).len()
     }
 
-    // The list of a channel.
-    fn list(&self, channel: usize) -> &[Value]
+    /// The list of a channel. Never allocates.
+    pub fn list(&self, channel: usize) -> &[Value]
         ensures list { result.now ≡ inputs_of self.now channel }
         ensures few { length result.now ≤ most_values }
     {

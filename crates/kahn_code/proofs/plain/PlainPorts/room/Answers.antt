@@ -1,9 +1,12 @@
 use Rattle.kahn_code.proofs.Common.{arith, sym, subst, ◌<◌, on_ok_weaker, on_err_weaker}
-use Rattle.kahn_code.proofs.Queued.{write_inside, room_queued, room_stays, room_leaves, room_keeps, room_there, room_here, room_gone, room_rooms}
+use Rattle.kahn_code.proofs.Queued.{write_inside, room_queued, room_stays, room_leaves, room_keeps, room_there, room_here, room_gone, room_rooms, written_by}
 use Rattle.kahn_code.proofs.plain.PlainPorts.room.Goals as goal
 
 pub index_mut-requires : goal.index_mut-requires
 index_mut-requires g c = let inside = write_inside c.self.view_is c.self.invariant c.args._parameter c.args.channel c.requires.0 in omega (arith, inside, c.self.inside.queues.ok.0)
+
+pub room-requires : goal.room-requires
+room-requires g c = written_by c.self.view_is c.self.invariant c.args._parameter c.args.channel c.requires.0 c.index_mut.ensures.value
 
 pub invariant_of-self : goal.invariant_of-self
 invariant_of-self g c = room_queued c.self.view_is c.self.invariant c.args._parameter c.args.channel c.requires.0 c.index_mut.ensures.value _ c.room.ensures.more

@@ -1,5 +1,5 @@
-use Rattle.kahn_sequential.proofs.Common.{arith, ◌≡◌, ◌+◌, ◌++◌, Bool, true, false, List, [], drop, length, map, slice_get, None, Some, refl, sym, ap, ◌∙◌, subst, err_from_is_err_and, Input, network_of, role_at, Entry, Token, token_value, channel_of, Table, inputs_of, IsMeant, is_watched, meant_input, poured_length, poured_rest, Flowing, HasPouredIn, flow_of}
-use Rattle.kahn_sequential.proofs.{Flowed.flow_stays, Noted.noted_poured, Noted.spent_poured, Poured_in.from_there, Poured_in.is_poured, Poured_in.poured_flow, Poured_in.poured_lent, Poured_in.poured_lists, Poured_in.refused_same}
+use Rattle.kahn_sequential.proofs.Common.{arith, ◌≡◌, ◌+◌, ◌++◌, Bool, true, false, List, [], length, map, slice_get, None, Some, refl, sym, ap, ◌∙◌, subst, err_from_is_err_and, Input, network_of, role_at, Entry, Token, token_value, channel_of, Table, inputs_of, IsMeant, is_watched, meant_input, poured_at, poured_length, Flowing, HasPouredIn, flow_of}
+use Rattle.kahn_sequential.proofs.{Flowed.flow_stays, Noted.noted_poured, Noted.spent_poured, Poured_in.is_poured, Poured_in.poured_flow, Poured_in.poured_lent, Poured_in.poured_lists, Poured_in.refused_same}
 use Rattle.kahn_sequential.proofs.flow.Flow.feed.Goals as goal
 
 pub pour-poured-requires : goal.pour-poured-requires
@@ -33,10 +33,9 @@ lend-requires-clause-here c k v f = by (is_watched c.self.inside.plan.watch c.in
         let b = c.self.inside.bench in
         let number = c.in_ok-number.number in
         let vs = c.args.values.now in
-        let behind =
-        ap (λ (x : Table). drop c.in-Some.place (inputs_of x.input number)) c.in_ok-poured.ensures.poured.rest
-        ∙ poured_rest b.input number vs (poured_lists number vs b.input) (is_poured number vs b.input) c.in-Some.place c.in-Some.ensures.2 in
-        from_there (inputs_of c.pour-poured.new.self.input number) c.in-Some.place vs behind k v (subst (λ l. slice_get l k ≡ Some v) (c.lent_of-lent.ensures.all e) f)
+        ap (λ (x : Table). slice_get (inputs_of x.input number) (c.in-Some.place + k)) c.in_ok-poured.ensures.poured.rest
+        ∙ poured_at b.input number vs (poured_lists number vs b.input) (is_poured number vs b.input) c.in-Some.place k v c.in-Some.ensures.2
+        (subst (λ l. slice_get l k ≡ Some v) (c.lent_of-lent.ensures.all e) f)
     by false e = let g : slice_get [] k ≡ Some v = subst (λ l. slice_get l k ≡ Some v) (c.lent_of-lent.ensures.none e) f in absurd cc
 
 pub invariant_of-self-2 : goal.invariant_of-self-2

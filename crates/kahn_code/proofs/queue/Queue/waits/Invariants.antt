@@ -1,0 +1,4 @@
+use Rattle.kahn_code.proofs.queue.Queue.waits.Given as goal
+
+abbrev pub ghost-named_token : goal.ghost-named_token
+ghost-named_token g a = record { network = a._network.now.value; input = a._input.now.value }
