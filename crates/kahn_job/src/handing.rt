@@ -12,6 +12,7 @@ use kahn_streams::{Input, Network, NoMemory, Role, Side};
 use std::alloc::Global;
 
 /// Gives a parameter another end, and returns the one it had.
+#[tactic(auto, using(crate::proofs::Idles::cells_exchanged, crate::proofs::Idles::row_at, crate::proofs::Idles::rows_exchanged))]
 pub(crate) fn exchange(idles: &mut Vec<Idle>, side: Side, port: TaskPort) -> TaskPort
     requires { HasPlace (rows_of idles.old.items) side }
     ensures port { result ≡ end_of_side (rows_of idles.old.items) side }
@@ -22,6 +23,7 @@ pub(crate) fn exchange(idles: &mut Vec<Idle>, side: Side, port: TaskPort) -> Tas
 }
 
 /// Gives two parameters other ends, and returns those they had.
+#[tactic(auto, using(crate::proofs::Exchanged::else_at))]
 pub(crate) fn exchange_two(
     idles: &mut Vec<Idle>,
     writer: Side,
@@ -110,6 +112,7 @@ pub(crate) fn ends_at(
 }
 
 /// Gives the jobs the cells of these taps, which are of the same instances and have let go of nothing. Never allocates.
+#[tactic(auto, using(crate::proofs::Seated::cells_more, crate::proofs::Seated::place, crate::proofs::Seated::rows_stay, crate::proofs::Seated::same_more))]
 pub fn seat(idles: &mut Vec<Idle>, taps: Vec<Tap>)
     requires count { length taps.items ≡ length idles.old.items }
     requires places { AreSamePlaces (cells_of idles.old.items) (tolds_of taps.items) }

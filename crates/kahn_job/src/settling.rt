@@ -10,6 +10,7 @@ use crate::port::TaskPort;
 use kahn_streams::{Input, Network, NoMemory, Side};
 
 // Moves the lane between two parameters on to the input.
+#[tactic(auto, using(crate::proofs::Exchanged::exchanged))]
 fn settle_lane(
     idles: &mut Vec<Idle>,
     writer: Side,
@@ -47,6 +48,7 @@ fn settle_feed(idles: &mut Vec<Idle>, reader: Side, input: &Input)
 }
 
 // Moves the ends of a channel on to the input. If memory is refused, they stay as they are.
+#[tactic(auto, using(crate::proofs::Settles::can_feed, crate::proofs::Settles::can_settle, crate::proofs::Settles::feed_settled, crate::proofs::Settles::lane_or, crate::proofs::Settles::output_settled))]
 fn settle_channel(
     network: &Network,
     input: &Input,
@@ -73,6 +75,7 @@ fn settle_channel(
 
 /// Moves the ends of all channels on to an input whose lists begin with those of theirs. Each stays at its place, and all
 /// that was put is flushed. If memory is refused, those that moved already look the same to every call.
+#[tactic(auto, using(crate::proofs::Idles::all_settled, crate::proofs::Settles::going_first, crate::proofs::Settles::alike_stayed, crate::proofs::Settles::going_on, crate::proofs::Settles::rests_met, crate::proofs::Settles::stood_still, crate::proofs::Settles::stood_then))]
 pub fn settle(network: &Network, input: &Input, idles: &mut Vec<Idle>) -> Result<(), NoMemory>
     requires { AreResting network.now input.now (rows_of idles.old.items) }
     ensures settled { OnOk result (HaveSettled network.now input.now (rows_of idles.new.items)) }
@@ -123,6 +126,7 @@ fn meet_on(network: &Network, idles: &mut Vec<Idle>, channel: usize)
 
 /// Lets the two ends of each channel meet, which shows that no reader took more than was flushed. The jobs stay as they are,
 /// but for what their ends know. Never allocates.
+#[tactic(auto, using(crate::proofs::Idles::met_self, crate::proofs::Idles::met_then, crate::proofs::Settles::behind_before, crate::proofs::Settles::below_or, crate::proofs::Settles::rests_met))]
 pub fn meet(network: &Network, mut idles: Vec<Idle>) -> Vec<Idle>
     requires { (lists : Lists) × AreResting network.now lists (rows_of idles.items) }
     ensures met { HaveMet idles.items result.items }

@@ -81,6 +81,7 @@ impl Task {
     /// Runs for at most `quantum` events, on the network and the input of its process. What it sent may stand in open segments
     /// until `flush`. With a quantum of 0 it only says what comes next, and never allocates. A task whose process has ended
     /// or faulted says so again.
+    #[tactic(auto, using(crate::proofs::Berthed::advanced, crate::proofs::Trues::ran, crate::proofs::Trues::same_cell, crate::proofs::Trues::same_width, crate::proofs::Trues::true_after))]
     pub fn run<L: Ledger>(
         &mut self,
         code: &Code,

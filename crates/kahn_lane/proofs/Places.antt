@@ -1,6 +1,5 @@
 -- Tokens at consecutive places, and what they are of.
-use Rattle.kahn_lane.proofs.Common.{[], ◌≡◌, ◌<◌, ℕ, zero, suc, ◌+◌, ◌-◌, List, ◌∷◌, ◌++◌, length, slice_index_or, Option, Some, None, arith, ap, sym, ◌∙◌, subst, Token, LaneName, Segment, tokens_of, Named, StandFrom, token_name, moved_to}
-use Rattle.kahn_streams.specs.{Inputs.Lists}
+use Rattle.kahn_lane.proofs.Common.{[], ◌≡◌, ◌<◌, ℕ, zero, suc, ◌+◌, ◌-◌, List, ◌∷◌, ◌++◌, length, slice_index_or, Option, Some, arith, ap, sym, ◌∙◌, subst, Token, LaneName, Segment, tokens_of, Named, StandFrom, token_name}
 
 pub placed_more : (c : Named) (n : ℕ) (xs : List Token) (x t : Token) → StandFrom c n xs → x ≡ t → c ≡ Some (token_name t) → t.place ≡ n + length xs → StandFrom c n (xs ++ x ∷ [])
 placed_more c n [] x t h is on at = ((on ∙ ap (λ u. Some (token_name u)) (sym is), omega (arith, at, ap (λ (u : Token). u.place) is)), tt)
@@ -13,16 +12,8 @@ placed_at c n (y ∷ ys) zero x h lt is =
 placed_at c n (y ∷ ys) (suc k) x h lt is =
     let rest = placed_at c (n + 1) ys k x h.1 (omega (arith, lt)) is in (rest.0, omega (arith, rest.1))
 
-abbrev name_or : LaneName → Named → LaneName
-name_or n None = n
-name_or n (Some m) = m
-
--- a token that was lifted to an input has the name that it had, for this input
-pub token_name-moved : (input : Lists) (t u : Token) → u.line ≡ t.line → u.network.value ≡ t.network.value → u.input.value ≡ input → moved_to input (token_name t) ≡ token_name u
-token_name-moved input t u line network is = λ i. record { network = sym network i; input = sym is i; line = sym line i }
-
 pub same_name : (a b : LaneName) → Some a ≡ Some b → a ≡ b
-same_name a b e = ap (name_or a) e
+same_name a b e = cc
 
 module _ {A : Type 0} where
   abbrev with_alone : Segment A → Option Token → Segment A

@@ -18,6 +18,7 @@ use std::sync::ledger;
 use std::sync::ledger::Ledger;
 
 /// Makes a relay. Its two ends may go to different threads. Nothing was given or taken yet.
+#[tactic(auto, using(crate::proofs::RelayMoves::begins, crate::proofs::RelayMoves::forks))]
 pub fn relay<T: Drop, A: Allocator + Clone + Drop>(
     alloc: A,
 ) -> Result<(Giver<T, A>, Taker<T, A>), LaneFault>
@@ -65,6 +66,7 @@ impl<T, A: Allocator> Taker<T, A> {
     }
 
     // Tries so often to take the next item.
+    #[tactic(auto, using(crate::proofs::RelayMoves::gets, crate::proofs::RelayMoves::finds))]
     fn steal_next<L: Ledger>(&mut self, tries: &mut Steps<L>) -> Option<T>
         ensures same { (taker_relay self.new ≡ taker_relay self.old) × (known_given self.new ≡ known_given self.old) }
         ensures rule { MatchOption result ((got self.new ≡ got self.old) × WasEmpty self.old self.new) (λ x. got self.new ≡ got self.old ++ x ∷ []) }
@@ -83,6 +85,7 @@ impl<T, A: Allocator> Taker<T, A> {
 
     /// Returns, with both ends in one thread, how many items were given and not taken. What was taken is a prefix of
     /// what was given. Never allocates.
+    #[tactic(auto, using(crate::proofs::RelayMoves::forks_blank, crate::proofs::RelayMoves::merges, crate::proofs::RelayMoves::totals, crate::proofs::RelayMoves::forks, crate::proofs::RelayMoves::merges_blank))]
     pub fn meet(&mut self, giver: &mut Giver<T, A>) -> u64
         requires { giver_relay giver.old ≡ taker_relay self.old }
         ensures same { SameRelay giver.old giver.new self.old self.new }

@@ -26,6 +26,7 @@ use std::sync::ledger::{Blank, Ledger};
 const SEGMENT: usize = 64;
 
 // The deque of a new lane that begins at the tag's place, with its name known to both ends.
+#[tactic(auto, using(crate::proofs::LaneMoves::tells, crate::proofs::LaneMoves::starts))]
 fn opened<A: Allocator + Clone + Drop>(
     alloc: A,
     tag: Tag,
@@ -50,6 +51,7 @@ fn opened<A: Allocator + Clone + Drop>(
 }
 
 // The two ends of a new lane that begins at the place of two equal tags. The sender keeps the second.
+#[tactic(auto, using(crate::proofs::LaneMoves::forks))]
 pub(crate) fn lane_from<A: Allocator + Clone + Drop>(
     alloc: A,
     head: Tag,
@@ -214,6 +216,7 @@ impl<A: Allocator + Clone + Drop> Sender<A> {
 
 impl<A: Allocator> Sender<A> {
     /// Puts the next token into the open segment, where `room` has made room. Never allocates.
+    #[tactic(auto, using(crate::proofs::Places::placed_more))]
     pub fn put(&mut self, token: Token)
         requires room { CanPut self.old }
         requires token { (sender_name self.old ≡ Some (token_name token)) × (token.place ≡ sent self.old) × (sent self.old < 2 ^ 48) }
@@ -273,6 +276,7 @@ impl<A: Allocator + Drop> Receiver<A> {
     /// Returns the next token, whose place is the number of tokens taken. `None` only if the deque was empty at some
     /// moment of the call, so that all that is known to have been flushed was taken, or after 64 steals that each met
     /// another step: then 64 segments have left the deque that this end didn't know to have left it. Never allocates.
+    #[tactic(auto, using(crate::proofs::Places::placed_at))]
     pub fn take(&mut self) -> Option<Token>
         ensures same { SameReceiver self.old self.new × (heard self.new ≡ heard self.old) }
         ensures ready { CanTake self.old → IsSome result }
@@ -309,6 +313,7 @@ impl<A: Allocator + Drop> Receiver<A> {
     }
 
     // Tries so often to steal the next segment.
+    #[tactic(auto, using(crate::proofs::LaneMoves::steals, crate::proofs::LaneMoves::finds))]
     fn steal_next<L: Ledger>(&mut self, tries: &mut Steps<L>) -> bool
         requires { waiting self.old ≡ 0 }
         ensures same { SameReceiver self.old self.new × (received self.new ≡ received self.old) × (heard self.new ≡ heard self.old) }
@@ -335,6 +340,7 @@ impl<A: Allocator + Drop> Receiver<A> {
 }
 
 /// Returns, with both ends in one thread, how many tokens were flushed and not taken. Never allocates.
+#[tactic(auto, using(crate::proofs::LaneMoves::forks_bare, crate::proofs::LaneMoves::merges, crate::proofs::LaneMoves::behind, crate::proofs::LaneMoves::forks, crate::proofs::LaneMoves::merges_bare))]
 pub fn meet<A: Allocator>(sender: &mut Sender<A>, receiver: &mut Receiver<A>) -> u64
     requires { sender_lane sender.old ≡ receiver_lane receiver.old }
     ensures sender { SameSender sender.old sender.new × (sent sender.new ≡ sent sender.old) × (flushed sender.new ≡ flushed sender.old) }

@@ -19,6 +19,7 @@ use std::alloc::{Allocator, Global};
 
 impl<A: Allocator + Drop> Lifted<A> {
     // Lifts the next token.
+    #[tactic(auto, using(crate::proofs::Places::placed_more))]
     fn put(&mut self, input: &Input, carried: &Carried)
         requires room { vec_len self.old.tokens < vec_capacity self.old.tokens }
         requires next { (token_name carried.now ≡ tag_name self.old.from) × (carried.now.place ≡ self.old.first + vec_len self.old.tokens) }
@@ -33,6 +34,7 @@ impl<A: Allocator + Drop> Lifted<A> {
     }
 
     // Lifts the next tokens, all but the first of these, which were taken.
+    #[tactic(auto, using(crate::proofs::Places::placed_at, crate::proofs::Places::same_name))]
     fn put_all(&mut self, input: &Input, tokens: &[Carried], used: usize)
         requires room { vec_len self.old.tokens + (length tokens.now - used) ≤ vec_capacity self.old.tokens }
         requires next { (n : ℕ) × StandFrom (Some (tag_name self.old.from)) n tokens.now × (n + used ≡ self.old.first + vec_len self.old.tokens) }
@@ -47,6 +49,7 @@ impl<A: Allocator + Drop> Lifted<A> {
     }
 
     // Lifts the tokens of all segments in the deque, whose worker has both rights.
+    #[tactic(auto, using(crate::proofs::LaneMoves::empties))]
     fn put_rest(&mut self, input: &Input, worker: &mut LaneWorker<A>)
         requires room { (worker_view worker.old).flushed ≤ self.old.first + vec_capacity self.old.tokens }
         requires worker { HasBothRights (worker_flavor worker.old) (worker_view worker.old) }
@@ -110,6 +113,7 @@ fn prepare<A: Allocator + Clone + Drop>(
 }
 
 // Collects the tokens of a lane that weren't taken, lifted to the input.
+#[tactic(auto, using(crate::proofs::LaneMoves::merges, crate::proofs::LaneMoves::behind))]
 fn gather<A: Allocator + Clone + Drop>(
     sender: Sender<A>,
     receiver: Receiver<A>,

@@ -1,14 +1,6 @@
-use Rattle.kahn_job.proofs.Common.{arith, List, [], ◌∷◌, ◌++◌, sym, ap, ◌∙◌, subst, length-set, Tapped, IsSamePlace, append_assoc, length-append}
-use Rattle.kahn_job.proofs.Seated.{cells_more, place, rows_stay, same_more}
+use Rattle.kahn_job.proofs.Common.{[], arith, List, ◌∷◌, ◌++◌, sym, ap, ◌∙◌, length-set, Tapped, append_assoc, length-append}
+use Rattle.kahn_job.proofs.Seated.{cells_more, rows_stay, same_more}
 use Rattle.kahn_job.proofs.handing.seat.Goals as goal
-
-pub seat-requires : goal.seat-requires
-seat-requires c =
-    let i = c.loop-tap.invariant in
-    let done = c.loop-tap.yielded in
-    subst (IsSamePlace c.index_mut.result.now.cell) (sym c.into_cell.ensures)
-    (place c.args.taps.items done c.next.new.self.rest.items c.args.idles.now.items c.loop-tap.idles.items c.in-Some.tap c.loop-tap.instance c.index_mut.result.now
-    (i.3 ∙ ap (λ (l : List Tapped). done ++ l) c.in-Some.ensures.steps.0) i.2 i.4 c.requires.count i.7 c.index_mut.ensures.value)
 
 pub loop-tap-preserved : goal.loop-tap-preserved
 loop-tap-preserved c =

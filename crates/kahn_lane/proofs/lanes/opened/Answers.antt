@@ -1,9 +1,6 @@
 use Rattle.std.proofs.Common.{rules}
-use Rattle.kahn_lane.proofs.LaneMoves.{tells, starts}
+use Rattle.kahn_lane.proofs.LaneMoves.{tells}
 use Rattle.kahn_lane.proofs.lanes.opened.Goals as goal
 
 pub push_as-requires-clause-pushes : goal.push_as-requires-clause-pushes
 push_as-requires-clause-pushes g c = tells _ _ _ _ (search rules) c.args.tag.limited
-
-pub pop_as-requires-clause-fifo : goal.pop_as-requires-clause-fifo
-pop_as-requires-clause-fifo g c = λ _. starts _ _ _ (search rules)

@@ -1,9 +1,6 @@
 use Rattle.kahn_lane.proofs.Common.{ap, subst, sym, ◌∙◌, tag_name, IsGrown, Tag, Mark}
-use Rattle.kahn_lane.proofs.LaneMoves.{merges, behind}
+use Rattle.kahn_lane.proofs.LaneMoves.{behind}
 use Rattle.kahn_lane.proofs.settling.gather.Goals as goal
-
-pub absorb-requires-clause-rule : goal.absorb-requires-clause-rule
-absorb-requires-clause-rule g c = merges _ _ _ _ _ c.args.sender.stage c.args.sender.writes c.args.receiver.reads
 
 pub len_as-segments-requires : goal.len_as-segments-requires
 len_as-segments-requires g c = let is = c.absorb.ensures.rule in behind _ _ _ (ap (λ (m : Mark). m.stage) is) (ap (λ (m : Mark). m.writes) is) (ap (λ (m : Mark). m.reads) is)

@@ -34,6 +34,3 @@ pub returns-clause-paused : goal.returns-clause-paused
 returns-clause-paused g c =
     subst (λ (x : Tasked). HasPaused x.work (record { cell = c.run-pause.new.self; ends = c.run-pause.new.ports.ports.now.items }) c.args.quantum c.run-pause.result)
     c.self.view_is c.run-pause.ensures.ran.paused
-
-pub returns-clause-refused : goal.returns-clause-refused
-returns-clause-refused g c = c.run-pause.ensures.ran.refused

@@ -1,12 +1,5 @@
 use Rattle.kahn_lane.proofs.Common.{arith, ap, subst, sym, ◌∙◌, tag_name, IsGrown, Tag}
-use Rattle.kahn_lane.proofs.Places.{placed_at, same_name}
 use Rattle.kahn_lane.proofs.lifted.Lifted.put_all.Goals as goal
-
-pub put-requires-clause-next : goal.put-requires-clause-next
-put-requires-clause-next g c =
-    let i = c.loop-at.invariant in
-    let at = placed_at _ _ _ _ _ c.requires.next.1 c.loop-at-test.true c.index-tokens-at.is in
-    (sym (same_name _ _ at.0) ∙ ap tag_name (sym i.0.0), omega (arith, at.1, c.requires.next.2, i.0.2, i.2))
 
 pub loop-at-preserved : goal.loop-at-preserved
 loop-at-preserved g c =

@@ -1,9 +1,5 @@
-use Rattle.kahn_lane.proofs.Common.{arith, ap, subst, sym, ◌∙◌, Some, worker_view, StandFrom, tag_name, tokens_of, IsGrown, Tag, Mark}
-use Rattle.kahn_lane.proofs.LaneMoves.{empties}
+use Rattle.kahn_lane.proofs.Common.{arith, ap, subst, sym, ◌∙◌, Some, tag_name, IsGrown, Tag, Mark}
 use Rattle.kahn_lane.proofs.lifted.Lifted.put_rest.Goals as goal
-
-pub pop_as-requires-clause-fifo : goal.pop_as-requires-clause-fifo
-pop_as-requires-clause-fifo g c = let i = c.loop-segment.invariant.2 in λ _. empties _ _ _ i.1 i.2 i.3
 
 pub loop-segment-preserved : goal.loop-segment-preserved
 loop-segment-preserved g c =
@@ -18,11 +14,3 @@ loop-segment-preserved g c =
       ap (λ (m : Mark). m.flushed) e.2 ∙ i.5,
       omega (arith, ap (λ (m : Mark). m.flushed) e.2, i.6, p.2, p.3),
     )
-
-pub put_segment-requires-clause-next : goal.put_segment-requires-clause-next
-put_segment-requires-clause-next g c =
-    let i = c.loop-segment.invariant in
-    let e = c.in-Some.ensures.rule in
-    let l = c.loop-segment in
-    let s = c.in-Some.segment in
-    subst (λ n. StandFrom (Some (tag_name l.self.from)) n (tokens_of s)) i.4 (subst (λ m. StandFrom m (worker_view l.worker).stolen (tokens_of s)) i.3 e.0.1)
