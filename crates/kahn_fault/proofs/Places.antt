@@ -123,17 +123,13 @@ module _ (text : List ℕ) where
   wrong_in a b at l = unless (same_kind a b) (checked.WrongKind at) l
 
   misread_in : (t : Option Taking) (at : Span) → Lies at → Are text (misread t at)
-  misread_in None at l = more l none
-  misread_in (Some (T.Channel d k)) at l = more l none
   misread_in (Some (T.Value k)) at l = none
+  misread_in t at l = more l none
 
   misused_in : (d : Direction) (t : Option Taking) (at : Span) → Lies at → Are text (misused d t at)
-  misused_in d None at l = more l none
-  misused_in d (Some (T.Value k)) at l = more l none
   misused_in In (Some (T.Channel In k)) at l = none
-  misused_in In (Some (T.Channel Out k)) at l = more l none
-  misused_in Out (Some (T.Channel In k)) at l = more l none
   misused_in Out (Some (T.Channel Out k)) at l = none
+  misused_in d t at l = more l none
 
   first_in : (k : Option Kind) (found : Kind) (at : Span) → Lies at → Are text (wrong_first k found at)
   first_in None found at l = none
@@ -373,24 +369,19 @@ module _ (text : List ℕ) where
   argument_in (A.Logical b at) xs r (c, h) all = (past _ xs r h all, covers at xs r c all)
 
   overtaken_in : (d : Direction) (closed : Bool) (taken : List Side) (at : Span) → Lies at → Are text (overtaken d closed taken at)
-  overtaken_in In true taken at l = more l none
-  overtaken_in Out true taken at l = more l none
   overtaken_in d false [] at l = none
-  overtaken_in In false (e ∷ taken) at l = more l none
-  overtaken_in Out false (e ∷ taken) at l = more l none
+  overtaken_in In closed taken at l = more l none
+  overtaken_in Out closed taken at l = more l none
 
   misplaced_in : (d : Direction) (k : Kind) (g : Option Global) (taken : List Side) (at : Span) → Lies at → Are text (misplaced d k g taken at)
-  misplaced_in d k None taken at l = more l none
-  misplaced_in d k (Some (IsProcess p)) taken at l = more l none
   misplaced_in d k (Some (IsChannel kind r)) taken at l = both (wrong_in k kind at l) (overtaken_in d (is_closed d r) taken at l)
+  misplaced_in d k g taken at l = more l none
 
   one_argument : (t : Program) (before : List Handover) (w : Taking) (x : Argument) → IsArgument x → Are text (argument_faults t before w x)
   one_argument t before (T.Channel d k) (A.Channel n) l = misplaced_in d k (global t n) (ends d (bytes_of n) before) n.span l
-  one_argument t before (T.Channel d k) (A.Number z at) l = more l none
-  one_argument t before (T.Channel d k) (A.Logical b at) l = more l none
-  one_argument t before (T.Value k) (A.Channel n) l = more l none
   one_argument t before (T.Value k) (A.Number z at) l = wrong_in k Integer at l
   one_argument t before (T.Value k) (A.Logical b at) l = wrong_in k Logical at l
+  one_argument t before w x l = more l none
 
   all_arguments : (t : Program) (before : List Handover) (i q : ℕ) (ps : List Parameter) (xs : List Argument) → AllByRecursion IsArgument xs →
       Are text (arguments_faults t before i q ps xs)
@@ -403,11 +394,10 @@ module _ (text : List ℕ) where
   IsInstance x = Lies x.process.span × AllByRecursion IsArgument x.arguments.items
 
   made_in : (t : Program) (before : List Handover) (i : ℕ) (g : Option Global) (x : Instance) → IsInstance x → Are text (made_faults t before i g x)
-  made_in t before i None x h = more h.0 none
-  made_in t before i (Some (IsChannel kind r)) x h = more h.0 none
   made_in t before i (Some (IsProcess p)) x h =
       both (unless (nat_eq (length p.parameters.items) (length x.arguments.items)) (checked.WrongCount x.process.span) h.0)
       (all_arguments t before i 0 p.parameters.items x.arguments.items h.1)
+  made_in t before i g x h = more h.0 none
 
   instance_in : (x : Instance) → Reads (InstanceSpans text x) (IsInstance x)
   instance_in x xs r (a, b, c, name, open', h, close) all =
@@ -488,6 +478,4 @@ module _ (text : List ℕ) where
   fault_in (work.Syntax e) h = syntax_in e h
   fault_in (work.Check f) (t, parsed, inl refused) = subst (IsPlace text) (sym refused) tt
   fault_in (work.Check f) (t, parsed, inr first) = first_of (faults t) f first (program_in t parsed.0)
-  fault_in (work.Text f) h = absurd h
-  fault_in (work.Run f) h = absurd h
-  fault_in (work.Write f) h = absurd h
+  fault_in f h = absurd h

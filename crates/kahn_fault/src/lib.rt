@@ -3,7 +3,6 @@
 #![tactic(auto)]
 
 mod fault;
-mod laws;
 mod message;
 mod reasons;
 mod telling;
@@ -11,12 +10,11 @@ mod texts;
 mod work;
 
 pub use fault::{Fault, live_status, status};
-pub use laws::fault_lies;
 pub use message::{fault_line, line_counted};
 pub use reasons::{shown_path, tell_reason, tell_shown, tell_unread};
 pub use telling::{Told, tell, tell_explain};
 pub use texts::{MOST_INPUT_BYTES, MOST_PROGRAM_BYTES, Texts, input_of, program_of, read_texts};
-pub use work::WorkFault;
+pub use work::{WorkFault, fault_lies};
 
 // For the crates above.
 pub use message::{check_span, check_words, syntax_span, syntax_words};

@@ -38,17 +38,8 @@ fn put_between<'a, W: Write, L: Ledger>(
 ) -> Result<(), WriteFault>
     ensures { WritesCounted (W.contents writer.old) (W.contents writer.new) result writes.old writes.new (between_line before.now between.now after.now) }
 {
-    put_line(
-        writer,
-        &[
-            b"kahn: ",
-            before.as_bytes(),
-            between.as_bytes(),
-            after.as_bytes(),
-            b"\n",
-        ],
-        writes,
-    )
+    let (before, between, after) = (before.as_bytes(), between.as_bytes(), after.as_bytes());
+    put_line(writer, &[b"kahn: ", before, between, after, b"\n"], writes)
 }
 
 /// Writes a line with a number between its words.
@@ -75,17 +66,10 @@ fn put_place<'a, W: Write, L: Ledger>(
 ) -> Result<(), WriteFault>
     ensures { WritesCounted (W.contents writer.old) (W.contents writer.new) result writes.old writes.new (numbered_line line.now column.now words.now) }
 {
+    let (line, column, words) = (line.as_bytes(), column.as_bytes(), words.as_bytes());
     put_line(
         writer,
-        &[
-            b"kahn: ",
-            line.as_bytes(),
-            b":",
-            column.as_bytes(),
-            b": ",
-            words.as_bytes(),
-            b"\n",
-        ],
+        &[b"kahn: ", line, b":", column, b": ", words, b"\n"],
         writes,
     )
 }
@@ -104,13 +88,9 @@ fn put_byte<W: Write, L: Ledger>(
     let (line, column) = Span { from, to: from }.place(program);
     let mut first = Buffer::new();
     let mut second = Buffer::new();
-    put_place(
-        writer,
-        first.format(line),
-        second.format(column),
-        words,
-        writes,
-    )
+    let line = first.format(line);
+    let column = second.format(column);
+    put_place(writer, line, column, words, writes)
 }
 
 /// Writes a line with the place of a byte, if there is one.
@@ -365,13 +345,8 @@ fn line_opened<W: Write, L: Ledger, M: Ledger>(
 {
     let mut writes = Steps::<L>::open(first);
     let mut flushes = Steps::<M>::open(second);
-    line_counted(
-        placed.fault,
-        placed.program,
-        writer,
-        &mut writes,
-        &mut flushes,
-    )
+    let program = placed.program;
+    line_counted(placed.fault, program, writer, &mut writes, &mut flushes)
 }
 
 /// Writes the line of a fault and a line feed, and flushes. A span in the fault is one of the program text; one beyond it

@@ -1,7 +1,7 @@
 //! Why there is no report; the network of a program text.
 
-ghost use Rattle.kahn_fault.specs.Work.{IsChecked, IsUnchecked};
-ghost use Rattle.std.specs.Prelude.{MatchResult};
+ghost use Rattle.kahn_fault.specs.{Places.LiesIn, Places.fault_span, Work.IsChecked, Work.IsUnchecked};
+ghost use Rattle.std.specs.Prelude.{ℕ, IfSome, List, MatchResult};
 
 use kahn_check::{CheckFault, check};
 use kahn_streams::{Network, RunFault};
@@ -63,3 +63,8 @@ pub fn checked(alloc: Global, program: &str) -> Result<Network, WorkFault>
         Err(fault) => Err(WorkFault::Check(fault)),
     }
 }
+
+/// A law: the place of a fault for which a program text is refused is within the text.
+pub fn fault_lies()
+    ensures { (program : List ℕ) (fault : WorkFault) → IsUnchecked program fault → IfSome (fault_span fault) (LiesIn program) }
+{}

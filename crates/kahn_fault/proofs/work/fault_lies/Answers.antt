@@ -1,5 +1,5 @@
 use Rattle.kahn_fault.proofs.Places.{fault_in}
-use Rattle.kahn_fault.proofs.laws.fault_lies.Goals as goal
+use Rattle.kahn_fault.proofs.work.fault_lies.Goals as goal
 
 pub returns : goal.returns
 returns c = fault_in
