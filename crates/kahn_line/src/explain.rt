@@ -93,8 +93,20 @@ Exit status:
   7  processes are in a deadlock
   8  a process has a fault of arithmetic, whatever else there is";
 
-// The words of two options.
+// What the help says of the options.
+static WORKERS: &str = "As of kahn, 1 to 16; without effect here, where one thread runs";
+
+static TRACE: &str = "Writes all values of all channels, as a CSV table";
+
+static CHANNELS: &str = "Writes how many values each channel carried, as a CSV table";
+
 static CHECK: &str = "Looks at the texts alone, for editors and repositories: nothing is run";
+
+static NEEDS: &str =
+    "Writes what the value at a place of a channel needs; without a place, a CSV table of all";
+
+static WAKES: &str =
+    "Writes which value of each output is the first that needs the value at a place of an input";
 
 static JSON: &str = "As --check, and writes each note as an object of JSON, for editors";
 
@@ -132,38 +144,16 @@ fn explain_command<'a>(alloc: Global) -> Result<Command<'a>, AllocError>
     bare(alloc, "kahn_explain", USAGE, ABOUT, MORE)?
         .arg(program_arg(alloc))?
         .arg(input_arg(alloc))?
-        .arg(workers_arg(
-            alloc,
-            "4",
-            "As of kahn, 1 to 16; without effect here, where one thread runs",
-        ))?
+        .arg(workers_arg(alloc, "4", WORKERS))?
         .arg(quantum_arg(alloc))?
         .arg(bound_arg(alloc))?
         .arg(flag_arg(alloc, "all", "Tells each process that hasn't ended"))?
         .arg(flag_arg(alloc, "strict", "Refuses a program with a warning"))?
-        .arg(flag_arg(
-            alloc,
-            "trace",
-            "Writes all values of all channels, as a CSV table",
-        ))?
-        .arg(flag_arg(
-            alloc,
-            "channels",
-            "Writes how many values each channel carried, as a CSV table",
-        ))?
+        .arg(flag_arg(alloc, "trace", TRACE))?
+        .arg(flag_arg(alloc, "channels", CHANNELS))?
         .arg(flag_arg(alloc, "check", CHECK))?
-        .arg(text_arg(
-            alloc,
-            "needs",
-            "OUT[:PLACE]",
-            "Writes what the value at a place of a channel needs; without a place, a CSV table of all",
-        ))?
-        .arg(text_arg(
-            alloc,
-            "wakes",
-            "IN[:PLACE]",
-            "Writes which value of each output is the first that needs the value at a place of an input",
-        ))?
+        .arg(text_arg(alloc, "needs", "OUT[:PLACE]", NEEDS))?
+        .arg(text_arg(alloc, "wakes", "IN[:PLACE]", WAKES))?
         .arg(flag_arg(alloc, "json", JSON))
 }
 

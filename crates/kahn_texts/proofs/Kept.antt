@@ -88,13 +88,9 @@ module _ (t : Program) where
 -- ---- what the first entries tell of all
 
 get_taken : {A : Type 0} (n k : ℕ) (xs : List A) (x : A) → slice_get (take n xs) k ≡ Some x → (slice_get xs k ≡ Some x) × (take k (take n xs) ≡ take k xs)
-get_taken zero k [] x e = absurd cc
-get_taken zero zero (y ∷ xs) x e = absurd cc
-get_taken zero (suc k) (y ∷ xs) x e = absurd cc
-get_taken (suc n) zero [] x e = absurd cc
-get_taken (suc n) (suc k) [] x e = absurd cc
 get_taken (suc n) zero (y ∷ xs) x e = (e, refl)
 get_taken (suc n) (suc k) (y ∷ xs) x e = let (at, same) = get_taken n k xs x e in (at, ap (λ l. y ∷ l) same)
+get_taken n k xs x e = absurd cc
 
 pub refused_of_all : (t : Program) (n : ℕ) (all : List Entry) (fault : InputFault) → IsFirstRefused t (take n all) fault → IsFirstRefused t all fault
 refused_of_all t n all fault (k, entry, at, fit, fails) =

@@ -1,6 +1,6 @@
 -- Texts at the numbers of their pieces.
 use Rattle.kahn_texts.proofs.Common.{◌≡◌, ℕ, ◌<◌, List, [], ◌∷◌, ◌++◌, length, get_or, set, All, Option, None, Some, replicate, refl, sym, ap, subst, ◌∙◌, arith, ⊎_elim, length-set, get_or-set_same, get_or-set_other, cases_eq, All-pop, All-replicate, Global, Vec, Program, Piece, AreAllMadeTexts, AreMadeTexts, AreNoTexts, ArePieceTexts, IsMadeText, IsPieceText}
-use Rattle.kahn_texts.specs.declared.made.Made.{Made}
+use Rattle.kahn_texts.specs.declared.several.Made.{Made}
 
 -- the last text, and those before it
 pub last_made : (t : Program) (pieces : List Piece) (all rest : List Made) (one : Made) → all ≡ rest ++ one ∷ [] → AreMadeTexts t pieces all

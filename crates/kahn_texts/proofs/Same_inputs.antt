@@ -46,10 +46,9 @@ one_value : (b : ℕ) (bs : List ℕ) (v w : Value) → IsValue (b ∷ bs) v →
 one_value b bs (Integer n) (Integer m) h g = ap Integer (h.3 ∙ sym g.3)
 one_value b bs (Integer n) (Logical t) h g = no_truth b bs n t h g
 one_value b bs (Logical t) (Integer n) h g = no_truth b bs n t g h
-one_value b bs (Logical true) (Logical true) h g = refl
-one_value b bs (Logical false) (Logical false) h g = refl
 one_value b bs (Logical true) (Logical false) h g = no_both b bs h g
 one_value b bs (Logical false) (Logical true) h g = no_both b bs g h
+one_value b bs v w h g = refl
 
 one_spelling : (parts : List (List ℕ)) (vs ws : List Value) → SpellsValues parts vs → SpellsValues parts ws → vs ≡ ws
 one_spelling [] [] [] h g = refl

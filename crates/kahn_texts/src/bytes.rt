@@ -111,6 +111,7 @@ pub fn flush_counted<W: Write, L: Ledger>(
 }
 
 /// Opens a count, and writes a line.
+#[tactic(auto, using(crate::proofs::Writing::fails, crate::proofs::Writing::flushed))]
 fn write_line_opened<W: Write, L: Ledger>(
     writer: &mut W,
     blank: Blank,

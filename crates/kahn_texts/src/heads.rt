@@ -14,7 +14,7 @@ pub(crate) struct Head<'a> {
 }
 
 /// Whether a byte is a space or a tab.
-pub(crate) fn is_blank(byte: u8) -> bool
+pub fn is_blank(byte: u8) -> bool
     ensures { result ≡ blank byte }
 {
     byte == b' ' || byte == b'\t'
@@ -42,7 +42,8 @@ fn first_apart(bytes: &[u8]) -> Option<usize>
 }
 
 /// Returns how many blanks come first.
-fn blanks(bytes: &[u8]) -> usize
+#[tactic(auto, using(crate::proofs::Scanned::stop_of))]
+pub fn blanks(bytes: &[u8]) -> usize
     ensures within { result ≤ length bytes.now }
     ensures stop { result ≡ position_or_len (λ b. not (blank b)) bytes.now }
 {
@@ -50,7 +51,8 @@ fn blanks(bytes: &[u8]) -> usize
 }
 
 /// Returns how many of the first bytes a name may contain.
-fn word_bytes(bytes: &[u8]) -> usize
+#[tactic(auto, using(crate::proofs::Scanned::stop_of))]
+pub fn word_bytes(bytes: &[u8]) -> usize
     ensures within { result ≤ length bytes.now }
     ensures stop { result ≡ position_or_len (λ b. not (word_byte b)) bytes.now }
 {
@@ -101,6 +103,7 @@ fn text_of(word: &[u8]) -> Option<&str>
 }
 
 /// Returns a word as a name, if it is one.
+#[tactic(auto, using(crate::proofs::Words::named))]
 fn name_of(word: &[u8]) -> Option<&str>
     requires { All (λ b. word_byte b ≡ true) word.now }
     ensures { MatchOption result (IsName word.now → ⊥) (λ name. IsName word.now × (name.now ≡ word.now)) }

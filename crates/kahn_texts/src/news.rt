@@ -2,9 +2,10 @@
 
 ghost use Rattle.std.specs.Prelude.{◌≡◌, ◌+◌, ◌<◌, ◌≤◌, length, map};
 ghost use Rattle.kahn_streams.specs.{Tokens.token_value, Written.Writes};
-ghost use Rattle.kahn_texts.specs.{Formats.IsLine, News.more_text, News.closing_text};
+ghost use Rattle.kahn_texts.specs.{Formats.IsLine, News.more_text, News.closing_text, News.plain_text};
 
 use crate::bytes::{WriteFault, flush};
+use crate::digits::{Lined, put_values};
 use crate::write::{put_ends, put_last, put_tokens};
 use kahn_streams::{Carried, End, Line, Network, Steps, Verdict};
 use std::io::Write;
@@ -44,7 +45,29 @@ pub fn write_news<W: Write>(
     news_opened::<W, Brand>(writer, Blank::new(1), network, line, tokens)
 }
 
+/// Opens a count, and writes the values.
+fn plain_opened<W: Write, L: Ledger>(
+    writer: &mut W,
+    blank: Blank,
+    tokens: &[Carried],
+) -> Result<(), WriteFault>
+    requires { (blank.name ≡ L.name) × (blank.parts ≡ L.parts) × (0 < blank.parts) }
+    ensures { Writes (W.contents writer.old) (W.contents writer.new) result (plain_text (map token_value tokens.now)) }
+{
+    let mut writes = Steps::<L>::open(blank);
+    put_values::<Lined, _, _>(writer, tokens, &mut writes)
+}
+
+/// Writes the values of tokens, each on a line of its own, and nothing if there are none. It doesn't flush. After a fault a
+/// prefix of the text went out. Never allocates.
+pub fn write_plain<W: Write>(writer: &mut W, tokens: &[Carried]) -> Result<(), WriteFault>
+    ensures { Writes (W.contents writer.old) (W.contents writer.new) result (plain_text (map token_value tokens.now)) }
+{
+    plain_opened::<W, Brand>(writer, Blank::new(1), tokens)
+}
+
 /// Writes the last lines of a report.
+#[tactic(auto, using(crate::proofs::Writing::fails, crate::proofs::Writing::stops, crate::proofs::Writing::goes_on))]
 pub(crate) fn put_end_lines<W: Write, L: Ledger>(
     writer: &mut W,
     network: &Network,
@@ -61,6 +84,7 @@ pub(crate) fn put_end_lines<W: Write, L: Ledger>(
 }
 
 /// Opens a count, and writes the last lines of a report.
+#[tactic(auto, using(crate::proofs::Writing::fails, crate::proofs::Writing::flushed))]
 fn closing_opened<W: Write, L: Ledger>(
     writer: &mut W,
     blank: Blank,

@@ -26,6 +26,7 @@ pub(crate) enum Piece<'a> {
 }
 
 /// Writes what a line begins with, and its first values.
+#[tactic(auto, using(crate::proofs::Writing::fails, crate::proofs::Writing::stops, crate::proofs::Writing::goes_on))]
 fn put_opening<W: Write, L: Ledger>(
     writer: &mut W,
     network: &Network,
@@ -42,6 +43,7 @@ fn put_opening<W: Write, L: Ledger>(
 }
 
 /// Writes the last values of a line, and its end.
+#[tactic(auto, using(crate::proofs::Writing::fails, crate::proofs::Writing::stops, crate::proofs::Writing::goes_on))]
 fn put_closing<W: Write, L: Ledger>(
     writer: &mut W,
     tokens: &[Carried],

@@ -2,11 +2,10 @@
 
 ghost use Rattle.std.specs.Prelude.{◌≡◌, ℕ, ◌+◌, ◌<◌, ◌≤◌, length, flat_map, All, IfOk, IfSome, slice_index_or};
 ghost use Rattle.kahn_streams.specs.Written.{Writes};
-ghost use Rattle.kahn_texts.specs.{Flushes.FlushesOnce, Formats.HasItsLines, Formats.IsLine, Formats.report_text, Formats.stream_text, inner.Pieces.AreAllMadeTexts, inner.Pieces.AreMadeTexts, inner.Pieces.ArePieceTexts, inner.Pieces.IsMadeText, inner.Pieces.IsPiece, inner.Pieces.IsPieceText, inner.Pieces.piece_text};
+ghost use Rattle.kahn_texts.specs.{Flushes.FlushesOnce, Formats.HasItsLines, Formats.IsLine, Formats.report_text, Formats.stream_text, inner.Pieces.AreAllMadeTexts, inner.Pieces.AreMadeTexts, inner.Pieces.AreNoTexts, inner.Pieces.ArePieceTexts, inner.Pieces.IsMadeText, inner.Pieces.IsPiece, inner.Pieces.IsPieceText, inner.Pieces.piece_text};
 ghost use denote.Param.Send.{IsSync};
 
 use crate::bytes::{WriteFault, put};
-use crate::made::{Made, placed, with_one};
 use crate::pieces::{Piece, part_size, pieces_of, put_piece, weight_of};
 use crate::write::{end_counted, put_streams, write_report};
 use kahn_streams::{Answer, Network, Steps, Stream};
@@ -33,6 +32,76 @@ const AT_ONCE: usize = 1024;
 
 /// Room for a piece, each value of 20 bytes at most and a space.
 const ROOM: usize = 21 * TOGETHER;
+
+/// The text of the piece that has this number; None if memory was refused.
+#[derive(Drop)]
+struct Made {
+    number: usize,
+    text: Option<Vec<u8>>,
+}
+
+/// Places texts at the numbers of their pieces.
+#[tactic(auto, using(crate::proofs::Placed::last_made, crate::proofs::Placed::one_placed))]
+fn place(
+    _network: &Network,
+    _pieces: &[Piece<'_>],
+    mut made: Vec<Made>,
+    texts: &mut Vec<Option<Vec<u8>>>,
+)
+    requires made { AreMadeTexts _network.now _pieces.now made.items }
+    requires count { length texts.old.items ≡ length _pieces.now }
+    requires texts { ArePieceTexts _network.now _pieces.now texts.old.items }
+    ensures count { length texts.new.items ≡ length _pieces.now }
+    ensures texts { ArePieceTexts _network.now _pieces.now texts.new.items }
+{
+    while let Some(one) = made.pop() {
+        texts[one.number] = one.text;
+    }
+}
+
+/// So many places without a text.
+fn no_texts(alloc: Global, count: usize) -> Result<Vec<Option<Vec<u8>>>, AllocError>
+    ensures { IfOk result (λ texts. AreNoTexts count texts.items) }
+{
+    let mut texts = Vec::new(alloc);
+    for _ in 0..count {
+        texts.push(None)?;
+    }
+    Ok(texts)
+}
+
+/// The texts that threads made of pieces, each at the number of its piece.
+#[tactic(auto, using(crate::proofs::Placed::last_thread, crate::proofs::Placed::none_placed))]
+fn placed(
+    alloc: Global,
+    network: &Network,
+    pieces: &[Piece<'_>],
+    mut by_thread: Vec<Vec<Made>>,
+) -> Result<Vec<Option<Vec<u8>>>, AllocError>
+    requires { AreAllMadeTexts network.now pieces.now by_thread.items }
+    ensures { IfOk result (λ texts. ArePieceTexts network.now pieces.now texts.items) }
+{
+    let mut texts = no_texts(alloc, pieces.len())?;
+    while let Some(made) = by_thread.pop() {
+        place(network, pieces, made, &mut texts);
+    }
+    Ok(texts)
+}
+
+/// Adds what one thread made.
+fn with_one(
+    _network: &Network,
+    _pieces: &[Piece<'_>],
+    mut by_thread: Vec<Vec<Made>>,
+    one: Vec<Made>,
+) -> Result<Vec<Vec<Made>>, AllocError>
+    requires all { AreAllMadeTexts _network.now _pieces.now by_thread.items }
+    requires one { AreMadeTexts _network.now _pieces.now one.items }
+    ensures { IfOk result (λ made. AreAllMadeTexts _network.now _pieces.now made.items) }
+{
+    by_thread.push(one)?;
+    Ok(by_thread)
+}
 
 /// Opens a count, and formats a piece.
 fn text_opened<L: Ledger>(

@@ -38,7 +38,7 @@ fn number_in(word: &[u8]) -> Option<i64>
 }
 
 /// Returns the value that a word spells.
-fn value_of(word: &[u8]) -> Option<Value>
+pub fn value_of(word: &[u8]) -> Option<Value>
     ensures { MatchOption result ((value : Value) → IsValue word.now value → ⊥) (λ value. IsValue word.now value) }
 {
     if word.eq_ignore_ascii_case(b"true") {

@@ -203,14 +203,8 @@ pub(crate) fn end_counted<W: Write, L: Ledger, M: Ledger>(
     ensures few { writes.new ≤ writes.old + length (ending_text network.now answer.now) }
     ensures once { FlushesOnce result flushes.old flushes.new }
 {
-    put_end_lines(
-        writer,
-        network,
-        answer.verdict,
-        &answer.ends,
-        answer.events,
-        writes,
-    )?;
+    let (verdict, events) = (answer.verdict, answer.events);
+    put_end_lines(writer, network, verdict, &answer.ends, events, writes)?;
     flush_counted(writer, flushes)
 }
 

@@ -2,7 +2,7 @@
 use Rattle.std.specs.Prelude.{◌≡◌, ℕ, ◌<◌, List, ◌++◌, length, flat_map, replicate, All, Option, None, IfSome, slice_index_or}
 use Rattle.std.specs.{declared.alloc.Global.Global, declared.vec.Vec.Vec}
 use Rattle.kahn_streams.specs.{declared.answer.Stream.Stream, declared.tree.Program.Program, Written.line_feed}
-use Rattle.kahn_texts.specs.{Formats.IsLine, Formats.line_head, Formats.stream_text, Formats.token_text, declared.made.Made.Made, declared.pieces.Piece.Piece, declared.pieces.Piece.TheVariants.Lines, declared.pieces.Piece.TheVariants.Opening, declared.pieces.Piece.TheVariants.Middle, declared.pieces.Piece.TheVariants.Closing}
+use Rattle.kahn_texts.specs.{Formats.IsLine, Formats.line_head, Formats.stream_text, Formats.token_text, declared.several.Made.Made, declared.pieces.Piece.Piece, declared.pieces.Piece.TheVariants.Lines, declared.pieces.Piece.TheVariants.Opening, declared.pieces.Piece.TheVariants.Middle, declared.pieces.Piece.TheVariants.Closing}
 
 -- what a piece is of the lines' text
 abbrev pub piece_text : Program → Piece → List ℕ

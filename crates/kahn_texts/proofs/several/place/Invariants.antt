@@ -1,6 +1,6 @@
 -- Those that are left are right, and so are those that were placed.
 use Rattle.kahn_texts.proofs.Common.{◌≡◌, length, AreMadeTexts, ArePieceTexts}
-use Rattle.kahn_texts.proofs.made.place.Given as goal
+use Rattle.kahn_texts.proofs.several.place.Given as goal
 
 abbrev pub invariant-loop-one : goal.invariant-loop-one
 invariant-loop-one l =

@@ -1,6 +1,6 @@
 -- What threads made that are left is right, and so is what was placed.
 use Rattle.kahn_texts.proofs.Common.{◌≡◌, length, AreAllMadeTexts, ArePieceTexts}
-use Rattle.kahn_texts.proofs.made.placed.Given as goal
+use Rattle.kahn_texts.proofs.several.placed.Given as goal
 
 abbrev pub invariant-loop-made : goal.invariant-loop-made
 invariant-loop-made l =
