@@ -8,10 +8,7 @@ pub record AreFirst {A : Type 0} (P : ℕ → A → Type 0) (n : ℕ) (ys : List
 
 last : {A : Type 0} (P : ℕ → A → Type 0) (ys : List A) (x y : A) (k p : ℕ) → P (k + length ys) x → slice_get (ys ++ (x ∷ [])) p ≡ Some y
     → ((slice_get ys p ≡ Some y) ⊎ P (k + p) y)
-last P [] x y k zero h e = inr (subst (P (k + 0)) same h)
-  where
-    same : x ≡ y
-    same = cc
+last P [] x y k zero h e = let same : x ≡ y = cc in inr (subst (P (k + 0)) same h)
 last P [] x y k (suc p) h e = absurd cc
 last P (z ∷ ys) x y k zero h e = inl e
 last P (z ∷ ys) x y k (suc p) h e =

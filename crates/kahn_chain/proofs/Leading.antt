@@ -12,10 +12,8 @@ same_some : (s t : Standing) → Some s ≡ Some t → s ≡ t
 same_some s t e = cc
 
 pub no_wait : (s : Standing) → ((c : ℕ) → s ≡ Waits c → ⊥) → IsNoWait s
-no_wait Ended h = tt
 no_wait (Waits c) h = h c refl
-no_wait Faulted h = tt
-no_wait More h = tt
+no_wait _ h = tt
 
 -- nothing is behind z
 abbrev pub Halts : Schema → List Standing → ℕ → Type 0

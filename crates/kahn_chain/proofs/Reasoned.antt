@@ -6,16 +6,12 @@ use Rattle.kahn_chain.specs.{Reasons.IsReasonFor, Reasons.not_ended, Reasons.tol
 
 numbers : (v : Verdict) (p : ℕ) (x : End) (y : Cause) (mark : Bool) (o : Outcome) → map told_instance (told_at v p x y mark o) ≡ unless_ended p o
 numbers v p x y mark Ended = refl
-numbers v p x y mark (Waits c) = refl
-numbers v p x y mark (Faulted k) = refl
-numbers v p x y mark More = refl
+numbers v p x y mark _ = refl
 
 are_so : (N : Schema) (v : Verdict) (es : List End) (p : ℕ) (x : End) (y : Cause) (mark : Bool) (o : Outcome) → slice_get es p ≡ Some x → IsCause N (map stands es) p y
     → IsRingMark N (map stands es) p mark → All (IsReasonFor N v es) (told_at v p x y mark o)
 are_so N v es p x y mark Ended end cause ring = All-from_recursion (IsReasonFor N v es) [] tt
-are_so N v es p x y mark (Waits c) end cause ring = All-from_recursion (IsReasonFor N v es) (told_at v p x y mark (Waits c)) ((record { end = end; cause = cause; ring = ring; lasts = refl }), tt)
-are_so N v es p x y mark (Faulted k) end cause ring = All-from_recursion (IsReasonFor N v es) (told_at v p x y mark (Faulted k)) ((record { end = end; cause = cause; ring = ring; lasts = refl }), tt)
-are_so N v es p x y mark More end cause ring = All-from_recursion (IsReasonFor N v es) (told_at v p x y mark More) ((record { end = end; cause = cause; ring = ring; lasts = refl }), tt)
+are_so N v es p x y mark o end cause ring = All-from_recursion (IsReasonFor N v es) (told_at v p x y mark o) ((record { end = end; cause = cause; ring = ring; lasts = refl }), tt)
 
 -- the reason of one instance more
 pub one_more : (N : Schema) (v : Verdict) (es : List End) (p : ℕ) (d : End) (y : Cause) (mark : Bool) (rs new : List Reason) → AreSoFar N v es p rs → p < length es

@@ -7,24 +7,15 @@ use Rattle.kahn_chain.specs.declared.standing.Standing.TheVariants as S
 pub end_of : (xs : List End) (q : ℕ) (s : Standing) (o : Option End) → slice_get xs q ≡ o → option_map stands o ≡ Some s
     → (x : End) × (slice_get xs q ≡ Some x) × (stands x ≡ s)
 end_of xs q s None e f = absurd cc
-end_of xs q s (Some x) e f = (x, e, same)
-  where
-    same : stands x ≡ s
-    same = cc
+end_of xs q s (Some x) e f = let same : stands x ≡ s = cc in (x, e, same)
 
 pub waiting : (o : Outcome) (c : ℕ) → standing_of o ≡ S.Waits c → o ≡ Waits c
-waiting Ended c e = absurd cc
-waiting (Waits d) c e = ap Waits same
-  where
-    same : d ≡ c
-    same = cc
-waiting (Faulted k) c e = absurd cc
-waiting More c e = absurd cc
+waiting (Waits d) c e = let same : d ≡ c = cc in ap Waits same
+waiting _ c e = absurd cc
 
 read_of : (v : Verdict) (N : Schema) (A : Histories) (p e c : ℕ) → IsWaiting v N A p e c → (q : ℕ) × (actual_at (instance_at N p) q ≡ Reads c)
-read_of Finished N A p e c h = (h.0, h.1)
-read_of Bound N A p e c h = (h.0, h.1)
 read_of Memory N A p e c h = (h.2.0, h.2.1)
+read_of _ N A p e c h = (h.0, h.1)
 
 pub stand : (t : Program) → IsWellWired t → (I : Inputs) (bound : ℕ) (v : Verdict) (ends : List End) (events : ℕ) → AreRight (network_of t) I bound v ends events → AreStandings (network_of t) (map stands ends)
 stand t wired I bound v ends events right = record {

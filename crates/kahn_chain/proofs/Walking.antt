@@ -24,9 +24,8 @@ abbrev IsMarked : List Bool → ℕ → Type 0
 IsMarked ms q = get_or ms q false ≡ true
 
 no_mark : (n q : ℕ) → IsMarked (replicate n false) q → ⊥
-no_mark zero q e = absurd cc
-no_mark (suc n) zero e = absurd cc
 no_mark (suc n) (suc q) e = no_mark n q e
+no_mark _ _ e = absurd cc
 
 all_false : (n : ℕ) → unmarked (replicate n false) ≡ n
 all_false zero = refl

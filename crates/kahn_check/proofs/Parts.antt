@@ -14,14 +14,8 @@ room_left : (n : ℕ) (at : Span) → no_room (most_channels - n) at ≡ too_man
 room_left n at = by (most_channels - n) refl
   where
     by : (room : ℕ) → most_channels - n ≡ room → no_room room at ≡ too_many most_channels n at
-    by zero h = ap (λ b. cond b [] (TooMany at ∷ [])) (sym (beyond h))
-      where
-        beyond : most_channels - n ≡ 0 → nat_lt n most_channels ≡ false
-        beyond e = grind (arith, nat_tests)
-    by (suc room) h = ap (λ b. cond b [] (TooMany at ∷ [])) (sym (within h))
-      where
-        within : most_channels - n ≡ suc room → nat_lt n most_channels ≡ true
-        within e = grind (arith, nat_tests)
+    by zero h = let beyond : nat_lt n most_channels ≡ false = grind (arith, nat_tests) in ap (λ b. cond b [] (TooMany at ∷ [])) (sym beyond)
+    by (suc room) h = let within : nat_lt n most_channels ≡ true = grind (arith, nat_tests) in ap (λ b. cond b [] (TooMany at ∷ [])) (sym within)
 
 channel_whole : (g : Table) (n room : ℕ) (kind : Kind) (role : Role) (xs : List Name) (es : List (Name × Wiring.Global)) → room ≡ most_channels - n →
     together (name_parts g room (as_channels kind role xs ++ es)) ≡ channel_faults g n kind role xs ++ together (name_parts (g ++ entries (as_channels kind role xs)) (most_channels - (n + length xs)) es)

@@ -72,7 +72,7 @@ body_right p fs h = sym (append-nil fs) ∙ ap (λ z. fs ++ first_alone z) (sym 
 pub body_wrong : (fs : List CheckFault) (f : CheckFault) → (f ≡ NoMemory → ⊥) → IsMet fs f → fault_alone (Some f) ≡ first_alone fs
 body_wrong fs f other (inl h) = absurd (other h)
 body_wrong [] f other (inr h) = cc
-body_wrong (g ∷ gs) f other (inr h) = cc
+body_wrong _ f other (inr h) = cc
 
 -- ---- the arguments of an instance
 
@@ -121,18 +121,11 @@ done g i q ps xs w r found ps0 xs0 w0 r0 found0 none left h = (
     then_nothing None = refl
     then_nothing (Some f) = refl
 
-no_places : (g : Table) (w r : Ends) (i q : ℕ) (ps : List Parameter) → places_faults g w r i q ps [] ≡ []
-no_places g w r i q [] = refl
-no_places g w r i q (p ∷ ps) = refl
-
-none_handed : (i q : ℕ) (ps : List Parameter) → handed_in i q ps [] ≡ []
-none_handed i q [] = refl
-none_handed i q (p ∷ ps) = refl
-
 -- where the arguments end, and where the parameters do
 pub arguments_end : (g : Table) (i q : ℕ) (ps : List Parameter) (w r : Ends) (found : Option CheckFault) (ps0 : List Parameter) (xs0 : List Argument) (w0 r0 : Ends) (found0 : Option CheckFault) →
     AreLeft g i q ps [] w r found ps0 xs0 w0 r0 found0 → (found ≡ first_then found0 (places_faults g w0 r0 i 0 ps0 xs0)) × HaveGot (handed_in i 0 ps0 xs0) w0 r0 w r
-arguments_end g i q ps w r found ps0 xs0 w0 r0 found0 h = done g i q ps [] w r found ps0 xs0 w0 r0 found0 (no_places g w r i q ps) (none_handed i q ps) h
+arguments_end g i q [] w r found ps0 xs0 w0 r0 found0 h = done g i q [] [] w r found ps0 xs0 w0 r0 found0 refl refl h
+arguments_end g i q ps w r found ps0 xs0 w0 r0 found0 h = done g i q ps [] w r found ps0 xs0 w0 r0 found0 refl refl h
 
 pub parameters_end : (g : Table) (i q : ℕ) (xs : List Argument) (w r : Ends) (found : Option CheckFault) (ps0 : List Parameter) (xs0 : List Argument) (w0 r0 : Ends) (found0 : Option CheckFault) →
     AreLeft g i q [] xs w r found ps0 xs0 w0 r0 found0 → (found ≡ first_then found0 (places_faults g w0 r0 i 0 ps0 xs0)) × HaveGot (handed_in i 0 ps0 xs0) w0 r0 w r

@@ -5,7 +5,7 @@ use Rattle.kahn_streams.specs.declared.tree.Kind.TheVariants as K
 use Rattle.kahn_streams.specs.declared.tree.Taking.TheVariants as T
 use Rattle.kahn_streams.specs.declared.tree.Declaration.TheVariants as D
 use Rattle.kahn_streams.specs.declared.tree.Argument.TheVariants as A
-use Rattle.std.proofs.Math.Logic.{⊎_elim}
+use Rattle.std.proofs.{Math.Logic.⊎_elim, lemmas.Bool.false_from_ne_true}
 use Rattle.kahn_streams.proofs.By_number.{found_in}
 use Rattle.kahn_check.proofs.Typed.{nil_left, nil_right, both, two, agrees_body, kinds}
 
@@ -27,20 +27,19 @@ all_append P (x ∷ xs) ys = let go = all_append P xs ys in ((λ h. let i = go.0
 
 -- ---- names that are declared once
 
+pub lookup_append : {X : Type 0} (test : List ℕ → Bool) (a c : List (List ℕ × X)) → lookup test (a ++ c) ≡ option_or (lookup test a) (lookup test c)
+lookup_append test [] c = refl
+lookup_append test (e ∷ es) c = grind (arith, nat_tests, lookup_append test es c)
+
 -- a name that isn't known with one entry more
 apart : {A : Type 0} (known : List (List ℕ × A)) (x : List ℕ) (a : A) (y : List ℕ) →
     (lookup (bytes_eq y) (known ++ (x, a) ∷ []) ≡ None) ↔ ((bytes_eq x y ≡ false) × (lookup (bytes_eq y) known ≡ None))
-apart {A} [] x a y = by (bytes_eq y x) (λ h. bytes_turned x y h) (λ h. bytes_turned y x h)
+apart {A} known x a y = rw (lookup_append (bytes_eq y) known ((x, a) ∷ [])) (by (lookup (bytes_eq y) known) (bytes_eq y x) (λ h. bytes_turned x y h) (λ h. bytes_turned y x h))
   where
-    by : (b : Bool) → (b ≡ false → bytes_eq x y ≡ false) → (bytes_eq x y ≡ false → b ≡ false) → (cond b (Some a) None ≡ None) ↔ ((bytes_eq x y ≡ false) × (lookup {X = A} (bytes_eq y) [] ≡ None))
-    by true turned back = ((λ h. cc), (λ h. absurd (true≢false (back h.0))))
-    by false turned back = ((λ h. (turned refl, refl)), (λ h. refl))
-apart (e ∷ es) x a y = by (bytes_eq y e.0) (apart es x a y)
-  where
-    by : (b : Bool) → (lookup (bytes_eq y) (es ++ (x, a) ∷ []) ≡ None) ↔ ((bytes_eq x y ≡ false) × (lookup (bytes_eq y) es ≡ None)) →
-        (cond b (Some e.1) (lookup (bytes_eq y) (es ++ (x, a) ∷ [])) ≡ None) ↔ ((bytes_eq x y ≡ false) × (cond b (Some e.1) (lookup (bytes_eq y) es) ≡ None))
-    by true go = ((λ h. cc), (λ h. absurd (let f : Some e.1 ≡ None = h.1 in cc)))
-    by false go = go
+    by : (o : Option A) (b : Bool) → (b ≡ false → bytes_eq x y ≡ false) → (bytes_eq x y ≡ false → b ≡ false) → (option_or o (cond b (Some a) None) ≡ None) ↔ ((bytes_eq x y ≡ false) × (o ≡ None))
+    by None true turned back = ((λ h. cc), (λ h. absurd (true≢false (back h.0))))
+    by None false turned back = ((λ h. (turned refl, refl)), (λ h. refl))
+    by (Some v) b turned back = ((λ h. cc), (λ h. absurd (let f : Some v ≡ None = h.1 in cc)))
 
 new : {A : Type 0} (o : Option A) (at : Span) → (o ≡ None) ↔ (repeated o at ≡ [])
 new None at = ((λ h. refl), (λ h. refl))
@@ -103,11 +102,9 @@ and_true true true h = (refl, refl)
 and_true _ _ h = cc
 
 -- one more argument
-pub fair_argument : (t : Program) (before : List Handover) (e : Side) (w : Taking) (x : Argument) → argument_faults t before w x ≡ [] → (d : Direction) (c : List ℕ) →
+fair_argument : (t : Program) (before : List Handover) (e : Side) (w : Taking) (x : Argument) → argument_faults t before w x ≡ [] → (d : Direction) (c : List ℕ) →
     IsFair (entries (declared_of t.declarations.items)) d c before → IsFair (entries (declared_of t.declarations.items)) d c (before ++ handed e w x)
-fair_argument t before e (T.Channel o k) (A.Channel n) h d c fair =
-    let g = entries (declared_of t.declarations.items) in
-    by (same_direction d o && bytes_eq c (bytes_of n)) refl
+fair_argument t before e (T.Channel o k) (A.Channel n) h d c fair = by (same_direction d o && bytes_eq c (bytes_of n)) refl
   where
     by : (b : Bool) → (same_direction d o && bytes_eq c (bytes_of n)) ≡ b → IsFair (entries (declared_of t.declarations.items)) d c (before ++ handed e (T.Channel o k) (A.Channel n))
     by true i =
@@ -128,22 +125,9 @@ fair_argument t before e (T.Channel o k) (A.Channel n) h d c fair =
         let all : ends d c (before ++ handed e (T.Channel o k) (A.Channel n)) ≡ ends d c before =
         ends_append d c before (handed e (T.Channel o k) (A.Channel n)) ∙ ap (λ b. ends d c before ++ cond b (e ∷ []) []) i ∙ append-nil (ends d c before) in
         (subst AtMostOne (sym all) fair.0, λ kind role is shut. all ∙ fair.1 kind role is shut)
-fair_argument t before e (T.Channel o k) (A.Number z at) h d c fair = cc
-fair_argument t before e (T.Channel o k) (A.Logical b at) h d c fair = cc
 fair_argument t before e (T.Value k) (A.Channel n) h d c fair = cc
-fair_argument t before e (T.Value k) (A.Number z at) h d c fair = rw (append-nil before) fair
-fair_argument t before e (T.Value k) (A.Logical b at) h d c fair = rw (append-nil before) fair
-
-pub fair_arguments : (t : Program) (before : List Handover) (i q : ℕ) (ps : List Parameter) (xs : List Argument) → arguments_faults t before i q ps xs ≡ [] → (d : Direction) (c : List ℕ) →
-    IsFair (entries (declared_of t.declarations.items)) d c before → IsFair (entries (declared_of t.declarations.items)) d c (before ++ handed_in i q ps xs)
-fair_arguments t before i q [] xs h d c fair = rw (append-nil before) fair
-fair_arguments t before i q (p ∷ ps) [] h d c fair = rw (append-nil before) fair
-fair_arguments t before i q (p ∷ ps) (x ∷ xs) h d c fair =
-    let one = handed (side_at i q) p.taking x in
-    let here = argument_faults t before p.taking x in
-    let f = fair_argument t before (side_at i q) p.taking x (nil_left here _ h) d c fair in
-    let go = fair_arguments t (before ++ one) i (suc q) ps xs (nil_right here _ h) d c f in
-    subst (IsFair (entries (declared_of t.declarations.items)) d c) (append_assoc before one (handed_in i (suc q) ps xs)) go
+fair_argument t before e (T.Value k) _ h d c fair = rw (append-nil before) fair
+fair_argument t before e _ _ h d c fair = cc
 
 fits : (t : Program) (before : List Handover) (w : Taking) (x : Argument) → argument_faults t before w x ≡ [] → Fits t w x
 fits t before (T.Channel d k) (A.Channel n) h = let p = placed d k (global t n) (ends d (bytes_of n) before) n.span h in (p.0, p.1)
@@ -151,53 +135,46 @@ fits t before (T.Value k) (A.Number z at) h = sym ((kinds k K.Integer at).1 h)
 fits t before (T.Value k) (A.Logical b at) h = sym ((kinds k K.Logical at).1 h)
 fits t before _ _ h = cc
 
-all_fit : (t : Program) (before : List Handover) (i q : ℕ) (ps : List Parameter) (xs : List Argument) → length ps ≡ length xs → arguments_faults t before i q ps xs ≡ [] → AllFit t ps xs
-all_fit t before i q [] [] e h = tt
-all_fit t before i q [] (x ∷ xs) e h = absurd (omega arith)
-all_fit t before i q (p ∷ ps) [] e h = absurd (omega arith)
+-- what these hand-overs are added to stays fair
+abbrev KeepsFair : Program → List Handover → List Handover → Type 0
+KeepsFair t before more = (d : Direction) (c : List ℕ) → IsFair (entries (declared_of t.declarations.items)) d c before → IsFair (entries (declared_of t.declarations.items)) d c (before ++ more)
+
+fair_more : (t : Program) (before one more : List Handover) → KeepsFair t before one → KeepsFair t (before ++ one) more → KeepsFair t before (one ++ more)
+fair_more t before one more f g d c fair = subst (IsFair (entries (declared_of t.declarations.items)) d c) (append_assoc before one more) (g d c (f d c fair))
+
+all_fit : (t : Program) (before : List Handover) (i q : ℕ) (ps : List Parameter) (xs : List Argument) → length ps ≡ length xs → arguments_faults t before i q ps xs ≡ [] →
+    AllFit t ps xs × KeepsFair t before (handed_in i q ps xs)
+all_fit t before i q [] [] e h = (tt, λ d c fair. rw (append-nil before) fair)
 all_fit t before i q (p ∷ ps) (x ∷ xs) e h =
+    let one = handed (side_at i q) p.taking x in
     let here = argument_faults t before p.taking x in
-    (fits t before p.taking x (nil_left here _ h), all_fit t (before ++ handed (side_at i q) p.taking x) i (suc q) ps xs (omega arith) (nil_right here _ h))
+    let go = all_fit t (before ++ one) i (suc q) ps xs (omega arith) (nil_right here _ h) in
+    ((fits t before p.taking x (nil_left here _ h), go.0), fair_more t before one (handed_in i (suc q) ps xs) (fair_argument t before (side_at i q) p.taking x (nil_left here _ h)) go.1)
+all_fit t before i q _ _ e h = absurd (omega arith)
 
 counted : (n m : ℕ) (at : Span) → (n ≡ m) ↔ (miscounted n m at ≡ [])
 counted n m at = ((λ h. grind (arith, nat_tests)), (λ h. grind (arith, nat_tests)))
 
 -- ---- instances
 
-fair_instance : (t : Program) (before : List Handover) (i : ℕ) (o : Option Global) (x : Instance) → made_faults t before i o x ≡ [] → (d : Direction) (c : List ℕ) →
-    IsFair (entries (declared_of t.declarations.items)) d c before → IsFair (entries (declared_of t.declarations.items)) d c (before ++ handed_in i 0 (parameters_of o) x.arguments.items)
-fair_instance t before i None x h d c fair = cc
-fair_instance t before i (Some (IsChannel kind role)) x h d c fair = cc
-fair_instance t before i (Some (IsProcess p)) x h d c fair =
-    fair_arguments t before i 0 p.parameters.items x.arguments.items (nil_right (miscounted (length p.parameters.items) (length x.arguments.items) x.process.span) _ h) d c fair
-
 made : (t : Program) (before : List Handover) (i : ℕ) (o : Option Global) (x : Instance) → made_faults t before i o x ≡ [] →
-    (p : Process) × (o ≡ Some (IsProcess p)) × AllFit t p.parameters.items x.arguments.items
-made t before i None x h = cc
-made t before i (Some (IsChannel kind role)) x h = cc
+    ((p : Process) × (o ≡ Some (IsProcess p)) × AllFit t p.parameters.items x.arguments.items) × KeepsFair t before (handed_in i 0 (parameters_of o) x.arguments.items)
 made t before i (Some (IsProcess p)) x h =
     let count = miscounted (length p.parameters.items) (length x.arguments.items) x.process.span in
-    (p, refl, all_fit t before i 0 p.parameters.items x.arguments.items ((counted _ _ x.process.span).1 (nil_left count _ h)) (nil_right count _ h))
+    let go = all_fit t before i 0 p.parameters.items x.arguments.items ((counted _ _ x.process.span).1 (nil_left count _ h)) (nil_right count _ h) in ((p, refl, go.0), go.1)
+made t before i _ x h = cc
 
-pub fair_instances : (t : Program) (before : List Handover) (i : ℕ) (xs : List Instance) → instance_faults t before i xs ≡ [] → (d : Direction) (c : List ℕ) →
-    IsFair (entries (declared_of t.declarations.items)) d c before → IsFair (entries (declared_of t.declarations.items)) d c (before ++ handed_from t i xs)
-fair_instances t before i [] h d c fair = rw (append-nil before) fair
-fair_instances t before i (x ∷ xs) h d c fair =
-    let j = nil_right (too_many most_instances i x.process.span) _ h in
-    let here = made_faults t before i (global t x.process) x in
-    let f = fair_instance t before i (global t x.process) x (nil_left here _ j) d c fair in
-    let go = fair_instances t (before ++ handed_by t i x) (suc i) xs (nil_right here _ j) d c f in
-    subst (IsFair (entries (declared_of t.declarations.items)) d c) (append_assoc before (handed_by t i x) (handed_from t (suc i) xs)) go
-
-pub all_made : (t : Program) (before : List Handover) (i : ℕ) (xs : List Instance) → instance_faults t before i xs ≡ [] → i ≤ most_instances → AllByRecursion (IsMade t) xs × (i + length xs ≤ most_instances)
-all_made t before i [] h le = (tt, omega arith)
+all_made : (t : Program) (before : List Handover) (i : ℕ) (xs : List Instance) → instance_faults t before i xs ≡ [] → i ≤ most_instances →
+    AllByRecursion (IsMade t) xs × (i + length xs ≤ most_instances) × KeepsFair t before (handed_from t i xs)
+all_made t before i [] h le = (tt, omega arith, λ d c fair. rw (append-nil before) fair)
 all_made t before i (x ∷ xs) h le =
     let limit = too_many most_instances i x.process.span in
     let j = nil_right limit _ h in
     let here = made_faults t before i (global t x.process) x in
     let lt = (within most_instances i x.process.span).1 (nil_left limit _ h) in
     let go = all_made t (before ++ handed_by t i x) (suc i) xs (nil_right here _ j) (omega (arith, lt)) in
-    ((made t before i (global t x.process) x (nil_left here _ j), go.0), omega (arith, go.1))
+    let one = made t before i (global t x.process) x (nil_left here _ j) in
+    ((one.0, go.0), omega (arith, go.1), fair_more t before (handed_by t i x) (handed_from t (suc i) xs) one.1 go.2)
 
 -- ---- channels
 
@@ -279,10 +256,6 @@ declared known n (D.Process p ∷ rest) =
           (both name _ (nil_left name _ h.0) j.0, ((sound p).1 (nil_left (process_faults p) _ i), j.1), j.2)),
     )
 
-pub lookup_append : {X : Type 0} (test : List ℕ → Bool) (a c : List (List ℕ × X)) → lookup test (a ++ c) ≡ option_or (lookup test a) (lookup test c)
-lookup_append test [] c = refl
-lookup_append test (e ∷ es) c = grind (arith, nat_tests, lookup_append test es c)
-
 lookup_skip : {A : Type 0} (test : List ℕ → Bool) (known ys : List (List ℕ × A)) → lookup test known ≡ None → lookup test (known ++ ys) ≡ lookup test ys
 lookup_skip test known ys h = lookup_append test known ys ∙ ap (λ o. option_or o (lookup test ys)) h
 
@@ -325,7 +298,7 @@ well_wired t h =
     let first = (declared [] 0 ds).1 (nil_left (declaration_faults [] 0 ds) _ h, omega arith) in
     let faultless = nil_left (instance_faults t [] 0 t.instances.items) _ j in
     let all = all_made t [] 0 t.instances.items faultless (omega arith) in
-    let fair = λ (d : Direction) (c : List ℕ). fair_instances t [] 0 t.instances.items faultless d c (tt, λ kind role is shut. refl) in
+    let fair = λ (d : Direction) (c : List ℕ). all.2 d c (tt, λ kind role is shut. refl) in
     record {
       names = (distinct (declared_of ds)).1 first.0;
       processes = first.1;
@@ -370,10 +343,6 @@ first_of [] ys e h = refl
 first_of (x ∷ []) ys e h = absurd h
 first_of (x ∷ (y ∷ xs)) ys e h = absurd h
 
-not_nil : (xs ys : List Side) (e : Side) → xs ++ e ∷ ys ≡ [] → ⊥
-not_nil [] ys e h = cc
-not_nil (x ∷ xs) ys e h = cc
-
 same_self : (d : Direction) → same_direction d d ≡ true
 same_self In = refl
 same_self Out = refl
@@ -397,29 +366,22 @@ unargument t before after e (T.Channel d k) (A.Channel n) serve h all =
     let parts : ends d c (handed_from t 0 t.instances.items) ≡ ends d c before ++ e ∷ ends d c after =
     ap (ends d c) (sym all) ∙ ends_append d c before (handed e (T.Channel d k) (A.Channel n) ++ after) ∙ ap (λ z. ends d c before ++ z) (hit d k e n after) in
     let none = first_of (ends d c before) (ends d c after) e (subst AtMostOne parts s.0) in
-    let free : is_closed d role ≡ false = by (is_closed d role) refl (λ i. not_nil (ends d c before) (ends d c after) e (sym parts ∙ s.1 i)) in
+    let free = false_from_ne_true (is_closed d role) (λ i. let rest = nil_right (ends d c before) (e ∷ ends d c after) (sym parts ∙ s.1 i) in cc) in
     unplaced d k (global t n) role (ends d c before) n.span h.1 free none
-  where
-    by : (b : Bool) → is_closed d h.0 ≡ b → (is_closed d h.0 ≡ true → ⊥) → b ≡ false
-    by true i never = absurd (never i)
-    by false i never = refl
-unargument t before after e (T.Channel d k) (A.Number z at) serve h all = absurd h
-unargument t before after e (T.Channel d k) (A.Logical b at) serve h all = absurd h
-unargument t before after e (T.Value k) (A.Channel n) serve h all = absurd h
 unargument t before after e (T.Value k) (A.Number z at) serve h all = (kinds k K.Integer at).0 (sym h)
 unargument t before after e (T.Value k) (A.Logical b at) serve h all = (kinds k K.Logical at).0 (sym h)
+unargument t before after e _ _ serve h all = absurd h
 
 unarguments : (t : Program) (before after : List Handover) (i q : ℕ) (ps : List Parameter) (xs : List Argument) → IsServedIn t → AllFit t ps xs →
     before ++ (handed_in i q ps xs ++ after) ≡ handed_from t 0 t.instances.items → (length ps ≡ length xs) × (arguments_faults t before i q ps xs ≡ [])
 unarguments t before after i q [] [] serve h all = (refl, refl)
-unarguments t before after i q [] (x ∷ xs) serve h all = absurd h
-unarguments t before after i q (p ∷ ps) [] serve h all = absurd h
 unarguments t before after i q (p ∷ ps) (x ∷ xs) serve h all =
     let one = handed (side_at i q) p.taking x in
     let rest = handed_in i (suc q) ps xs in
     let here = ap (λ z. before ++ z) (sym (append_assoc one rest after)) ∙ all in
     let go = unarguments t (before ++ one) after i (suc q) ps xs serve h.1 (append_assoc before one (rest ++ after) ∙ here) in
     (ap suc go.0, both (argument_faults t before p.taking x) _ (unargument t before (rest ++ after) (side_at i q) p.taking x serve h.0 here) go.1)
+unarguments t before after i q _ _ serve h all = absurd h
 
 unmade : (t : Program) (before after : List Handover) (i : ℕ) (o : Option Global) (x : Instance) → IsServedIn t → (p : Process) → o ≡ Some (IsProcess p) → AllFit t p.parameters.items x.arguments.items →
     before ++ (handed_in i 0 (parameters_of o) x.arguments.items ++ after) ≡ handed_from t 0 t.instances.items → made_faults t before i o x ≡ []

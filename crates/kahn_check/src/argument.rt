@@ -14,10 +14,7 @@ use kahn_streams::{Argument, CheckFault, Direction, Kind, Name, NoMemory, Role, 
 pub fn closed(direction: Direction, role: Role) -> bool
     ensures { result ≡ is_closed direction role }
 {
-    match (direction, role) {
-        (Out, Role::Input) | (In, Role::Output) => true,
-        (Out, Role::Inner | Role::Output) | (In, Role::Inner | Role::Input) => false,
-    }
+    matches!((direction, role), (Out, Role::Input) | (In, Role::Output))
 }
 
 /// Returns the fault of a side that is handed over twice.
@@ -45,13 +42,10 @@ pub fn misplaced(
         Some(Entry::Process(_, _)) => Err(CheckFault::ChannelExpected(name.span)),
         Some(Entry::Channel(found, role)) => {
             agree(kind, found, name.span)?;
-            if closed(direction, role) {
+            if closed(direction, role) || side.find(name).is_some() {
                 return Err(second(direction, name));
             }
-            match side.find(name) {
-                Some(_) => Err(second(direction, name)),
-                None => Ok(()),
-            }
+            Ok(())
         }
     }
 }

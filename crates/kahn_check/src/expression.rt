@@ -40,9 +40,7 @@ pub fn agree(wanted: Kind, found: Kind, span: Span) -> Result<(), CheckFault>
 {
     match (wanted, found) {
         (Kind::Integer, Kind::Integer) | (Kind::Logical, Kind::Logical) => Ok(()),
-        (Kind::Integer, Kind::Logical) | (Kind::Logical, Kind::Integer) => {
-            Err(CheckFault::WrongKind(span))
-        }
+        (_, _) => Err(CheckFault::WrongKind(span)),
     }
 }
 
@@ -74,9 +72,7 @@ pub fn channel(scope: &Scope, name: &Name, wanted: Direction) -> Result<Kind, Ch
         Some(Taking::Value(_)) => Err(CheckFault::ChannelExpected(name.span)),
         Some(Taking::Channel(found, kind)) => match (wanted, found) {
             (Direction::In, Direction::In) | (Direction::Out, Direction::Out) => Ok(kind),
-            (Direction::In, Direction::Out) | (Direction::Out, Direction::In) => {
-                Err(CheckFault::WrongDirection(name.span))
-            }
+            (_, _) => Err(CheckFault::WrongDirection(name.span)),
         },
     }
 }
@@ -100,10 +96,7 @@ pub fn agree_second(
 ) -> Result<(), CheckFault>
     ensures { result ≡ verdict (wrong_second (takes operator) first found span) tt }
 {
-    match operand_kind(operator) {
-        None => agree(first, found, span),
-        Some(wanted) => agree(wanted, found, span),
-    }
+    agree(operand_kind(operator).unwrap_or(first), found, span)
 }
 
 /// Returns the kind of an expression. What is wrong inside it comes first, from left to right.

@@ -96,10 +96,7 @@ impl<V: Copy> NameTable<V> {
             self.listed = listed;
             return Ok(());
         }
-        match self.add(name, what) {
-            Ok(()) => Ok(()),
-            Err(_) => Err(NoMemory),
-        }
+        self.add(name, what).map_err(|_| NoMemory)
     }
 
     /// Declares a name, which must stand for nothing yet.

@@ -28,13 +28,10 @@ pub const MOST_INSTANCES: usize = 256;
 pub fn add(faults: &mut Vec<CheckFault>, found: Option<CheckFault>) -> Result<(), NoMemory>
     ensures { IfOk result (λ u. faults.new.items ≡ faults.old.items ++ fault_alone found) }
 {
-    match found {
-        None => Ok(()),
-        Some(fault) => {
-            faults.push(fault)?;
-            Ok(())
-        }
+    if let Some(fault) = found {
+        faults.push(fault)?;
     }
+    Ok(())
 }
 
 /// Returns the fault of a name that is declared already.
@@ -224,10 +221,7 @@ fn add_instance(
 {
     let limit = limit(number, instance);
     let unknown = limit.or(Some(CheckFault::Unknown(instance.process.span)));
-    let Some(entry) = globals.find(&instance.process) else {
-        return add(faults, unknown);
-    };
-    let Entry::Process(declared, process) = entry else {
+    let Some(Entry::Process(declared, process)) = globals.find(&instance.process) else {
         return add(faults, unknown);
     };
     processes.push(declared)?;

@@ -17,28 +17,10 @@ pub fn side(
 ) -> Result<(), CheckFault>
     ensures { result ≡ verdict (side_in writers.now readers.now name.now role) tt }
 {
-    match role {
-        Role::Inner => {
-            if writers.find(name).is_none() {
-                return Err(CheckFault::NoWriter(name.span));
-            }
-            if readers.find(name).is_none() {
-                return Err(CheckFault::NoReader(name.span));
-            }
-            Ok(())
-        }
-        Role::Input => {
-            if readers.find(name).is_none() {
-                return Err(CheckFault::NoReader(name.span));
-            }
-            Ok(())
-        }
-        Role::Output => {
-            if writers.find(name).is_none() {
-                return Err(CheckFault::NoWriter(name.span));
-            }
-            Ok(())
-        }
+    match (role, writers.find(name), readers.find(name)) {
+        (Role::Inner | Role::Output, None, _) => Err(CheckFault::NoWriter(name.span)),
+        (Role::Inner | Role::Input, _, None) => Err(CheckFault::NoReader(name.span)),
+        (_, _, _) => Ok(()),
     }
 }
 

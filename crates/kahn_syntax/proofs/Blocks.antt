@@ -24,17 +24,15 @@ EndsAfter (repeat a) r = EndsStatement r
 EndsAfter _ r = EndsSimple r
 
 pub simple_expression : (r : List Terminal) → EndsSimple r → Ends 1 r
-simple_expression [] h = absurd h
 simple_expression (sign Semicolon ∷ r) h = omega arith
 simple_expression (word End ∷ r) h = omega arith
 simple_expression (word Else ∷ r) h = omega arith
-simple_expression (_ ∷ r) h = absurd h
+simple_expression _ h = absurd h
 
 pub statement_simple : (r : List Terminal) → EndsStatement r → EndsSimple r
-statement_simple [] h = absurd h
 statement_simple (sign Semicolon ∷ r) h = tt
 statement_simple (word End ∷ r) h = tt
-statement_simple (_ ∷ r) h = absurd h
+statement_simple _ h = absurd h
 
 pub statement_after : (t : StatementTree) (r : List Terminal) → EndsStatement r → EndsAfter t r
 statement_after (if_then t a) r h = h
@@ -64,9 +62,8 @@ EndsBlock (word End ∷ r) = Unit {0}
 EndsBlock _ = ⊥
 
 pub block_statement : (r : List Terminal) → EndsBlock r → EndsStatement r
-block_statement [] h = absurd h
 block_statement (word End ∷ r) h = tt
-block_statement (_ ∷ r) h = absurd h
+block_statement _ h = absurd h
 
 no_semicolon : (r x : List Terminal) → EndsBlock r → r ≡ sign Semicolon ∷ x → ⊥
 no_semicolon r x h e = let f : EndsBlock (sign Semicolon ∷ x) = subst EndsBlock e h in f

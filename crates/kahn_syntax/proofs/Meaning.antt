@@ -77,16 +77,10 @@ is_other text lexemes span left (before, x, after, e, s, l) h =
 
 pub is_too_deep : (text : List ℕ) (lexemes : List Lexeme) (span : Span) (left : ℕ) → Placed lexemes span left → Halts (terminals text lexemes) (TooDeep left) →
     StandsAt text lexemes span IsTooDeep
-is_too_deep text lexemes span left (before, x, after, e, s, l) h = (
-  before,
-  x,
-  after,
-  e,
-  s,
-  deep_of (terminals text before) (terminal text x.what x.span)
-      (deep_at 64 (terminals text before) (terminals text after) (terminal text x.what x.span) (ProgramPart ∷ []) (omega arith)
-      (split_fate text lexemes before after x (TooFar left) e h ∙ ap TooFar (sym l ∙ ap (λ n. n + 1) (sym (terminals_length text after))))),
-)
+is_too_deep text lexemes span left (before, x, after, e, s, l) h =
+    let there = split_fate text lexemes before after x (TooFar left) e h ∙ ap TooFar (sym l ∙ ap (λ n. n + 1) (sym (terminals_length text after))) in
+    let here = deep_at 64 (terminals text before) (terminals text after) (terminal text x.what x.span) (ProgramPart ∷ []) (omega arith) there in
+    (before, x, after, e, s, deep_of (terminals text before) (terminal text x.what x.span) here)
 
 pub is_more : (ks : List Terminal) (b : Bool) → Halts ks (Refused b 0) → BeginsWithin ks × ¬ (IsSentence ks)
 is_more ks b h =

@@ -1,5 +1,6 @@
 -- How the parts that are open go on, over what the parser reads.
-use Rattle.kahn_syntax.proofs.Common.{AreProper, FitsLevel, FormSpans, expression_nesting, factors, form_tree, Action, StopsAs, head_parts, Then, Else, Do, On, End, ElseTail, StatementsTail, ◌≡◌, ◌≢◌, ℕ, ◌+◌, ◌≤◌, ◌<◌, List, [], ◌∷◌, ◌++◌, ◌⊎◌, ⊎_elim, length, true, false, cond, Some, None, Result, Ok, Err, true≢false, refl, sym, ap, ◌∙◌, subst, arith, append_assoc, Span, Class, Lexeme, MatchResult, Expression, Form, Covers, Statement, Stop, Refused, TooDeep, NoMemory, Terminal, word, terminal, terminals, First, RuleToken, accepts, leads, class_of, a_kind, a_name, a_number, a_sign, a_word, an_operator, either, rules_of, starts, enters, followed, opened_by, argument_rules, declaration_rules, other_rules, process_rules, simple_rules, Part, ProgramPart, DeclarationsPart, DeclarationPart, ProcessPart, GroupsPart, GroupPart, VariablesPart, InstancePart, ArgumentsPart, ArgumentPart, ExpressionPart, OperatorsPart, StatementPart, SimplePart, GroupsTail, ArgumentsTail, TokenPart, LevelPart, levels, step, Refuses, TooFar, fate, Operator, Level, Or, operator_terminal, rank, Rung, whole, ors, denials, relations, sums, at, tighter, rung_of, Kind, kind_terminal, IsAbsent, Reads, Moves, Stops, Halts, ExpressionRead, StatementRead, IsStated, Begin, Close, If, Integer, Logical, NameClass, Not, NotWord, Process, Semicolon, SignClass, Word}
+use Rattle.kahn_syntax.proofs.Common.{AreProper, FitsLevel, FormSpans, expression_nesting, factors, form_tree, Action, StopsAs, head_parts, Then, Else, Do, On, End, ElseTail, StatementsTail, ◌≡◌, ◌≢◌, ℕ, ◌+◌, ◌≤◌, ◌<◌, List, [], ◌∷◌, ◌++◌, ◌⊎◌, ⊎_elim, length, true, false, cond, Some, None, Result, Ok, Err, true≢false, refl, sym, ap, ◌∙◌, subst, arith, append_assoc, Span, Class, Lexeme, MatchResult, Expression, Form, Covers, Statement, Stop, Refused, TooDeep, NoMemory, Terminal, word, terminal, terminals, First, RuleToken, accepts, leads, class_of, a_kind, a_name, a_number, a_sign, a_word, an_operator, either, rules_of, starts, enters, followed, opened_by, argument_rules, declaration_rules, other_rules, process_rules, simple_rules, Part, ProgramPart, DeclarationsPart, DeclarationPart, ProcessPart, GroupsPart, GroupPart, VariablesPart, InstancePart, ArgumentsPart, ArgumentPart, ExpressionPart, OperatorsPart, StatementPart, SimplePart, GroupsTail, ArgumentsTail, TokenPart, LevelPart, levels, step, Refuses, TooFar, fate, Operator, Level, Or, operator_terminal, rank, Rung, whole, ors, denials, relations, sums, at, tighter, rung_of, Kind, kind_terminal, IsAbsent, Reads, Moves, Stops, Halts, ExpressionRead, StatementRead, IsStated, Begin, Close, If, Integer, Logical, NameClass, Not, NotWord, Process, Semicolon, SignClass, Word, Name, NameSpans, name, name_of, SomeBetween, Takes}
+use Rattle.kahn_syntax.proofs.Spanning.{some_more}
 use Rattle.std.specs.Result.{IsErrAnd}
 use Rattle.kahn_syntax.specs.inner.Reads.{PartRead}
 use Rattle.kahn_syntax.proofs.{WholePrograms.take_kind, WholePrograms.skip_variables, Reached.go_far, Meaning.terminals_length}
@@ -109,6 +110,40 @@ pub last_member : (text : List ℕ) (d : ℕ) (ps : List Part) (u : Part) (t : R
 last_member text d ps u t p qs c i o a l g k m r f =
     then m
     (then (call text d d (p ∷ []) (u ∷ qs) o a l r) (ends text d u t (p ∷ u ∷ []) qs c a g k f))
+
+-- what was read of members with k between, so far: one more, and all of them span what was read
+pub record AreMembers {X : Type 0} (text : List ℕ) (k : Terminal) (P : X → List Lexeme → List Lexeme → Type 0) (ps those : List Part) (us : List X) (i o : List Lexeme) : Type 0 where
+  pub spans : (x : X) (r : List Lexeme) → P x o r → SomeBetween (Takes text k) P (us ++ x ∷ []) i r
+  pub shorter : length o ≤ length i
+  pub proper : AreProper text o
+  pub reads : Moves text 0 ps those i o
+
+pub members_begin : {X : Type 0} (text : List ℕ) (k : Terminal) (P : X → List Lexeme → List Lexeme → Type 0) (ps those : List Part) (us : List X) (i : List Lexeme) → us ≡ [] → AreProper text i →
+    Moves text 0 ps those i i → AreMembers text k P ps those us i i
+members_begin text k P ps those us i e p m =
+    record { spans = λ x r q. subst (λ vs. SomeBetween (Takes text k) P (vs ++ x ∷ []) i r) (sym e) (r, q, refl); shorter = omega arith; proper = p; reads = m }
+
+module _ {X : Type 0} (text : List ℕ) (k : Terminal) (P : X → List Lexeme → List Lexeme → Type 0) (t : RuleToken) (c : Class) (p u : Part) (ps qs : List Part) (us vs : List X) (x : X) (i o a : List Lexeme)
+    (g : IsTail u t (p ∷ u ∷ [])) (kind : class_of t ≡ Some c) (m : AreMembers text k P ps (p ∷ u ∷ qs) us i o) (h : PartRead text (p ∷ []) (P x) o a) (e : vs ≡ us ++ x ∷ []) where
+  spanned : SomeBetween (Takes text k) P vs i a
+  spanned = subst (λ ws. SomeBetween (Takes text k) P ws i a) (sym e) (m.spans x a h.spans)
+
+  pub members_more : (j : List Lexeme) → Bound 0 (p ∷ u ∷ qs) → Depth 0 (u ∷ qs) 0 → First c a j → Takes text k a j → length a ≡ length j + 1 → AreProper text j → AreMembers text k P ps (p ∷ u ∷ qs) vs i j
+  members_more j b l f takes less proper = record {
+    spans = λ y r q. some_more (Takes text k) P vs y i a j r spanned takes q;
+    shorter = omega (arith, less, h.shorter, m.shorter);
+    proper = proper;
+    reads = next_member text 0 ps u t p qs c i o a j b l g kind m.reads h.reads f;
+  }
+
+  pub members_end : Depth 0 (u ∷ qs) 0 → IsAbsent c a → SomeBetween (Takes text k) P vs i a × (length a ≤ length i) × Moves text 0 ps qs i a
+  members_end l f = (spanned, omega (arith, h.shorter, m.shorter), last_member text 0 ps u t p qs c i o a l g kind m.reads h.reads f)
+
+-- a name as a part
+pub name_read : (text : List ℕ) (n : Name) (i j : List Lexeme) → NameSpans text n i j → length i ≡ length j + 1 → AreProper text j → terminals text i ≡ name (name_of n) ∷ terminals text j →
+    PartRead text (TokenPart a_name ∷ []) (NameSpans text n) i j
+name_read text n i j spans l p words =
+    record { spans = spans; shorter = omega (arith, l); proper = p; reads = token text 0 a_name [] (name (name_of n)) i j (λ s l. omega (arith, l)) refl words }
 
 pub level_ends : (text : List ℕ) (d : ℕ) (qs : List Part) (i : List Lexeme) → Moves text d (LevelPart ∷ qs) qs i i
 level_ends text d qs i = record { fates = λ s l. skip_level 64 (qs ++ s) (terminals text i) }
@@ -277,15 +312,6 @@ opens_some text p q after qs i e n h = record {
       ∙ (sym (part q 64 (after ++ (qs ++ s)) (terminals text i)) ∙ ap (λ u. fate 64 (q ∷ u) (terminals text i)) (sym (append_assoc after qs s))))));
 }
 
-pub opens_groups : (text : List ℕ) (qs : List Part) (i : List Lexeme) → leads a_kind (terminals text i) ≡ true → Moves text 0 (GroupsPart ∷ qs) (GroupPart ∷ GroupsTail ∷ qs) i i
-opens_groups text qs i h = opens_some text GroupsPart GroupPart (GroupsTail ∷ []) qs i refl refl (starts_one a_kind _ (terminals text i) true h)
-
-pub groups_end : (text : List ℕ) (qs : List Part) (i : List Lexeme) → leads a_kind (terminals text i) ≡ false → Moves text 0 (GroupsPart ∷ qs) qs i i
-groups_end text qs i h = nothing text 0 GroupsPart qs i refl (starts_one a_kind _ (terminals text i) false h)
-
-pub variables_end : (text : List ℕ) (qs : List Part) (i : List Lexeme) → leads a_kind (terminals text i) ≡ false → Moves text 0 (VariablesPart ∷ qs) qs i i
-variables_end text qs i h = record { fates = λ s l. skip_variables 64 (qs ++ s) (terminals text i) h }
-
 pub opens_process : (text : List ℕ) (qs : List Part) (i : List Lexeme) → leads a_kind (terminals text i) ≡ false → Moves text 0 (DeclarationPart ∷ qs) (ProcessPart ∷ qs) i i
 opens_process text qs i h = record {
   fates = λ s l. part DeclarationPart 64 (qs ++ s) (terminals text i)
@@ -305,23 +331,11 @@ pub opens_declarations : (text : List ℕ) (qs : List Part) (i : List Lexeme) �
     Moves text 0 (DeclarationsPart ∷ qs) (DeclarationPart ∷ TokenPart (a_sign Semicolon) ∷ DeclarationsPart ∷ qs) i i
 opens_declarations text qs i h = opens_some text DeclarationsPart DeclarationPart (TokenPart (a_sign Semicolon) ∷ DeclarationsPart ∷ []) qs i refl refl h
 
-pub declarations_end : (text : List ℕ) (qs : List Part) (i : List Lexeme) → starts declaration_rules (terminals text i) ≡ false → Moves text 0 (DeclarationsPart ∷ qs) qs i i
-declarations_end text qs i h = nothing text 0 DeclarationsPart qs i refl (starts_followed declaration_rules (TokenPart (a_sign Semicolon) ∷ DeclarationsPart ∷ []) (terminals text i) ∙ h)
-
 -- a part of one rule that refuses what stands first
 pub no_part : (text : List ℕ) (p : Part) (t : RuleToken) (ps qs : List Part) (i : List Lexeme) (x : Stop) → rules_of p ≡ (false, (t, ps) ∷ []) →
     (leads t (terminals text i) ≡ false) × (x ≡ Refused false (length i)) → Stops text 0 (p ∷ qs) i x
 no_part text p t ps qs i x r (a, e) =
     refused text 0 p qs i x (ap (λ y. y.0) r) (ap (λ y. starts y.1 (terminals text i)) r ∙ starts_one t ps (terminals text i) false a) e
-
-pub no_group : (text : List ℕ) (qs : List Part) (i : List Lexeme) (x : Stop) → leads a_kind (terminals text i) ≡ false → x ≡ Refused false (length i) → Stops text 0 (GroupPart ∷ qs) i x
-no_group text qs i x h e = no_part text GroupPart a_kind _ qs i x refl (h, e)
-
-pub no_process : (text : List ℕ) (qs : List Part) (i : List Lexeme) (x : Stop) → IsAbsent (Word Process) i × (x ≡ Refused false (length i)) → Stops text 0 (ProcessPart ∷ qs) i x
-no_process text qs i x (a, e) = no_part text ProcessPart (a_word Process) _ qs i x refl (a (a_word Process) refl text, e)
-
-pub no_program : (text : List ℕ) (qs : List Part) (i : List Lexeme) (x : Stop) → IsAbsent (Word Begin) i × (x ≡ Refused false (length i)) → Stops text 0 (ProgramPart ∷ qs) i x
-no_program text qs i x (a, e) = no_part text ProgramPart (a_word Begin) _ qs i x refl (a (a_word Begin) refl text, e)
 
 pub no_instance : (text : List ℕ) (qs : List Part) (i : List Lexeme) (x : Stop) → (x ≡ NoMemory) ⊎ ((leads a_name (terminals text i) ≡ false) × (x ≡ Refused false (length i))) →
     Stops text 0 (InstancePart ∷ qs) i x

@@ -48,10 +48,9 @@ long_comment text a b inside long word =
     absurd (omega arith)
 
 large_class : (text : List ℕ) (a b : ℕ) (u : Class) → IsRun text a b → largest_number < digits_value 10 (slice_range text a b) → IsOfClass text u a b → ⊥
-large_class text a b (Word k) run large p = letter_digit _ p.0.1 (run_first text a b run)
-large_class text a b Name run large p = letter_digit _ p.0.1 (run_first text a b run)
 large_class text a b (Number n) run large p = absurd (omega (arith, large, p.2))
 large_class text a b (Sign s) run large p = sign_digit _ (sign_begins text s a b p).byte (run_first text a b run)
+large_class text a b _ run large p = letter_digit _ p.0.1 (run_first text a b run)
 
 long_class : (text : List ℕ) (a b : ℕ) (u : Class) → b ≤ length text → IsWord text a b → a + 64 < b → IsOfClass text u a b → ⊥
 long_class text a b (Word k) inside word long p =
@@ -65,19 +64,12 @@ long_class text a b (Sign s) inside word long p = sign_letter _ (sign_begins tex
 -- a fault stands within its text
 pub fault_inside : (text : List ℕ) (a : ℕ) (e : SyntaxFault) → IsFaultAt text a e → a < length text
 fault_inside text a (BadCharacter at) (f, bad) = omega (arith, f, bad.0.0, bad.0.2.0)
-fault_inside text a (NumberTooLarge at) (f, large) =
-    let g : at.from < at.to = form_grows text at.from at.to large.0.form in
-    omega (arith, f, large.0.inside)
-fault_inside text a (CommentOpen at) (f, opens) =
-    let g : at.from < at.to = form_grows text at.from at.to opens.0.form in
-    omega (arith, f, opens.0.inside)
-fault_inside text a (NameTooLong at) (f, long) =
-    let g : at.from < at.to = form_grows text at.from at.to long.0.form in
-    omega (arith, f, long.0.inside)
+fault_inside text a (NumberTooLarge at) (f, large) = omega (arith, f, large.0.inside, form_grows text at.from at.to large.0.form)
+fault_inside text a (CommentOpen at) (f, opens) = omega (arith, f, opens.0.inside, form_grows text at.from at.to opens.0.form)
+fault_inside text a (NameTooLong at) (f, long) = omega (arith, f, long.0.inside, form_grows text at.from at.to long.0.form)
 fault_inside text a _ h = absurd h
 
 fault_stops : (text : List ℕ) (n a : ℕ) (e : SyntaxFault) (zs : List Lexeme) → a < n → IsFaultAt text a e → Walk text n a zs → ⊥
-fault_stops text n a TooLong zs more h w = h
 fault_stops text n a (BadCharacter at) zs more (e, bad) w =
     stops text n at.from zs (omega (arith, e)) bad.1 (λ m k. bad.2 k.0 k.1.inside k.1.form)
     (λ x f p. bad.2 x.span.to p.longest.inside (subst (λ (j : ℕ). HasForm text j x.span.to) f p.longest.form))
@@ -91,9 +83,7 @@ fault_stops text n a (CommentOpen at) zs more (e, opens) w =
 fault_stops text n a (NameTooLong at) zs more (e, long) w =
     stops_long text n at.from at.to zs (omega (arith, e)) long.0 (λ word m k. absurd (long_comment text at.from at.to long.0.inside long.2 word))
     (λ u p. long_class text at.from at.to u long.0.inside long.1 long.2 p) (subst (λ (j : ℕ). Walk text n j zs) (sym e) w)
-fault_stops text n a (Expected at what) zs more h w = h
-fault_stops text n a (TooDeep at) zs more h w = h
-fault_stops text n a NoMemory zs more h w = h
+fault_stops text n a _ zs more h w = h
 
 -- a fault at a, with lexemes before, leaves the text without lexemes up to any place after it
 pub no_list : (text : List ℕ) (n a : ℕ) (e : SyntaxFault) (xs ys : List Lexeme) → a < n → Lexed text 0 a xs → IsFaultAt text a e → Lexed text 0 n ys → ⊥

@@ -1,7 +1,7 @@
 -- A text has one fault, want of memory aside.
 use Rattle.kahn_syntax.proofs.Common.{IsCharacter, slice_index, ◌+◌, ◌≤◌, IsBlank, IsRun, IsWord, IsCommentWord, HasForm, largest_number, digits_value, slice_range, ◌≡◌, ℕ, ◌<◌, ◌⊎◌, List, [], ◌∷◌, ◌++◌, length, inl, inr, refl, sym, ap, subst, ◌∙◌, arith, append_assoc, append-nil, Span, Lexeme, SyntaxFault, TooLong, BadCharacter, NumberTooLarge, CommentOpen, NameTooLong, Expected, More, Nothing, Other, IsLongest, IsReached, IsLexFault, most_bytes, IsFaultAt, Terminal, terminal, terminals, Spells, Begins, BeginsWithin, IsNothing, IsOther, IsTooDeep, IsFault, AreLexemes, IsTextFault}
 use Rattle.kahn_syntax.specs.declared.fault.SyntaxFault.TheVariants.{TooDeep, NoMemory}
-use Rattle.kahn_syntax.proofs.{Meaning.terminals_append, NoList.no_list, NoList.fault_inside, NoList.long_comment, OneList.order, OneList.run_first, OneList.same_end, OneList.same_lexemes, Signs.letter_digit}
+use Rattle.kahn_syntax.proofs.{Meaning.terminals_append, NoList.no_list, NoList.fault_inside, NoList.long_comment, OneList.by_order, OneList.run_first, OneList.same_end, OneList.same_lexemes, Signs.letter_digit}
 
 abbrev Agree : SyntaxFault → SyntaxFault → Type 0
 Agree e f = (e ≡ NoMemory) ⊎ (f ≡ NoMemory) ⊎ (e ≡ f)
@@ -17,12 +17,8 @@ IsBadCharacter text at = IsCharacter text at × ¬ (IsBlank (slice_index text at
 
 -- one character of the text ends at one place
 same_character : (text : List ℕ) (a : Span) (b : Span) → a.from ≡ b.from → IsBadCharacter text a → IsBadCharacter text b → a ≡ b
-same_character text a b e p q = go (order a.to b.to)
-  where
-    go : (a.to ≡ b.to) ⊎ (a.to < b.to) ⊎ (b.to < a.to) → a ≡ b
-    go (inl f) = same_span a b e f
-    go (inr (inl h)) = absurd (q.0.3 a.to (omega (arith, e, p.0.0)) h p.0.2)
-    go (inr (inr h)) = absurd (p.0.3 b.to (omega (arith, e, q.0.0)) h q.0.2)
+same_character text a b e p q =
+    by_order a.to b.to (same_span a b e) (λ h. q.0.3 a.to (omega (arith, e, p.0.0)) h p.0.2) (λ h. p.0.3 b.to (omega (arith, e, q.0.0)) h q.0.2)
 
 same_long : (text : List ℕ) (a : Span) (b : Span) → a.from ≡ b.from → IsLongest text a.from a.to → IsLongest text b.from b.to → a ≡ b
 same_long text a b e p q = same_span a b e (same_end text b.from a.to b.to (subst (λ (m : ℕ). IsLongest text m a.to) e p) q)
@@ -81,12 +77,9 @@ lex_fault text NoMemory h = no_memory refl
 lex_fault text e (a, r, h) = reached a r h
 
 same_reached : (text : List ℕ) (a b : ℕ) (e f : SyntaxFault) → IsReached text a → IsFaultAt text a e → IsReached text b → IsFaultAt text b f → e ≡ f
-same_reached text a b e f r h s k = go (order a b)
-  where
-    go : (a ≡ b) ⊎ (a < b) ⊎ (b < a) → e ≡ f
-    go (inl same) = same_at text b e f (fault_at text b e (subst (λ (j : ℕ). IsFaultAt text j e) same h)) (fault_at text b f k)
-    go (inr (inl less)) = absurd (no_list text b a e r.1.0 s.1.0 less r.1.1 h s.1.1)
-    go (inr (inr less)) = absurd (no_list text a b f s.1.0 r.1.0 less s.1.1 k r.1.1)
+same_reached text a b e f r h s k =
+    by_order a b (λ same. same_at text b e f (fault_at text b e (subst (λ (j : ℕ). IsFaultAt text j e) same h)) (fault_at text b f k))
+    (λ less. no_list text b a e r.1.0 s.1.0 less r.1.1 h s.1.1) (λ less. no_list text a b f s.1.0 r.1.0 less s.1.1 k r.1.1)
 
 same_lexical : (text : List ℕ) (e f : SyntaxFault) → LexFault text e → LexFault text f → Agree e f
 same_lexical text e f (no_memory p) k = inl p

@@ -1,5 +1,5 @@
 -- A text has one list of lexemes.
-use Rattle.kahn_syntax.proofs.Common.{◌≡◌, ℕ, ◌+◌, ◌≤◌, ◌<◌, ◌⊎◌, ◌++◌, List, [], ◌∷◌, get_or, refl, sym, ap, subst, ◌∙◌, arith, inl, inr, nat_tests, Lexeme, Class, Word, Number, IsBlank, IsRun, HasForm, IsLongest, IsCommentWord, IsOfClass, IsLexemeAt, Closes, IsComment, Gap, no_gap, then_blank, then_comment, Lexed}
+use Rattle.kahn_syntax.proofs.Common.{◌≡◌, ℕ, ◌+◌, ◌≤◌, ◌<◌, ◌⊎◌, ◌++◌, List, [], ◌∷◌, get_or, refl, sym, ap, subst, ◌∙◌, arith, inl, inr, nat_tests, Lexeme, Class, Word, Number, IsBlank, IsRun, HasForm, IsLongest, IsCommentWord, IsOfClass, IsLexemeAt, Closes, IsComment, Gap, no_gap, then_blank, then_comment, Lexed, ⊎_elim}
 use Rattle.kahn_syntax.specs.declared.lexeme.Class.TheVariants.{Name, Sign}
 use Rattle.kahn_syntax.proofs.{Keywords.same_keyword, Keywords.not_comment, Signs.sign_begins, Signs.same_sign, Signs.sign_letter, Signs.sign_digit, Signs.sign_blank, Signs.letter_digit, Signs.letter_blank, Signs.digit_blank}
 
@@ -18,36 +18,29 @@ form_dark text a b (inl word) blank = letter_blank _ word.1 blank
 form_dark text a b (inr (inl run)) blank = digit_blank _ (run_first text a b run) blank
 form_dark text a b (inr (inr (s, sign))) blank = sign_blank _ (sign_begins text s a b sign).byte blank
 
-pub order : (b c : ℕ) → (b ≡ c) ⊎ (b < c) ⊎ (c < b)
-order b c = grind (arith, nat_tests)
+-- two numbers are one where neither is the lesser
+pub by_order : {P : Type 0} (b c : ℕ) → (b ≡ c → P) → (b < c → ⊥) → (c < b → ⊥) → P
+by_order b c same less more =
+    let either : (b ≡ c) ⊎ (b < c) ⊎ (c < b) = grind (arith, nat_tests) in ⊎_elim same (⊎_elim (λ l. absurd (less l)) (λ l. absurd (more l))) either
 
 pub same_end : (text : List ℕ) (a b c : ℕ) → IsLongest text a b → IsLongest text a c → b ≡ c
-same_end text a b c p q = go (order b c)
-  where
-    go : (b ≡ c) ⊎ (b < c) ⊎ (c < b) → b ≡ c
-    go (inl e) = e
-    go (inr (inl shorter)) = absurd (p.longest c shorter q.inside q.form)
-    go (inr (inr longer)) = absurd (q.longest b longer p.inside p.form)
+same_end text a b c p q = by_order b c (λ e. e) (λ shorter. p.longest c shorter q.inside q.form) (λ longer. q.longest b longer p.inside p.form)
 
 -- classes
 
 same_class : (text : List ℕ) (a b : ℕ) (u v : Class) → IsOfClass text u a b → IsOfClass text v a b → u ≡ v
-same_class text a b (Word k) (Word l) p q = ap Word (same_keyword k l (sym p.1 ∙ q.1))
-same_class text a b (Word k) Name p q = absurd (q.3 k p.1)
-same_class text a b (Word k) (Number n) p q = absurd (letter_digit _ p.0.1 (run_first text a b q.0))
-same_class text a b (Word k) (Sign s) p q = absurd (sign_letter _ (sign_begins text s a b q).byte p.0.1)
-same_class text a b Name (Word l) p q = absurd (p.3 l q.1)
-same_class text a b Name Name p q = refl
-same_class text a b Name (Number n) p q = absurd (letter_digit _ p.0.1 (run_first text a b q.0))
-same_class text a b Name (Sign s) p q = absurd (sign_letter _ (sign_begins text s a b q).byte p.0.1)
-same_class text a b (Number m) (Word l) p q = absurd (letter_digit _ q.0.1 (run_first text a b p.0))
-same_class text a b (Number m) Name p q = absurd (letter_digit _ q.0.1 (run_first text a b p.0))
 same_class text a b (Number m) (Number n) p q = ap Number (p.1 ∙ sym q.1)
 same_class text a b (Number m) (Sign s) p q = absurd (sign_digit _ (sign_begins text s a b q).byte (run_first text a b p.0))
-same_class text a b (Sign s) (Word l) p q = absurd (sign_letter _ (sign_begins text s a b p).byte q.0.1)
-same_class text a b (Sign s) Name p q = absurd (sign_letter _ (sign_begins text s a b p).byte q.0.1)
 same_class text a b (Sign s) (Number n) p q = absurd (sign_digit _ (sign_begins text s a b p).byte (run_first text a b q.0))
 same_class text a b (Sign s) (Sign t) p q = ap Sign (same_sign text s t a b p q)
+same_class text a b (Number m) _ p q = absurd (letter_digit _ q.0.1 (run_first text a b p.0))
+same_class text a b _ (Number n) p q = absurd (letter_digit _ p.0.1 (run_first text a b q.0))
+same_class text a b (Sign s) _ p q = absurd (sign_letter _ (sign_begins text s a b p).byte q.0.1)
+same_class text a b _ (Sign s) p q = absurd (sign_letter _ (sign_begins text s a b q).byte p.0.1)
+same_class text a b (Word k) (Word l) p q = ap Word (same_keyword k l (sym p.1 ∙ q.1))
+same_class text a b (Word k) Name p q = absurd (q.3 k p.1)
+same_class text a b Name (Word l) p q = absurd (p.3 l q.1)
+same_class text a b Name Name p q = refl
 
 pub no_comment : (text : List ℕ) (a b : ℕ) (u : Class) → IsOfClass text u a b → IsCommentWord text a b → ⊥
 no_comment text a b (Word k) p q = not_comment k (sym p.1 ∙ q.1)
@@ -56,12 +49,8 @@ no_comment text a b (Number n) p q = letter_digit _ q.0.1 (run_first text a b p.
 no_comment text a b (Sign s) p q = sign_letter _ (sign_begins text s a b p).byte q.0.1
 
 same_close : (text : List ℕ) (a b c : ℕ) → Closes text a b → Closes text a c → b ≡ c
-same_close text a b c p q = go (order p.0 q.0)
-  where
-    go : (p.0 ≡ q.0) ⊎ (p.0 < q.0) ⊎ (q.0 < p.0) → b ≡ c
-    go (inl e) = p.1 ∙ (ap (λ n. n + 1) e ∙ sym q.1)
-    go (inr (inl sooner)) = absurd (q.5 p.0 p.2 sooner p.4)
-    go (inr (inr later)) = absurd (p.5 q.0 q.2 later q.4)
+same_close text a b c p q =
+    by_order p.0 q.0 (λ e. p.1 ∙ (ap (λ n. n + 1) e ∙ sym q.1)) (λ sooner. q.5 p.0 p.2 sooner p.4) (λ later. p.5 q.0 q.2 later q.4)
 
 pub same_comment : (text : List ℕ) (a b c : ℕ) → IsComment text a b → IsComment text a c → b ≡ c
 same_comment text a b c p q =

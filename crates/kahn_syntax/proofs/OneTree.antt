@@ -43,8 +43,7 @@ same_names ns ms ks r q x y h g = same_some (a_sign Comma) (sign Comma) spelling
 same_kind : (k l : Kind) (r q : List Terminal) → kind_terminal k ∷ r ≡ kind_terminal l ∷ q → k ≡ l
 same_kind kind.Integer kind.Integer r q e = refl
 same_kind kind.Logical kind.Logical r q e = refl
-same_kind kind.Integer kind.Logical r q e = absurd cc
-same_kind kind.Logical kind.Integer r q e = absurd cc
+same_kind _ _ r q e = absurd cc
 
 same_role : (a b : Role) (r q : List Terminal) → role_words a (word Channel ∷ r) ≡ role_words b (word Channel ∷ q) → (a ≡ b) × (r ≡ q)
 same_role role.Inner role.Inner r q e = (refl, cc)
@@ -213,10 +212,9 @@ same_argues (truth_argument true) _ ks r q e f = absurd cc
 same_argues _ _ ks r q e f = absurd cc
 
 not_close : (a : ArgumentTree) (ks r x : List Terminal) → Argues a ks r → ks ≡ sign Close ∷ x → ⊥
-not_close (channel n) ks r x e p = cc
 not_close (truth_argument true) ks r x e p = cc
-not_close (truth_argument false) ks r x e p = cc
 not_close (number_argument z) ks r x e p = ⊎_elim (λ g. absurd cc) (λ (i, b, o, g, h). absurd cc) e
+not_close _ ks r x e p = cc
 
 same_arguments : (xs ys : List ArgumentTree) (ks r q : List Terminal) → Between (StandsFirst (sign Comma)) Argues xs ks (sign Close ∷ r) → Between (StandsFirst (sign Comma)) Argues ys ks (sign Close ∷ q) → (xs ≡ ys) × (r ≡ q)
 same_arguments [] [] ks r q e f = (refl, cc)

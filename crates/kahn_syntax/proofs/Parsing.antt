@@ -3,13 +3,14 @@ pub use Rattle.kahn_syntax.proofs.Common.{declarations_nesting, TakesAll, Parame
 pub use Rattle.kahn_syntax.proofs.Levels.{compared_fits, formed_next, height, joined_made, joined_nesting, level_fits, operands_nesting_next}
 pub use Rattle.kahn_syntax.proofs.Lists.{first_of, next_made, next_passed, next_proper, next_unsigned}
 pub use Rattle.kahn_syntax.proofs.Meaning.{deep_left, deep_memory, halts_memory, is_more, is_nothing, is_other, is_too_deep, refused_left, refused_memory}
-pub use Rattle.kahn_syntax.proofs.Moves.{absent, call, call_stops, choice_parts, comparison, conditional_parts, declarations_end, deep, ends, expected, goes, groups_end, halts, kind_moves, last_member, level_chain, level_ends, made, made_one, memory_alone, next_member, no_group, no_instance, no_name, no_process, no_program, nothing, one, one_argument, only_memory, opened, opened_simple, opens_arguments, opens_chain, opens_declarations, opens_denial, opens_groups, opens_process, opens_simple, opens_whole, operator_more, process_parts, refused, send_parts, stated, stopped, then, then_stops, token, unexpected, variables_end, while_parts, whole_end}
+pub use Rattle.kahn_syntax.proofs.Moves.{AreMembers, members_begin, members_end, members_more, name_read, no_part, opens_some, absent, call, call_stops, choice_parts, comparison, conditional_parts, deep, ends, expected, goes, halts, kind_moves, last_member, level_chain, level_ends, made, made_one, memory_alone, next_member, no_instance, no_name, nothing, one, one_argument, only_memory, opened, opened_simple, opens_arguments, opens_chain, opens_declarations, opens_denial, opens_process, opens_simple, opens_whole, operator_more, process_parts, refused, send_parts, stated, stopped, then, then_stops, token, unexpected, while_parts, whole_end}
 pub use Rattle.kahn_syntax.proofs.Negative.{negative_fits, number_fits}
 pub use Rattle.kahn_syntax.proofs.OneFault.{one_fault}
 pub use Rattle.kahn_syntax.proofs.OneList.{same_lexemes}
 pub use Rattle.kahn_syntax.proofs.OneTree.{one_tree}
 pub use Rattle.kahn_syntax.proofs.Proper.{lexed_proper}
 pub use Rattle.kahn_syntax.proofs.Rows.{operands_made, operands_row_spans, statements_made, statements_row_spans}
-pub use Rattle.kahn_syntax.proofs.Spanning.{SomeArgumentsSpan, SomeParametersSpan, SomeStatements, declarations_next, name_first, no_operands, none_left, operands_next, parameters_first, parameters_next, some_are_parameters, some_between, some_more, takes as one_lexeme, variables_next}
+pub use Rattle.kahn_syntax.proofs.Spanning.{SomeParametersSpan, SomeStatements, declarations_next, name_first, no_operands, none_left, operands_next, parameters_first, parameters_next, some_are_parameters, some_between, some_more, takes as one_lexeme, variables_next}
 pub use Rattle.kahn_syntax.proofs.Spelled.{nesting_more, program_spelled}
+pub use Rattle.kahn_syntax.proofs.Steps.{starts_followed, starts_one}
 pub use Rattle.kahn_syntax.proofs.Statements.{formed_next as formed_statements_next, nesting_next, some_next}

@@ -55,10 +55,6 @@ some_between T P (u ∷ us) xs r h = h
 abbrev pub SomeStatements : List ℕ → List Statement → List Lexeme → List Lexeme → Type 0
 SomeStatements text ss xs r = SomeBetween (Takes text (sign Semicolon)) (StatementSpans text) ss xs r
 
--- one argument or more
-abbrev pub SomeArgumentsSpan : List ℕ → List Argument → List Lexeme → List Lexeme → Type 0
-SomeArgumentsSpan text us xs r = SomeBetween (Takes text (sign Comma)) (ArgumentSpans text) us xs r
-
 all_members_more : {A N M : Type 0} (make : A → N → M) (gs : List (Grouped A N)) (g : Grouped A N) → all_members make (gs ++ g ∷ []) ≡ all_members make gs ++ members_of make g
 all_members_more make [] g = append-nil (members_of make g)
 all_members_more make (u ∷ gs) g =

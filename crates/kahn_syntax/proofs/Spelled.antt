@@ -164,19 +164,11 @@ declaration_spelled : (text : List ℕ) (d : Declaration) (xs r : List Lexeme) �
 declaration_spelled text (declared.Channels k o ns) xs r (a, b, c, t, p, u, n) =
     let all = takes_all_spelled text (role_words o []) a b p in
     (terminals text a, terminals text b, terminals text c, taken text (kind_terminal k) xs a _ t refl, all, taken text (word Channel) b c _ u refl, names_spelled text ns.items c r n)
-declaration_spelled text (declared.Process p) xs r (a, b, c, d, e, begins, called, (f, g, opened, parameters, closed), variables, (statements, some, formed), ended) = (
-  terminals text a,
-  terminals text b,
-  terminals text c,
-  terminals text d,
-  terminals text e,
-  taken text (word Process) xs a _ begins refl,
-  taken text (name (name_of p.name)) a b _ called.0 refl,
-  (terminals text f, terminals text g, taken text (sign Open) b f _ opened refl, parameters_spelled text p.parameters.items f g parameters, takes_all_spelled text (sign Close ∷ sign Semicolon ∷ word Begin ∷ []) g c closed),
-  variables_spelled text p.variables.items c d variables,
-  (statements_spelled text p.statements.items d e statements, some, formed),
-  taken text (word End) e r _ ended refl,
-)
+declaration_spelled text (declared.Process p) xs r (a, b, c, d, e, begins, called, (f, g, opened, parameters, closed), variables, (statements, some, formed), ended) =
+    let head = parameters_spelled text p.parameters.items f g parameters in
+    let last = takes_all_spelled text (sign Close ∷ sign Semicolon ∷ word Begin ∷ []) g c closed in
+    let body = statements_spelled text p.statements.items d e statements in
+    (_, _, _, _, _, taken text (word Process) xs a _ begins refl, taken text (name (name_of p.name)) a b _ called.0 refl, (_, _, taken text (sign Open) b f _ opened refl, head, last), variables_spelled text p.variables.items c d variables, (body, some, formed), taken text (word End) e r _ ended refl)
 
 argument_spelled : (text : List ℕ) (x : Argument) (xs r : List Lexeme) → ArgumentSpans text x xs r → Argues (argument_tree x) (terminals text xs) (terminals text r)
 argument_spelled text (argued.Channel n) xs r h = taken text (name (name_of n)) xs r _ h.0 refl
@@ -186,15 +178,9 @@ argument_spelled text (argued.Number z at) xs r (c, inr (n, a, e, t, u)) =
 argument_spelled text (argued.Logical b at) xs r h = taken text (truth_terminal b) xs r _ h.1 refl
 
 instance_spelled : (text : List ℕ) (i : Instance) (xs r : List Lexeme) → InstanceSpans text i xs r → Instantiates (instance_tree i) (terminals text xs) (terminals text r)
-instance_spelled text i xs r (a, b, c, n, o, p, q) = (
-  terminals text a,
-  terminals text b,
-  terminals text c,
-  taken text (name (name_of i.process)) xs a _ n.0 refl,
-  taken text (sign Open) a b _ o refl,
-  between_spelled text (sign Comma) (ArgumentSpans text) Argues argument_tree (argument_spelled text) i.arguments.items b c p,
-  taken text (sign Close) c r _ q refl,
-)
+instance_spelled text i xs r (a, b, c, n, o, p, q) =
+    let arguments = between_spelled text (sign Comma) (ArgumentSpans text) Argues argument_tree (argument_spelled text) i.arguments.items b c p in
+    (_, _, _, taken text (name (name_of i.process)) xs a _ n.0 refl, taken text (sign Open) a b _ o refl, arguments, taken text (sign Close) c r _ q refl)
 
 instances_spelled : (text : List ℕ) (is : List Instance) (xs r : List Lexeme) → InstancesSpan text is xs r → SomeBetween (StandsFirst (word Par)) Instantiates (map instance_tree is) (terminals text xs) (terminals text r)
 instances_spelled text is xs r h = some_spelled text (word Par) (InstanceSpans text) Instantiates instance_tree (instance_spelled text) is xs r h
@@ -204,19 +190,9 @@ part_spelled text xs r (inl t) = inl (taken text (sign Semicolon) xs r _ t refl)
 part_spelled text xs r (inr e) = inr (ap (terminals text) e)
 
 pub program_spelled : (text : List ℕ) (p : Program) (xs : List Lexeme) → ProgramSpans text p xs → Spells (program_tree p) (terminals text xs)
-program_spelled text p xs (a, b, c, d, e, t, f, g, h, u, v) = (
-  terminals text a,
-  terminals text b,
-  terminals text c,
-  terminals text d,
-  terminals text e,
-  taken text (word Begin) xs a _ t refl,
-  ended_spelled text (sign Semicolon) (DeclarationSpans text) SpellsDeclaration declaration_tree (declaration_spelled text) p.declarations.items a b f,
-  instances_spelled text p.instances.items b c g,
-  part_spelled text c d h,
-  taken text (word End) d e _ u refl,
-  part_spelled text e [] v,
-)
+program_spelled text p xs (a, b, c, d, e, t, f, g, h, u, v) =
+    let declarations = ended_spelled text (sign Semicolon) (DeclarationSpans text) SpellsDeclaration declaration_tree (declaration_spelled text) p.declarations.items a b f in
+    (_, _, _, _, _, taken text (word Begin) xs a _ t refl, declarations, instances_spelled text p.instances.items b c g, part_spelled text c d h, taken text (word End) d e _ u refl, part_spelled text e [] v)
 
 pub nesting_more : (ds : List Declaration) (d : Declaration) → declarations_nesting (map declaration_tree ds) ≤ 64 → declaration_nesting (declaration_tree d) ≤ 64 →
     declarations_nesting (map declaration_tree (ds ++ d ∷ [])) ≤ 64

@@ -3,30 +3,20 @@ use Rattle.kahn_syntax.proofs.Common.{◌≡◌, ℕ, ◌+◌, ◌≤◌, List, 
 use Rattle.kahn_syntax.proofs.Blocks.{EndsSimple, EndsStatement, EndsAfter, EndsBlock, simple_expression, statement_simple, statement_after, no_more, block_statement}
 use Rattle.kahn_syntax.proofs.{Steps.go, Steps.skip_level, Steps.take_token, Steps.skip_tail, WholeExpressions.whole_expression}
 
-skip_simple : (m : ℕ) (s : List Part) (r : List Terminal) → EndsSimple r → fate m (SimplePart ∷ s) r ≡ fate m s r
-skip_simple m s [] h = absurd h
-skip_simple m s (sign Semicolon ∷ r) h = refl
-skip_simple m s (word End ∷ r) h = refl
-skip_simple m s (word Else ∷ r) h = refl
-skip_simple m s (k ∷ r) h = absurd h
-
-skip_statement : (m : ℕ) (s : List Part) (r : List Terminal) → EndsSimple r → fate m (StatementPart ∷ s) r ≡ fate m s r
-skip_statement m s [] h = absurd h
-skip_statement m s (sign Semicolon ∷ r) h = refl
-skip_statement m s (word End ∷ r) h = refl
-skip_statement m s (word Else ∷ r) h = refl
-skip_statement m s (k ∷ r) h = absurd h
+skip_empty : (m : ℕ) (s : List Part) (r : List Terminal) → EndsSimple r → (fate m (SimplePart ∷ s) r ≡ fate m s r) × (fate m (StatementPart ∷ s) r ≡ fate m s r)
+skip_empty m s (sign Semicolon ∷ r) h = (refl, refl)
+skip_empty m s (word End ∷ r) h = (refl, refl)
+skip_empty m s (word Else ∷ r) h = (refl, refl)
+skip_empty m s _ h = absurd h
 
 no_else_leads : (r : List Terminal) → EndsStatement r → leads (a_word Else) r ≡ false
-no_else_leads [] h = absurd h
 no_else_leads (sign Semicolon ∷ r) h = refl
 no_else_leads (word End ∷ r) h = refl
-no_else_leads (k ∷ r) h = absurd h
+no_else_leads _ h = absurd h
 
 no_semicolon_leads : (r : List Terminal) → EndsBlock r → leads (a_sign Semicolon) r ≡ false
-no_semicolon_leads [] h = absurd h
 no_semicolon_leads (word End ∷ r) h = refl
-no_semicolon_leads (k ∷ r) h = absurd h
+no_semicolon_leads _ h = absurd h
 
 whole_assign : (x : List ℕ) (v : ExpressionTree) (m : ℕ) (s : List Part) (r : List Terminal) → Formed v → EndsSimple r → levels s + expression_nesting v ≤ m →
     fate m (SimplePart ∷ s) (statement_words (assign x v) r) ≡ fate m s r
@@ -66,7 +56,7 @@ whole_test c m s w f n =
 mutual
   whole_simple : (t : StatementTree) (m : ℕ) (s : List Part) (r : List Terminal) → IsSimple t → FormedStatement t → EndsSimple r →
       levels s + statement_nesting t ≤ m → fate m (SimplePart ∷ s) (statement_words t r) ≡ fate m s r
-  whole_simple empty m s r i f e n = skip_simple m s r e
+  whole_simple empty m s r i f e n = (skip_empty m s r e).0
   whole_simple (assign x v) m s r i f e n = whole_assign x v m s r f e n
   whole_simple (send v x) m s r i f e n = whole_send v x m s r f n
   whole_simple (print v) m s r i f e n = whole_print v m s r f e n
@@ -76,7 +66,7 @@ mutual
 
   whole_statement : (t : StatementTree) (m : ℕ) (s : List Part) (r : List Terminal) → FormedStatement t → EndsAfter t r →
       levels s + statement_nesting t ≤ m → fate m (StatementPart ∷ s) (statement_words t r) ≡ fate m s r
-  whole_statement empty m s r f e n = skip_statement m s r e
+  whole_statement empty m s r f e n = (skip_empty m s r e).1
   whole_statement (assign x v) m s r f e n = whole_assign x v m s r f e n
   whole_statement (send v x) m s r f e n = whole_send v x m s r f n
   whole_statement (print v) m s r f e n = whole_print v m s r f e n

@@ -1,5 +1,8 @@
 //! Why a text is no program.
 
+ghost use Rattle.std.specs.Prelude.{◌≡◌};
+ghost use Rattle.kahn_syntax.specs.declared.fault.SyntaxFault.TheVariants.{NoMemory};
+
 use kahn_streams::Span;
 use std::alloc::{AllocError, AllocFailed};
 use thiserror::Error;
@@ -48,9 +51,6 @@ pub enum SyntaxFault {
 }
 
 impl From<AllocError> for SyntaxFault {
-    ghost use Rattle.std.specs.Prelude.{◌≡◌};
-    ghost use Rattle.kahn_syntax.specs.declared.fault.SyntaxFault.TheVariants.{NoMemory};
-
     ghost from_gives = { λ _ e. e ≡ NoMemory };
 
     fn from(_error: AllocError) -> Self {
@@ -59,9 +59,6 @@ impl From<AllocError> for SyntaxFault {
 }
 
 impl<T: Drop> From<AllocFailed<T>> for SyntaxFault {
-    ghost use Rattle.std.specs.Prelude.{◌≡◌};
-    ghost use Rattle.kahn_syntax.specs.declared.fault.SyntaxFault.TheVariants.{NoMemory};
-
     ghost from_gives = { λ _ e. e ≡ NoMemory };
 
     fn from(_error: AllocFailed<T>) -> Self {

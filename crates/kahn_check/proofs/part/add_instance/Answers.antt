@@ -7,9 +7,9 @@ pub returns-clause-numbers : goal.returns-clause-numbers
 returns-clause-numbers c =
     let g = known c.args.globals.now in
     let x = c.args.instance.now in
-    let p = c.in-Process.process.now in
-    let k = c.in-Process.declared in
+    let p = c.in-Some-Process.process.now in
+    let k = c.in-Some-Process.declared in
     let m : meant g x ≡ Some (IsProcess p) = grind arith in
-    let is : c.find.result ≡ Some (E.Process k c.in-Process.process) = search rules in
+    let is : c.find.result ≡ Some (E.Process k c.in-Some-Process.process) = search rules in
     on_ok c.add-2.result _
     (λ ds h. seat_numbered ds g x p c.args.processes.now.items c.push.new.self.items k m (subst (λ o. IfSome o (IsPlaced ds)) is (c.find.ensures.placed ds h)) (search rules))

@@ -16,18 +16,7 @@ returns-in_err-process-in-None c = stopped _ _ c.from_residual-in_err-process-in
 pub returns-in_ok-names-in-Some : goal.returns-in_ok-names-in-Some
 returns-in_ok-names-in-Some c =
     record {
-      spans = let T = c.args.text.now in (
-        omega arith,
-        (
-          c.in-Some.rest.now,
-          c.read_role-role.result.1.now,
-          c.in_ok-rest-in-Some.rest.now,
-          (one_lexeme T (kind_terminal c.in-Some.kind) c.args.input.now c.in-Some.rest.now c.in-Some.ensures.passed (c.in-Some.ensures.first T)),
-          c.read_role-role.ensures.spans T,
-          (one_lexeme T (word Channel) c.read_role-role.result.1.now c.in_ok-rest-in-Some.rest.now c.in_ok-rest-in-Some.ensures.passed (c.in_ok-rest-in-Some.ensures.first.1 T)),
-          c.in_ok-names-in-Some.ensures.spans,
-        ),
-      );
+      spans = let T = c.args.text.now in (omega arith, (_, _, _, (one_lexeme T (kind_terminal c.in-Some.kind) c.args.input.now c.in-Some.rest.now c.in-Some.ensures.passed (c.in-Some.ensures.first T)), c.read_role-role.ensures.spans T, (one_lexeme T (word Channel) c.read_role-role.result.1.now c.in_ok-rest-in-Some.rest.now c.in_ok-rest-in-Some.ensures.passed (c.in_ok-rest-in-Some.ensures.first.1 T)), c.in_ok-names-in-Some.ensures.spans));
       shorter = omega (arith, c.in-Some.ensures.shorter, c.read_role-role.ensures.shorter, c.in_ok-rest-in-Some.ensures.shorter, c.in_ok-names-in-Some.ensures.shorter);
       proper = c.in_ok-names-in-Some.ensures.proper;
       reads = (then (then (then (kind_moves c.args.text.now 0 DeclarationPart [] (RolePart ∷ TokenPart (a_word Channel) ∷ TokenPart a_name ∷ NamesTail ∷ []) c.in-Some.kind c.args.input.now c.in-Some.rest.now (λ s l. omega (arith, l)) (λ s. refl) (λ s. refl) (c.in-Some.ensures.first c.args.text.now)) (call c.args.text.now 0 0 (RolePart ∷ []) (TokenPart (a_word Channel) ∷ TokenPart a_name ∷ NamesTail ∷ []) c.in-Some.rest.now c.read_role-role.result.1.now (λ s l. omega (arith, l)) (c.read_role-role.ensures.reads c.args.text.now))) (expected c.args.text.now 0 (a_word Channel) (TokenPart a_name ∷ NamesTail ∷ []) (Word Channel) c.read_role-role.result.1.now c.in_ok-rest-in-Some.rest.now (λ s l. omega (arith, l)) refl c.in_ok-rest-in-Some.ensures.first)) (call c.args.text.now 0 0 (TokenPart a_name ∷ NamesTail ∷ []) ([]) c.in_ok-rest-in-Some.rest.now c.in_ok-names-in-Some.rest.now (λ s l. omega (arith, l)) c.in_ok-names-in-Some.ensures.reads));

@@ -1,4 +1,4 @@
-use Rattle.kahn_syntax.proofs.Parsing.{◌≤◌, Ended, Takes, DeclarationSpans, declarations_nesting, DeclarationPart, DeclarationsPart, Semicolon, SignClass, TokenPart, a_sign, arith, call, call_stops, declaration_tree, declaration_rules, declarations_end, declarations_next, stopped, expected, false, map, one_lexeme, opens_declarations, refl, rules, sign, nesting_more, starts, subst, sym, terminals, then, then_stops, true, unexpected, [], ◌∷◌, ◌≡◌}
+use Rattle.kahn_syntax.proofs.Parsing.{◌≤◌, Ended, Takes, DeclarationSpans, declarations_nesting, DeclarationPart, DeclarationsPart, Semicolon, SignClass, TokenPart, a_sign, arith, call, call_stops, declaration_tree, declaration_rules, declarations_next, stopped, expected, false, map, one_lexeme, opens_declarations, refl, rules, sign, nesting_more, starts, subst, sym, terminals, then, then_stops, true, unexpected, [], ◌∷◌, ◌≡◌, nothing, starts_followed, ◌∙◌}
 use Rattle.kahn_syntax.proofs.parser.declaration.read_declarations.Goals as goal
 
 pub returns-in_err-declaration : goal.returns-in_err-declaration
@@ -27,7 +27,7 @@ returns c =
       spans = (c.declarations.invariant.nesting, c.declarations.invariant.spans);
       shorter = c.declarations.invariant.shorter;
       proper = c.declarations.invariant.proper;
-      reads = let a : starts declaration_rules (terminals c.args.text.now c.declarations.rest.now) ≡ false = search rules in (then (c.declarations.invariant.reads) (declarations_end c.args.text.now [] c.declarations.rest.now a));
+      reads = let a : starts declaration_rules (terminals c.args.text.now c.declarations.rest.now) ≡ false = search rules in (then (c.declarations.invariant.reads) (nothing c.args.text.now 0 DeclarationsPart [] c.declarations.rest.now refl (starts_followed declaration_rules (TokenPart (a_sign Semicolon) ∷ DeclarationsPart ∷ []) (terminals c.args.text.now c.declarations.rest.now) ∙ a)));
     }
 
 pub declarations-init : goal.declarations-init

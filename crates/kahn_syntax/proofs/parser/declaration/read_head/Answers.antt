@@ -51,13 +51,7 @@ returns c =
     let begun : TakesAll (lexemes T) (sign Semicolon ∷ word Begin ∷ []) c.in_ok-rest-2.rest.now c.in_ok-rest-4.rest.now =
     (c.in_ok-rest-3.rest.now, one_lexeme T (sign Semicolon) c.in_ok-rest-2.rest.now c.in_ok-rest-3.rest.now c.in_ok-rest-3.ensures.passed (c.in_ok-rest-3.ensures.first.1 T), ended) in
     record {
-      spans = (
-        c.in_ok-rest.rest.now,
-        c.in_ok-parameters.rest.now,
-        one_lexeme T (sign Open) i c.in_ok-rest.rest.now c.in_ok-rest.ensures.passed (c.in_ok-rest.ensures.first.1 T),
-        c.in_ok-parameters.ensures.spans,
-        (c.in_ok-rest-2.rest.now, one_lexeme T (sign Close) c.in_ok-parameters.rest.now c.in_ok-rest-2.rest.now c.in_ok-rest-2.ensures.passed (c.in_ok-rest-2.ensures.first.1 T), begun),
-      );
+      spans = (_, _, one_lexeme T (sign Open) i c.in_ok-rest.rest.now c.in_ok-rest.ensures.passed (c.in_ok-rest.ensures.first.1 T), c.in_ok-parameters.ensures.spans, (_, one_lexeme T (sign Close) c.in_ok-parameters.rest.now c.in_ok-rest-2.rest.now c.in_ok-rest-2.ensures.passed (c.in_ok-rest-2.ensures.first.1 T), begun));
       shorter = omega (arith, c.in_ok-rest.ensures.shorter, c.in_ok-parameters.ensures.shorter, c.in_ok-rest-2.ensures.shorter, c.in_ok-rest-3.ensures.shorter, c.in_ok-rest-4.ensures.shorter);
       proper = c.in_ok-rest-4.ensures.proper T (c.in_ok-rest-3.ensures.proper T (c.in_ok-rest-2.ensures.proper T c.in_ok-parameters.ensures.proper));
       reads = then m4 (expected T 0 (a_word Begin) [] (Word Begin) c.in_ok-rest-3.rest.now c.in_ok-rest-4.rest.now (λ s l. omega (arith, l)) refl c.in_ok-rest-4.ensures.first);

@@ -1,4 +1,4 @@
-use Rattle.kahn_syntax.proofs.Parsing.{GroupPart, GroupsPart, GroupsTail, Semicolon, SignClass, SomeParametersSpan, a_kind, a_sign, arith, call_stops, stopped, false, group, groups_end, last_member, leads, members_of, next_member, one_lexeme, opens_groups, parameter_with, parameters_first, parameters_next, refl, rules, sign, some_are_parameters, subst, sym, terminals, then_stops, true, [], ◌++◌, ◌∷◌, ◌≡◌}
+use Rattle.kahn_syntax.proofs.Parsing.{GroupPart, GroupsPart, GroupsTail, Semicolon, SignClass, SomeParametersSpan, a_kind, a_sign, arith, call_stops, stopped, false, group, last_member, leads, members_of, next_member, one_lexeme, parameter_with, parameters_first, parameters_next, refl, rules, sign, some_are_parameters, subst, sym, terminals, then_stops, true, [], ◌++◌, ◌∷◌, ◌≡◌, opens_some, starts_one, nothing}
 use Rattle.kahn_syntax.proofs.parser.declaration.read_parameters.Goals as goal
 
 pub returns-in_err-group : goal.returns-in_err-group
@@ -13,7 +13,7 @@ groups-init c =
       spans = λ g r p. subst (λ ps. SomeParametersSpan c.args.text.now (ps ++ members_of parameter_with g) c.args.input.now r) (sym e) (parameters_first c.args.text.now _ g c.args.input.now r refl p);
       shorter = omega arith;
       proper = c.requires.proper;
-      reads = opens_groups c.args.text.now [] c.args.input.now a;
+      reads = opens_some c.args.text.now GroupsPart GroupPart (GroupsTail ∷ []) [] c.args.input.now refl refl (starts_one a_kind _ (terminals c.args.text.now c.args.input.now) true a);
     }
 
 pub groups-preserved : goal.groups-preserved
@@ -37,7 +37,7 @@ returns-then-is_none c =
       spans = ([], c.new-parameters.ensures.items, refl);
       shorter = omega arith;
       proper = c.requires.proper;
-      reads = let a : leads a_kind (terminals c.args.text.now c.args.input.now) ≡ false = search rules in groups_end c.args.text.now [] c.args.input.now a;
+      reads = let a : leads a_kind (terminals c.args.text.now c.args.input.now) ≡ false = search rules in nothing c.args.text.now 0 GroupsPart [] c.args.input.now refl (starts_one a_kind _ (terminals c.args.text.now c.args.input.now) false a);
     }
 
 pub returns-in_default : goal.returns-in_default

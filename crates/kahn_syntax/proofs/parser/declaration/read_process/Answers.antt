@@ -1,8 +1,8 @@
-use Rattle.kahn_syntax.proofs.Parsing.{◌∷◌, End, Process, ProcessPart, StatementPart, StatementsTail, VariablesPart, Word, a_name, a_word, arith, call, call_stops, drop, stopped, expected, head_parts, name, no_name, no_process, one, one_lexeme, process_parts, refl, then, then_stops, token, unexpected, word, []}
+use Rattle.kahn_syntax.proofs.Parsing.{◌∷◌, End, Process, ProcessPart, StatementPart, StatementsTail, VariablesPart, Word, a_name, a_word, arith, call, call_stops, drop, stopped, expected, head_parts, name, no_name, one, one_lexeme, process_parts, refl, then, then_stops, token, unexpected, word, [], no_part}
 use Rattle.kahn_syntax.proofs.parser.declaration.read_process.Goals as goal
 
 pub returns-in_err-rest : goal.returns-in_err-rest
-returns-in_err-rest c = stopped _ _ c.from_residual.result c.from_residual.ensures.1 (no_process c.args.text.now [] c.args.input.now _ c.in_err-rest.ensures.stop)
+returns-in_err-rest c = stopped _ _ c.from_residual.result c.from_residual.ensures.1 (no_part c.args.text.now ProcessPart (a_word Process) _ [] c.args.input.now _ refl (c.in_err-rest.ensures.stop.0 (a_word Process) refl c.args.text.now, c.in_err-rest.ensures.stop.1))
 
 pub read_name-requires : goal.read_name-requires
 read_name-requires c = record { proper = c.in_ok-rest.ensures.proper c.args.text.now c.requires.proper }
@@ -50,22 +50,7 @@ returns c =
     let m3 = then m2 (call T 0 0 (VariablesPart ∷ []) (drop 7 process_parts) c.in_ok-parameters.rest.now c.in_ok-variables.rest.now (λ s l. l) c.in_ok-variables.ensures.reads) in
     let m4 = then m3 (call T 0 0 (StatementPart ∷ StatementsTail ∷ []) (drop 9 process_parts) c.in_ok-variables.rest.now c.in_ok-statements.rest.now (λ s l. l) c.in_ok-statements.ensures.reads) in
     record {
-      spans = (
-        omega (arith, c.in_ok-statements.ensures.nesting),
-        (
-          c.in_ok-rest.rest.now,
-          c.in_ok-name.rest.now,
-          c.in_ok-parameters.rest.now,
-          c.in_ok-variables.rest.now,
-          c.in_ok-statements.rest.now,
-          one_lexeme T (word Process) i c.in_ok-rest.rest.now c.in_ok-rest.ensures.passed (c.in_ok-rest.ensures.first.1 T),
-          c.in_ok-name.ensures.spans,
-          c.in_ok-parameters.ensures.spans,
-          c.in_ok-variables.ensures.spans,
-          (c.in_ok-statements.ensures.spans, c.in_ok-statements.ensures.formed.0, c.in_ok-statements.ensures.formed.1),
-          one_lexeme T (word End) c.in_ok-statements.rest.now c.in_ok-rest-2.rest.now c.in_ok-rest-2.ensures.passed (c.in_ok-rest-2.ensures.first.1 T),
-        ),
-      );
+      spans = (omega (arith, c.in_ok-statements.ensures.nesting), (_, _, _, _, _, one_lexeme T (word Process) i c.in_ok-rest.rest.now c.in_ok-rest.ensures.passed (c.in_ok-rest.ensures.first.1 T), c.in_ok-name.ensures.spans, c.in_ok-parameters.ensures.spans, c.in_ok-variables.ensures.spans, (c.in_ok-statements.ensures.spans, c.in_ok-statements.ensures.formed.0, c.in_ok-statements.ensures.formed.1), one_lexeme T (word End) c.in_ok-statements.rest.now c.in_ok-rest-2.rest.now c.in_ok-rest-2.ensures.passed (c.in_ok-rest-2.ensures.first.1 T)));
       shorter = omega (arith, c.in_ok-rest.ensures.shorter, c.in_ok-name.ensures.shorter, c.in_ok-parameters.ensures.shorter, c.in_ok-variables.ensures.shorter, c.in_ok-statements.ensures.shorter, c.in_ok-rest-2.ensures.shorter);
       proper = c.in_ok-rest-2.ensures.proper T c.in_ok-statements.ensures.proper;
       reads = then m4 (expected T 0 (a_word End) [] (Word End) c.in_ok-statements.rest.now c.in_ok-rest-2.rest.now (λ s l. omega (arith, l)) refl c.in_ok-rest-2.ensures.first);

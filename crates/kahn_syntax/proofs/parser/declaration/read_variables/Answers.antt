@@ -1,4 +1,4 @@
-use Rattle.kahn_syntax.proofs.Parsing.{NamesTail, Semicolon, SignClass, TokenPart, VariablesPart, a_name, a_sign, arith, call, call_stops, stopped, expected, kind_moves, kind_terminal, one_lexeme, refl, sign, terminals, then, then_stops, unexpected, variables_end, variables_next, [], ◌∷◌}
+use Rattle.kahn_syntax.proofs.Parsing.{NamesTail, Semicolon, SignClass, TokenPart, VariablesPart, a_name, a_sign, arith, call, call_stops, stopped, expected, kind_moves, kind_terminal, one_lexeme, refl, sign, terminals, then, then_stops, unexpected, variables_next, [], ◌∷◌, nothing, starts_one, a_kind, false}
 use Rattle.kahn_syntax.proofs.parser.declaration.read_variables.Goals as goal
 
 pub read_names-requires : goal.read_names-requires
@@ -36,5 +36,5 @@ returns c =
       spans = c.variables.invariant.spans;
       shorter = c.variables.invariant.shorter;
       proper = c.variables.invariant.proper;
-      reads = (then (c.variables.invariant.reads) (variables_end c.args.text.now [] c.variables.rest.now (c.in_default.ensures.leads c.args.text.now)));
+      reads = (then (c.variables.invariant.reads) (nothing c.args.text.now 0 VariablesPart [] c.variables.rest.now refl (starts_one a_kind _ (terminals c.args.text.now c.variables.rest.now) false (c.in_default.ensures.leads c.args.text.now))));
     }

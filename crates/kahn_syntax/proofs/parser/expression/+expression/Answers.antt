@@ -136,11 +136,7 @@ read_expression-returns-in_default t c =
 pub read_before-returns : goal.read_before-returns
 read_before-returns t c =
     let T = c.args.text.now in record {
-      spans = (
-        c.in_ok-expression.rest.now,
-        c.in_ok-expression.ensures.spans,
-        one_lexeme T (word c.args.last) c.in_ok-expression.rest.now c.in_ok-rest.rest.now c.in_ok-rest.ensures.passed (c.in_ok-rest.ensures.first.1 T),
-      );
+      spans = (_, c.in_ok-expression.ensures.spans, one_lexeme T (word c.args.last) c.in_ok-expression.rest.now c.in_ok-rest.rest.now c.in_ok-rest.ensures.passed (c.in_ok-rest.ensures.first.1 T));
       formed = c.in_ok-expression.ensures.formed;
       nesting = c.in_ok-expression.ensures.nesting;
       shorter = omega (arith, c.in_ok-expression.ensures.shorter, c.in_ok-rest.ensures.shorter);
@@ -195,22 +191,7 @@ pub read_expression-returns : goal.read_expression-returns
 read_expression-returns t c =
     let T = c.args.text.now in
     made T c.args.depth whole _ c.args.input.now c.in_ok-no.rest.now (λ at h. record {
-      spans = (
-        h,
-        (
-          c.in-Some.rest.now,
-          c.in_ok-test.ensures.spans.0,
-          c.in_ok-test.rest.now,
-          c.in_ok-yes.ensures.spans.0,
-          c.in_ok-yes.rest.now,
-          one_lexeme T (word If) c.args.input.now c.in-Some.rest.now c.in-Some.ensures.passed (c.in-Some.ensures.first.1 T),
-          c.in_ok-test.ensures.spans.1,
-          c.in_ok-test.ensures.spans.2,
-          c.in_ok-yes.ensures.spans.1,
-          c.in_ok-yes.ensures.spans.2,
-          c.in_ok-no.ensures.spans,
-        ),
-      );
+      spans = (h, (_, c.in_ok-test.ensures.spans.0, _, c.in_ok-yes.ensures.spans.0, _, one_lexeme T (word If) c.args.input.now c.in-Some.rest.now c.in-Some.ensures.passed (c.in-Some.ensures.first.1 T), c.in_ok-test.ensures.spans.1, c.in_ok-test.ensures.spans.2, c.in_ok-yes.ensures.spans.1, c.in_ok-yes.ensures.spans.2, c.in_ok-no.ensures.spans));
       formed = (omega arith, (c.in_ok-test.ensures.formed.1, c.in_ok-yes.ensures.formed.1, c.in_ok-no.ensures.formed.1));
       nesting = omega (arith, c.in_ok-inner.ensures.deeper.0, c.in_ok-test.ensures.nesting, c.in_ok-yes.ensures.nesting, c.in_ok-no.ensures.nesting);
       shorter = omega (arith, c.in-Some.ensures.shorter, c.in_ok-test.ensures.shorter, c.in_ok-yes.ensures.shorter, c.in_ok-no.ensures.shorter);

@@ -17,18 +17,7 @@ pub returns : goal.returns
 returns c = λ d b.
     let i = c.args.input.now in
     made c.args.text.now d factors _ i c.in_ok-rest-2.rest.now (λ at h. record {
-      spans = let T = c.args.text.now in (
-        h,
-        (
-          c.args.rest.now,
-          c.in_ok-rest.rest.now,
-          c.in_ok-name.rest.now,
-          one_lexeme T (word Wait) c.args.input.now c.args.rest.now c.requires.passed (c.requires.first.1 T),
-          one_lexeme T (sign Open) c.args.rest.now c.in_ok-rest.rest.now c.in_ok-rest.ensures.passed (c.in_ok-rest.ensures.first.1 T),
-          c.in_ok-name.ensures.spans,
-          one_lexeme T (sign Close) c.in_ok-name.rest.now c.in_ok-rest-2.rest.now c.in_ok-rest-2.ensures.passed (c.in_ok-rest-2.ensures.first.1 T),
-        ),
-      );
+      spans = let T = c.args.text.now in (h, (_, _, _, one_lexeme T (word Wait) c.args.input.now c.args.rest.now c.requires.passed (c.requires.first.1 T), one_lexeme T (sign Open) c.args.rest.now c.in_ok-rest.rest.now c.in_ok-rest.ensures.passed (c.in_ok-rest.ensures.first.1 T), c.in_ok-name.ensures.spans, one_lexeme T (sign Close) c.in_ok-name.rest.now c.in_ok-rest-2.rest.now c.in_ok-rest-2.ensures.passed (c.in_ok-rest-2.ensures.first.1 T)));
       formed = (omega arith, tt);
       nesting = omega (arith, b);
       shorter = omega (arith, c.requires.follows, c.in_ok-rest.ensures.shorter, c.in_ok-name.ensures.shorter, c.in_ok-rest-2.ensures.shorter);

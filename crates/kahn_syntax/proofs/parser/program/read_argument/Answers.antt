@@ -37,16 +37,7 @@ returns-in-Some-Word-False-default c =
 pub returns-in-Some : goal.returns-in-Some
 returns-in-Some c =
     record {
-      spans = let T = c.args.text.now in (
-        c.reach-in-Some-Sign-Minus-default.ensures,
-        inr (
-          c.in-Some.ensures.number.0,
-          c.in-Some-Sign-Minus-default.rest.now,
-          search rules,
-          (one_lexeme T (sign Minus) c.args.input.now c.in-Some-Sign-Minus-default.rest.now c.in-Some-Sign-Minus-default.ensures.passed ((first_of _ (SignClass Minus) c.args.input.now c.in-Some-Sign-Minus-default.rest.now (c.in-Some-Sign-Minus-default.field-0-0-is ∙ ap SignClass c.in-Some-Sign-Minus-default.field-0-0-0-is) c.in-Some-Sign-Minus-default.ensures.first.0).1 T)),
-          one_lexeme T (numeral c.in-Some.ensures.number.0) c.in-Some-Sign-Minus-default.rest.now c.in-Some.after.now c.in-Some.ensures.passed (c.in-Some.ensures.number.2 T),
-        ),
-      );
+      spans = let T = c.args.text.now in (c.reach-in-Some-Sign-Minus-default.ensures, inr (c.in-Some.ensures.number.0, _, search rules, (one_lexeme T (sign Minus) c.args.input.now c.in-Some-Sign-Minus-default.rest.now c.in-Some-Sign-Minus-default.ensures.passed ((first_of _ (SignClass Minus) c.args.input.now c.in-Some-Sign-Minus-default.rest.now (c.in-Some-Sign-Minus-default.field-0-0-is ∙ ap SignClass c.in-Some-Sign-Minus-default.field-0-0-0-is) c.in-Some-Sign-Minus-default.ensures.first.0).1 T)), one_lexeme T (numeral c.in-Some.ensures.number.0) c.in-Some-Sign-Minus-default.rest.now c.in-Some.after.now c.in-Some.ensures.passed (c.in-Some.ensures.number.2 T)));
       shorter = omega (arith, c.in-Some-Sign-Minus-default.ensures.first.1, c.in-Some.ensures.shorter);
       proper = c.in-Some.ensures.proper c.args.text.now (c.in-Some-Sign-Minus-default.ensures.proper c.args.text.now c.requires.proper);
       reads = then (one c.args.text.now 0 ArgumentPart [] (TokenPart a_number ∷ []) (sign Minus) c.args.input.now c.in-Some-Sign-Minus-default.rest.now (λ s l. omega (arith, l)) (λ s. refl) ((first_of _ (SignClass Minus) c.args.input.now c.in-Some-Sign-Minus-default.rest.now (c.in-Some-Sign-Minus-default.field-0-0-is ∙ ap SignClass c.in-Some-Sign-Minus-default.field-0-0-0-is) c.in-Some-Sign-Minus-default.ensures.first.0).1 c.args.text.now)) (token c.args.text.now 0 a_number [] (numeral c.in-Some.ensures.number.0) c.in-Some-Sign-Minus-default.rest.now c.in-Some.after.now (λ s l. omega (arith, l)) refl (c.in-Some.ensures.number.2 c.args.text.now));

@@ -16,15 +16,7 @@ returns-in_err-arguments c = stopped _ _ c.from_residual-in_err-arguments.result
 pub returns : goal.returns
 returns c =
     record {
-      spans = let T = c.args.text.now in (
-        c.in_ok-process.rest.now,
-        c.in_ok-rest.rest.now,
-        c.in_ok-arguments.ensures.spans.0,
-        c.in_ok-process.ensures.spans,
-        (one_lexeme T (sign Open) c.in_ok-process.rest.now c.in_ok-rest.rest.now c.in_ok-rest.ensures.passed (c.in_ok-rest.ensures.first.1 T)),
-        c.in_ok-arguments.ensures.spans.1,
-        c.in_ok-arguments.ensures.spans.2,
-      );
+      spans = let T = c.args.text.now in (_, _, _, c.in_ok-process.ensures.spans, (one_lexeme T (sign Open) c.in_ok-process.rest.now c.in_ok-rest.rest.now c.in_ok-rest.ensures.passed (c.in_ok-rest.ensures.first.1 T)), c.in_ok-arguments.ensures.spans.1, c.in_ok-arguments.ensures.spans.2);
       shorter = omega (arith, c.in_ok-process.ensures.shorter, c.in_ok-rest.ensures.shorter, c.in_ok-arguments.ensures.shorter);
       proper = c.in_ok-arguments.ensures.proper;
       reads = (then (then (one c.args.text.now 0 (InstancePart) ([]) (TokenPart (a_sign Open) ∷ ArgumentsPart ∷ []) (name (name_of c.in_ok-process.process)) c.args.input.now c.in_ok-process.rest.now (λ s l. omega (arith, l)) (λ s. refl) c.in_ok-process.ensures.words) (expected c.args.text.now 0 (a_sign Open) (ArgumentsPart ∷ []) (SignClass Open) c.in_ok-process.rest.now c.in_ok-rest.rest.now (λ s l. omega (arith, l)) refl c.in_ok-rest.ensures.first)) (call c.args.text.now 0 0 (ArgumentsPart ∷ []) ([]) c.in_ok-rest.rest.now c.in_ok-arguments.rest.now (λ s l. omega (arith, l)) c.in_ok-arguments.ensures.reads));

@@ -114,18 +114,7 @@ read_if-returns-in_err-no t c =
 pub read_statement-returns-in_ok-turn-in-Some-Word-While-default : goal.read_statement-returns-in_ok-turn-in-Some-Word-While-default
 read_statement-returns-in_ok-turn-in-Some-Word-While-default t c =
     stated c.args.text.now c.args.depth StatementPart _ c.args.input.now c.in_ok-turn-in-Some-Word-While-default.rest.now (λ at h. record {
-      spans = let T = c.args.text.now in (
-        h,
-        (
-          c.in-Some-Word-While-default.rest.now,
-          c.in_ok-test-in-Some-Word-While-default.ensures.spans.0,
-          c.in_ok-test-in-Some-Word-While-default.rest.now,
-          (one_lexeme T (word While) c.args.input.now c.in-Some-Word-While-default.rest.now c.in-Some-Word-While-default.ensures.passed ((first_of _ (Word While) c.args.input.now c.in-Some-Word-While-default.rest.now (c.in-Some-Word-While-default.field-0-0-is ∙ ap Word c.in-Some-Word-While-default.field-0-0-0-is) c.in-Some-Word-While-default.ensures.first.0).1 T)),
-          subst (λ y. ExpressionSpans T y c.in-Some-Word-While-default.rest.now c.in_ok-test-in-Some-Word-While-default.ensures.spans.0) (sym c.into_inner-test.ensures) c.in_ok-test-in-Some-Word-While-default.ensures.spans.1,
-          c.in_ok-test-in-Some-Word-While-default.ensures.spans.2,
-          c.in_ok-turn-in-Some-Word-While-default.ensures.spans,
-        ),
-      );
+      spans = let T = c.args.text.now in (h, (_, c.in_ok-test-in-Some-Word-While-default.ensures.spans.0, _, (one_lexeme T (word While) c.args.input.now c.in-Some-Word-While-default.rest.now c.in-Some-Word-While-default.ensures.passed ((first_of _ (Word While) c.args.input.now c.in-Some-Word-While-default.rest.now (c.in-Some-Word-While-default.field-0-0-is ∙ ap Word c.in-Some-Word-While-default.field-0-0-0-is) c.in-Some-Word-While-default.ensures.first.0).1 T)), subst (λ y. ExpressionSpans T y c.in-Some-Word-While-default.rest.now c.in_ok-test-in-Some-Word-While-default.ensures.spans.0) (sym c.into_inner-test.ensures) c.in_ok-test-in-Some-Word-While-default.ensures.spans.1, c.in_ok-test-in-Some-Word-While-default.ensures.spans.2, c.in_ok-turn-in-Some-Word-While-default.ensures.spans));
       formed = ((subst (λ y. Formed (expression_tree y)) (sym c.into_inner-test.ensures) c.in_ok-test-in-Some-Word-While-default.ensures.formed.1, c.in_ok-turn-in-Some-Word-While-default.ensures.formed.0), λ e. absurd cc);
       nesting = omega (arith, ap (λ y. expression_nesting (expression_tree y)) c.into_inner-test.ensures, c.in_ok-inner-in-Some-Word-While-default.ensures.deeper.0, c.in_ok-test-in-Some-Word-While-default.ensures.nesting, c.in_ok-turn-in-Some-Word-While-default.ensures.nesting);
       shorter = omega (arith, c.in-Some-Word-While-default.ensures.first.1, c.in_ok-test-in-Some-Word-While-default.ensures.shorter, c.in_ok-turn-in-Some-Word-While-default.ensures.shorter);
@@ -163,20 +152,7 @@ read_statement-returns-in_default t c =
 pub read_if-returns-in_default : goal.read_if-returns-in_default
 read_if-returns-in_default t c =
     stated c.args.text.now c.args.depth StatementPart _ c.args.input.now c.in_ok-yes.rest.now (λ at h. record {
-      spans = let T = c.args.text.now in (
-        h,
-        (
-          c.args.rest.now,
-          c.in_ok-test.ensures.spans.0,
-          c.in_ok-test.rest.now,
-          c.in_ok-yes.rest.now,
-          one_lexeme T (word If) c.args.input.now c.args.rest.now c.requires.1.1.1.1.1.1 (c.requires.1.1.0.1 T),
-          subst (λ y. ExpressionSpans T y c.args.rest.now c.in_ok-test.ensures.spans.0) (sym c.into_inner-test.ensures) c.in_ok-test.ensures.spans.1,
-          c.in_ok-test.ensures.spans.2,
-          c.in_ok-yes.ensures.spans,
-          refl,
-        ),
-      );
+      spans = let T = c.args.text.now in (h, (_, c.in_ok-test.ensures.spans.0, _, _, one_lexeme T (word If) c.args.input.now c.args.rest.now c.requires.1.1.1.1.1.1 (c.requires.1.1.0.1 T), subst (λ y. ExpressionSpans T y c.args.rest.now c.in_ok-test.ensures.spans.0) (sym c.into_inner-test.ensures) c.in_ok-test.ensures.spans.1, c.in_ok-test.ensures.spans.2, c.in_ok-yes.ensures.spans, refl));
       formed = (
         (subst (λ e. Formed (expression_tree e)) (sym c.into_inner-test.ensures) c.in_ok-test.ensures.formed.1, c.in_ok-yes.ensures.formed.1 refl, c.in_ok-yes.ensures.formed.0),
         λ e. absurd cc,
@@ -198,20 +174,7 @@ read_if-returns-in_default t c =
 pub read_if-returns : goal.read_if-returns
 read_if-returns t c =
     stated c.args.text.now c.args.depth StatementPart _ c.args.input.now c.in_ok-no.rest.now (λ at h. record {
-      spans = let T = c.args.text.now in (
-        h,
-        (
-          c.args.rest.now,
-          c.in_ok-test.ensures.spans.0,
-          c.in_ok-test.rest.now,
-          c.in_ok-yes.rest.now,
-          one_lexeme T (word If) c.args.input.now c.args.rest.now c.requires.1.1.1.1.1.1 (c.requires.1.1.0.1 T),
-          subst (λ y. ExpressionSpans T y c.args.rest.now c.in_ok-test.ensures.spans.0) (sym c.into_inner-test.ensures) c.in_ok-test.ensures.spans.1,
-          c.in_ok-test.ensures.spans.2,
-          c.in_ok-yes.ensures.spans,
-          (c.in-Some.after.now, one_lexeme T (word Else) c.in_ok-yes.rest.now c.in-Some.after.now c.in-Some.ensures.passed (c.in-Some.ensures.first.1 T), c.in_ok-no.ensures.spans),
-        ),
-      );
+      spans = let T = c.args.text.now in (h, (_, c.in_ok-test.ensures.spans.0, _, _, one_lexeme T (word If) c.args.input.now c.args.rest.now c.requires.1.1.1.1.1.1 (c.requires.1.1.0.1 T), subst (λ y. ExpressionSpans T y c.args.rest.now c.in_ok-test.ensures.spans.0) (sym c.into_inner-test.ensures) c.in_ok-test.ensures.spans.1, c.in_ok-test.ensures.spans.2, c.in_ok-yes.ensures.spans, (_, one_lexeme T (word Else) c.in_ok-yes.rest.now c.in-Some.after.now c.in-Some.ensures.passed (c.in-Some.ensures.first.1 T), c.in_ok-no.ensures.spans)));
       formed = (
         (subst (λ e. Formed (expression_tree e)) (sym c.into_inner-test.ensures) c.in_ok-test.ensures.formed.1, c.in_ok-yes.ensures.formed.1 refl, c.in_ok-yes.ensures.formed.0, c.in_ok-no.ensures.formed.0),
         λ e. absurd cc,
@@ -248,16 +211,7 @@ read_simple-returns-in_ok-value-in-Some-Word-Print-default t c =
 pub read_simple-returns-in_ok-rest-in-Some-Word-Begin-default : goal.read_simple-returns-in_ok-rest-in-Some-Word-Begin-default
 read_simple-returns-in_ok-rest-in-Some-Word-Begin-default t c =
     stated c.args.text.now c.args.depth SimplePart _ c.args.input.now c.in_ok-rest-in-Some-Word-Begin-default.rest.now (λ at h. record {
-      spans = let T = c.args.text.now in (
-        h,
-        (
-          c.in-Some-Word-Begin-default.rest.now,
-          c.in_ok-statements-in-Some-Word-Begin-default.rest.now,
-          (one_lexeme T (word Begin) c.args.input.now c.in-Some-Word-Begin-default.rest.now c.in-Some-Word-Begin-default.ensures.passed ((first_of _ (Word Begin) c.args.input.now c.in-Some-Word-Begin-default.rest.now (c.in-Some-Word-Begin-default.field-0-0-is ∙ ap Word c.in-Some-Word-Begin-default.field-0-0-0-is) c.in-Some-Word-Begin-default.ensures.first.0).1 T)),
-          statements_row_spans T c.in_ok-statements-in-Some-Word-Begin-default.statements c.in-Some-Word-Begin-default.rest.now c.in_ok-statements-in-Some-Word-Begin-default.rest.now c.in_ok-statements-in-Some-Word-Begin-default.ensures.spans,
-          (one_lexeme T (word End) c.in_ok-statements-in-Some-Word-Begin-default.rest.now c.in_ok-rest-in-Some-Word-Begin-default.rest.now c.in_ok-rest-in-Some-Word-Begin-default.ensures.passed (c.in_ok-rest-in-Some-Word-Begin-default.ensures.first.1 T)),
-        ),
-      );
+      spans = let T = c.args.text.now in (h, (_, _, (one_lexeme T (word Begin) c.args.input.now c.in-Some-Word-Begin-default.rest.now c.in-Some-Word-Begin-default.ensures.passed ((first_of _ (Word Begin) c.args.input.now c.in-Some-Word-Begin-default.rest.now (c.in-Some-Word-Begin-default.field-0-0-is ∙ ap Word c.in-Some-Word-Begin-default.field-0-0-0-is) c.in-Some-Word-Begin-default.ensures.first.0).1 T)), statements_row_spans T c.in_ok-statements-in-Some-Word-Begin-default.statements c.in-Some-Word-Begin-default.rest.now c.in_ok-statements-in-Some-Word-Begin-default.rest.now c.in_ok-statements-in-Some-Word-Begin-default.ensures.spans, (one_lexeme T (word End) c.in_ok-statements-in-Some-Word-Begin-default.rest.now c.in_ok-rest-in-Some-Word-Begin-default.rest.now c.in_ok-rest-in-Some-Word-Begin-default.ensures.passed (c.in_ok-rest-in-Some-Word-Begin-default.ensures.first.1 T))));
       formed = (subst FormedStatement (sym (ap block (statements_made c.in_ok-statements-in-Some-Word-Begin-default.statements))) (c.in_ok-statements-in-Some-Word-Begin-default.ensures.formed.0, c.in_ok-statements-in-Some-Word-Begin-default.ensures.formed.1), λ e. subst IsSimple (sym (ap block (statements_made c.in_ok-statements-in-Some-Word-Begin-default.statements))) tt);
       nesting = omega (arith, ap statement_nesting (ap block (statements_made c.in_ok-statements-in-Some-Word-Begin-default.statements)), c.in_ok-inner-in-Some-Word-Begin-default.ensures.deeper.0, c.in_ok-statements-in-Some-Word-Begin-default.ensures.nesting);
       shorter = omega (arith, c.in-Some-Word-Begin-default.ensures.first.1, c.in_ok-statements-in-Some-Word-Begin-default.ensures.shorter, c.in_ok-rest-in-Some-Word-Begin-default.ensures.shorter);

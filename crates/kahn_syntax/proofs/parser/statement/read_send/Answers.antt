@@ -19,18 +19,7 @@ pub returns : goal.returns
 returns c =
     let v = subst (λ e. ExpressionBefore c.args.text.now c.args.depth On e c.args.rest.now c.in_ok-value.rest.now) (sym c.into_inner-value.ensures) c.in_ok-value.ensures in
     stated c.args.text.now c.args.depth SimplePart _ c.args.input.now c.in_ok-name.rest.now (λ at h. record {
-      spans = let T = c.args.text.now in (
-        h,
-        (
-          c.args.rest.now,
-          v.spans.0,
-          c.in_ok-value.rest.now,
-          one_lexeme T (word Send) c.args.input.now c.args.rest.now c.requires.passed (c.requires.first.1 T),
-          v.spans.1,
-          v.spans.2,
-          c.in_ok-name.ensures.spans,
-        ),
-      );
+      spans = let T = c.args.text.now in (h, (_, _, _, one_lexeme T (word Send) c.args.input.now c.args.rest.now c.requires.passed (c.requires.first.1 T), v.spans.1, v.spans.2, c.in_ok-name.ensures.spans));
       formed = (v.formed.1, λ e. tt);
       nesting = v.nesting;
       shorter = omega (arith, c.requires.follows, v.shorter, c.in_ok-name.ensures.shorter);
