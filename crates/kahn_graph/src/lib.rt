@@ -4,7 +4,6 @@
 mod edges;
 mod nodes;
 mod picture;
-mod ports;
 mod printing;
 mod ran;
 mod stands;
