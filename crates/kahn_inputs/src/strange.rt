@@ -39,19 +39,20 @@ const COMMENTS: &str = "
 
 const NUMERALS: &str = "
 ^[ ^( ^{ ^\" ^' | ; values stand without brackets and quotation marks
-.. =to =until | ; there are no ranges: each value stands there itself
+.. | ; there are no ranges: each value stands there itself
 , ; | ; blanks stand between values
-=.true. =.false. =.TRUE. =.FALSE. | ; truth values are `true` and `false`
 . / | ; numbers are whole
 + | ; a number has no `+`
 0x | ; numbers are decimal
 =- | ; a `-` stands right before its digits
-* | ; nothing is repeated or computed: each value stands there itself
-=\\ | ; all values of a channel stand on one line
 ";
 
-/// The same of what is no numeral.
+/// The same where more is said.
 const OTHERS: &str = "
+=.true. =.false. =.TRUE. =.FALSE. | ; truth values are `true` and `false`
+=to =until | ; there are no ranges: each value stands there itself
+* | ; nothing is repeated or computed: each value stands there itself
+=\\ | ; all values of a channel stand on one line
 ^$ ^\u{20AC} ^\u{00A3} | ; a number has no unit
 =NaN =nan =null =NULL =None =NA =N/A | ; a missing value is left out
 ";
@@ -190,7 +191,8 @@ pub(crate) fn word_words(line: &[u8], name: &[u8], part: &[u8]) -> &'static str 
     if has_between(part, b'-') && part.iter().filter(|byte| **byte == b'-').count() == 1 {
         return "; there are no ranges: each value stands there itself";
     }
-    let words = words_or(numeral_words(part), words_of(OTHERS, part));
+    let others = words_or(no_comment_words(part), words_of(OTHERS, part));
+    let words = words_or(others, numeral_words(part));
     let digits = part.strip_prefix(b"-").unwrap_or(part);
     if !words.is_empty() {
         return words;
