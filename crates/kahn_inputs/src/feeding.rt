@@ -9,7 +9,7 @@ use crate::fitting::{
 };
 use crate::meant::meant_lines;
 use crate::seeking::{FoundLine, LineKind, find_line, first_named};
-use crate::strange::{is_number, no_comment_words, strange_words, word_words};
+use crate::strange::{head_words, strange_words, word_words};
 use kahn_hints::{add_inputs, add_unknown_input};
 use kahn_marks::{Note, Other, Sort, add};
 use kahn_streams::{InputFault, Kind, Network, NoMemory, Span, channel_named};
@@ -72,6 +72,8 @@ fn part_note(
 {
     let mut told = String::new(alloc);
     add(&mut told, words)?;
+    let part = part_of(found.line, span);
+    told.push_str(strange_words(found.from + span.from, part))?;
     Ok(Note {
         sort: Sort::Error,
         span: moved_by(found.from, span),
@@ -80,21 +82,6 @@ fn part_note(
         below: meant_lines(alloc, network, text)?,
         others: Vec::new(alloc),
     })
-}
-
-/// What more is said of it, by its name and the part that is at fault.
-fn lack_more(line: &[u8], lack: Lack, part: &[u8]) -> &'static str {
-    let name = line_name(line);
-    if name.eq_ignore_ascii_case(b"integer") || name.eq_ignore_ascii_case(b"logical") {
-        return "; no kind stands before the name";
-    }
-    if matches!(name, b"end" | b"finished" | b"limit") {
-        return "; a report is no input";
-    }
-    if matches!(lack, Lack::Name) && is_number(part) {
-        return "; all values of a channel stand on one line, behind its name";
-    }
-    no_comment_words(part)
 }
 
 /// The note on a line that doesn't begin with a name and a colon.
@@ -109,10 +96,8 @@ fn lack_note(
 {
     let lack = lack_of(found.line);
     let span = lack_span(found.line, lack);
-    let part = part_of(found.line, span);
-    let strange = strange_words(found.from + span.from, part);
-    let more = lack_more(found.line, lack, part);
-    let words = [lack_words(lack).0, more, strange];
+    let more = head_words(line_name(found.line), part_of(found.line, span));
+    let words = [lack_words(lack).0, more];
     part_note(alloc, network, text, found, span, &words)
 }
 
@@ -149,13 +134,8 @@ fn value_note(
 {
     let span = unfit_span(None, found.line);
     let part = part_of(found.line, span);
-    let strange = strange_words(found.from + span.from, part);
-    let more = if line_name(found.line).eq_ignore_ascii_case(b"comment") {
-        no_comment_words(b"#")
-    } else {
-        word_words(found.line, part)
-    };
-    let words = [NO_VALUE, more, strange];
+    let more = word_words(found.line, line_name(found.line), part);
+    let words = [NO_VALUE, more];
     part_note(alloc, network, text, found, span, &words)
 }
 
@@ -210,11 +190,11 @@ fn entry_span(line: &[u8], kind: Option<Kind>, fault: InputFault) -> Span
 {
     match fault {
         InputFault::WrongKind(_) => unfit_span(kind, line),
-        InputFault::UnknownName(_) => name_span(line),
-        InputFault::NotAnInput(_) => name_span(line),
-        InputFault::GivenTwice(_) => name_span(line),
-        InputFault::TooMany(_) => name_span(line),
-        InputFault::NoMemory => name_span(line),
+        InputFault::UnknownName(_)
+        | InputFault::NotAnInput(_)
+        | InputFault::GivenTwice(_)
+        | InputFault::TooMany(_)
+        | InputFault::NoMemory => name_span(line),
     }
 }
 

@@ -6,7 +6,7 @@ ghost use Rattle.kahn_inputs.specs.Meant.{AreMeantLines, joined_lines};
 use crate::strange::{has_between, is_in_number, plain_sign};
 use itoa::Buffer;
 use kahn_marks::{add, is_within};
-use kahn_streams::{Kind, Network, NoMemory, Role};
+use kahn_streams::{Kind, Network, NoMemory, Role, channel_named};
 use kahn_texts::{TextFault, read_input};
 use std::alloc::{AllocError, Global};
 
@@ -19,9 +19,9 @@ const MOST_OF_RANGE: i64 = 64;
 const IDLE: &str = "integer logical input channel";
 
 /// How truth values are written.
-const TRUE: &str = "true yes on t y 1";
+const TRUE: &str = "true yes on t y 1 .true.";
 
-const FALSE: &str = "false no off f n 0";
+const FALSE: &str = "false no off f n 0 .false.";
 
 /// Whether a word is one of some, in any letter case.
 fn is_one_of(words: &str, word: &str) -> bool {
@@ -33,17 +33,14 @@ fn is_one_of(words: &str, word: &str) -> bool {
 /// Letters behind a number that say how great it is, or how it is written.
 const SCALES: &str = "k m g x b o e";
 
-/// A power of ten.
-fn power_of_ten(power: &str) -> Option<i64> {
-    match power {
-        "2" => Some(100),
-        "3" => Some(1_000),
-        "4" => Some(10_000),
-        "5" => Some(100_000),
-        "6" => Some(1_000_000),
-        "9" => Some(1_000_000_000),
-        _ => None,
+/// A number with so many zeros behind it.
+fn scaled(digits: &str, zeros: &str) -> Option<i64> {
+    let mut number = digits.parse::<i64>().ok()?;
+    let times = zeros.parse::<usize>().ok()?.min(19);
+    for _zero in 0..times {
+        number = number.checked_mul(10)?;
     }
+    Some(number)
 }
 
 /// The number that a word spells: also behind a `+`, before a fraction of zeros, a unit or an exponent, or in hexadecimal.
@@ -52,11 +49,8 @@ fn whole_number(word: &str) -> Option<i64> {
     if let Some(digits) = bare.strip_prefix("0x") {
         return i64::from_str_radix(digits, 16).ok();
     }
-    if let Some((digits, power)) = bare.split_once("e") {
-        return digits
-            .parse::<i64>()
-            .ok()?
-            .checked_mul(power_of_ten(power)?);
+    if let Some((digits, power)) = bare.split_once("e").or(bare.split_once("E")) {
+        return scaled(digits, power);
     }
     let mut bytes = bare.as_bytes().iter();
     let unit = bytes.position(|byte| byte.is_ascii_alphabetic());
@@ -85,8 +79,10 @@ fn add_number(line: &mut String, number: i64) -> Result<(), AllocError> {
 struct LineReading<'n> {
     alloc: Global,
     network: &'n Network,
-    /// The channels that have entries, with their kinds, and the lines of these.
-    channels: Vec<(usize, Kind)>,
+    /// The input channels, with their kinds.
+    inputs: Vec<(&'n str, Kind)>,
+    /// Those that have entries, and the lines of these.
+    given: Vec<usize>,
     lines: Vec<String>,
     /// The entries that the next values are for, in turn.
     columns: Vec<usize>,
@@ -104,34 +100,26 @@ impl<'n> LineReading<'n> {
     /// The input channel of these letters, or else of letters that differ in their case alone, where they are no truth value; or, where a `:`
     /// stands behind, the one without values that is near, or the only one, if nothing was read and no channel has the name.
     fn channel(&self, word: &str, is_head: bool) -> Option<usize> {
+        let is_channel = channel_named(self.network, word).is_some();
         let is_value = is_one_of(TRUE, word) || is_one_of(FALSE, word);
-        let (mut alike, mut near, mut last) = (None, None, None);
-        let (mut nears, mut inputs) = (0_usize, 0_usize);
-        for number in 0..self.network.channels() {
-            let channel = self.network.channel(number);
-            let is_input = matches!(channel.role, Role::Input);
-            if channel.name == word {
-                return if is_input { Some(number) } else { None };
+        let mut nears = 0_usize;
+        let mut near = None;
+        for (number, (name, _)) in self.inputs.iter().enumerate() {
+            let is_alike = !is_channel && name.eq_ignore_ascii_case(word);
+            if *name == word || is_alike && (is_head || !is_value) {
+                return Some(number);
             }
-            if is_input {
-                inputs = inputs.saturating_add(1);
-                last = Some(number);
-                if channel.name.eq_ignore_ascii_case(word) {
-                    alike = alike.or(last);
-                }
-                let is_given = self.channels.iter().any(|given| given.0 == number);
-                let is_long = word.len() > 3 && !is_given;
-                if is_long && is_within(word.as_bytes(), channel.name.as_bytes(), 2) {
-                    nears = nears.saturating_add(1);
-                    near = last;
-                }
+            let is_long = word.len() > 3 && !self.given.contains(&number);
+            if is_long && is_within(word.as_bytes(), name.as_bytes(), 2) {
+                nears = nears.saturating_add(1);
+                near = Some(number);
             }
         }
-        match (alike, is_head) {
-            (Some(_), _) if is_head || !is_value => alike,
-            (_, true) if nears == 1 => near,
-            (_, true) if inputs == 1 && self.count == 0 => last,
-            _ => None,
+        let is_only = self.inputs.len() == 1 && self.count == 0;
+        match near {
+            _ if is_channel || !is_head => None,
+            Some(_) if nears == 1 => near,
+            _ => Some(0).filter(|_| is_only),
         }
     }
 
@@ -142,13 +130,12 @@ impl<'n> LineReading<'n> {
         }
         self.is_head = true;
         self.count = 0;
-        let known = self.channels.iter().position(|known| known.0 == channel);
+        let known = self.given.iter().position(|known| *known == channel);
         let number = known.unwrap_or(self.lines.len());
-        if known.is_none() && channel < self.network.channels() {
-            let of = self.network.channel(channel);
-            let mut line = String::from_str(self.alloc, of.name)?;
+        if let (None, Some((name, _))) = (known, self.inputs.get(channel)) {
+            let mut line = String::from_str(self.alloc, name)?;
             line.push_str(":")?;
-            self.channels.push((channel, of.kind))?;
+            self.given.push(channel)?;
             self.lines.push(line)?;
         }
         self.columns.push(number)?;
@@ -161,8 +148,9 @@ impl<'n> LineReading<'n> {
         self.count = self.count.saturating_add(1);
         self.is_head = false;
         let column = self.columns.get(turn).copied().unwrap_or(self.lines.len());
+        let channel = self.given.get(column).copied().unwrap_or(column);
         let (Some((_, kind)), Some(line)) = (
-            self.channels.get(column).copied(),
+            self.inputs.get(channel).copied(),
             self.lines.get_mut(column),
         ) else {
             return Ok(false);
@@ -200,11 +188,15 @@ impl<'n> LineReading<'n> {
             self.name(channel)?;
             return Ok(!self.is_range);
         }
+        if is_head {
+            return Ok(false);
+        }
         let mark = if has_between(word.as_bytes(), b'-') {
             "-"
         } else {
             ".."
         };
+        let word = if word == "to" { mark } else { word };
         let Some((first, rest)) = word.split_once(mark) else {
             return self.value(word);
         };
@@ -234,19 +226,6 @@ impl<'n> LineReading<'n> {
         }
         Ok(true)
     }
-
-    /// Begins with the one input channel, where there are no others.
-    fn begin(&mut self) -> Result<(), AllocError> {
-        let mut inputs = 0_usize;
-        let mut last = 0;
-        for number in 0..self.network.channels() {
-            if let Role::Input = self.network.channel(number).role {
-                inputs = inputs.saturating_add(1);
-                last = number;
-            }
-        }
-        if inputs == 1 { self.name(last) } else { Ok(()) }
-    }
 }
 
 /// A line with signs of ASCII for those that look like them, blanks between names and values, a `:` behind names, and numbers without what
@@ -261,12 +240,24 @@ fn plain_line(alloc: Global, line: &str) -> Result<String, AllocError> {
             '_' | '\'' if is_in_number(bytes, at, true) => {}
             ',' if is_apart && is_in_number(bytes, at, false) => plain.push_str(".")?,
             ':' | '=' => plain.push_str(" : ")?,
-            '\t' | ',' | ';' | '|' | '"' | '\'' => plain.push_str(" ")?,
+            '\t' | ',' | ';' | '|' | '"' | '\'' | '\\' => plain.push_str(" ")?,
             '[' | ']' | '(' | ')' | '{' | '}' => plain.push_str(" ")?,
             sign => plain.push(sign)?,
         }
     }
     Ok(plain)
+}
+
+/// The input channels of a network, with their kinds.
+fn inputs_of(alloc: Global, network: &Network) -> Result<Vec<(&str, Kind)>, AllocError> {
+    let mut inputs = Vec::new(alloc);
+    for number in 0..network.channels() {
+        let channel = network.channel(number);
+        if let Role::Input = channel.role {
+            inputs.push((channel.name, channel.kind))?;
+        }
+    }
+    Ok(inputs)
 }
 
 /// The entries that were perhaps meant, where each word of a text is understood, and no line with a name is read twice.
@@ -275,10 +266,13 @@ fn meant_entries(
     network: &Network,
     text: &str,
 ) -> Result<Option<Vec<String>>, AllocError> {
+    let inputs = inputs_of(alloc, network)?;
+    let is_one = inputs.len() == 1;
     let mut reading = LineReading {
         alloc,
         network,
-        channels: Vec::new(alloc),
+        inputs,
+        given: Vec::new(alloc),
         lines: Vec::new(alloc),
         columns: Vec::new(alloc),
         count: 0,
@@ -286,14 +280,19 @@ fn meant_entries(
         last: 0,
         is_range: false,
     };
-    reading.begin()?;
+    if is_one {
+        reading.name(0)?;
+    }
     let mut seen: Vec<&str> = Vec::new(alloc);
     for line in text.lines() {
         let is_again = line.find(":").is_some() && seen.contains(&line);
         seen.push(line)?;
-        let line = if is_again { "" } else { line };
+        let is_idle = is_again || line.strip_prefix("comment ").is_some();
+        let line = if is_idle { "" } else { line };
         let (line, _) = line.split_once("#").unwrap_or((line, ""));
         let (line, _) = line.split_once("//").unwrap_or((line, ""));
+        let (line, _) = line.split_once("-- ").unwrap_or((line, ""));
+        let (line, _) = line.split_once("(*").unwrap_or((line, ""));
         let bare = line.trim();
         let plain = plain_line(alloc, bare.strip_prefix("- ").unwrap_or(bare))?;
         if !reading.line(plain.as_str())? {

@@ -33,26 +33,39 @@ pub(crate) fn plain_sign(character: char) -> char {
     }
 }
 
-/// What begins as a comment of other languages does.
-const COMMENTS: &str = "^# ^// | ; an input has no comments";
+/// What stands in words that are no values, or in the place of a name: behind a `^` at the front, and behind an `=` alone.
+const COMMENTS: &str = "
+^# ^// ^(* ^/* ^% =-- | ; an input has no comments";
 
-/// What stands in words that are no values: behind a `^` at the front, and behind an `=` alone.
 const NUMERALS: &str = "
-^# ^// | ; an input has no comments
 ^[ ^( ^{ ^\" ^' | ; values stand without brackets and quotation marks
 .. | ; there are no ranges: each value stands there itself
 , ; | ; blanks stand between values
-. | ; numbers are whole
+. / | ; numbers are whole
 + | ; a number has no `+`
 0x | ; numbers are decimal
 =- | ; a `-` stands right before its digits
 ";
 
-/// The same of what is no numeral.
+/// The same where more is said.
 const OTHERS: &str = "
+=.true. =.false. =.TRUE. =.FALSE. | ; truth values are `true` and `false`
+=to =until | ; there are no ranges: each value stands there itself
+* | ; nothing is repeated or computed: each value stands there itself
+=\\ | ; all values of a channel stand on one line
 ^$ ^\u{20AC} ^\u{00A3} | ; a number has no unit
 =NaN =nan =null =NULL =None =NA =N/A | ; a missing value is left out
 ";
+
+/// What is said of a line that begins with a name that no channel is meant to have.
+const HEADS: &str = "
+=integer =logical =INTEGER =LOGICAL | ; no kind stands before the name
+=end =finished =limit | ; a report is no input
+=send =print =let =var =set =put | ; an input has no statements: values stand behind the name of their channel
+";
+
+/// What is said of a line that begins as a comment of the language.
+const REMARKS: &str = "=comment =COMMENT =rem =REM | ; an input has no comments";
 
 /// Whether this stands somewhere in a part.
 pub(crate) fn stands_in(text: &str, part: &[u8]) -> bool {
@@ -102,6 +115,23 @@ pub(crate) fn no_comment_words(part: &[u8]) -> &'static str {
     words_of(COMMENTS, part)
 }
 
+/// Whether a letter stands at the front.
+fn is_named(part: &[u8]) -> bool {
+    matches!(part.first(), Some(byte) if byte.is_ascii_alphabetic())
+}
+
+/// What is said of a line that begins with this name, in which this part stands in the place of a name or a colon.
+pub(crate) fn head_words(name: &[u8], part: &[u8]) -> &'static str {
+    let said = words_or(words_of(REMARKS, name), words_of(HEADS, name));
+    let more = match is_named(name) {
+        true if is_named(part) && part.ends_with(b":") => "; a name has no blanks",
+        false if is_number(part) => "; all values of a channel stand on one line, behind its name",
+        false if matches!(part, b";") => no_comment_words(b"#"),
+        _ => no_comment_words(part),
+    };
+    words_or(said, more)
+}
+
 /// How many digits stand from a byte on.
 fn digits_from(bytes: &[u8], at: usize) -> usize {
     let rest = bytes.get(at..).unwrap_or(&[]);
@@ -140,21 +170,29 @@ pub(crate) fn numeral_words(part: &[u8]) -> &'static str {
     } else {
         ""
     };
-    words_or(words_of(NUMERALS, part), past)
+    words_or(
+        no_comment_words(part),
+        words_or(words_of(NUMERALS, part), past),
+    )
 }
 
 /// What is said of a word of a line that is no value.
-pub(crate) fn word_words(line: &[u8], part: &[u8]) -> &'static str {
+pub(crate) fn word_words(line: &[u8], name: &[u8], part: &[u8]) -> &'static str {
+    let said = words_of(REMARKS, name);
+    if !said.is_empty() {
+        return said;
+    }
     if has_between(line, b' ') && has_between(part, b',') {
         return "; a number is whole, and has no `,`";
     }
     if part.ends_with(b";") && line.trim_ascii_end().ends_with(part) {
         return "; a line has no `;` at its end";
     }
-    if has_between(part, b'-') {
+    if has_between(part, b'-') && part.iter().filter(|byte| **byte == b'-').count() == 1 {
         return "; there are no ranges: each value stands there itself";
     }
-    let words = words_or(numeral_words(part), words_of(OTHERS, part));
+    let others = words_or(no_comment_words(part), words_of(OTHERS, part));
+    let words = words_or(others, numeral_words(part));
     let digits = part.strip_prefix(b"-").unwrap_or(part);
     if !words.is_empty() {
         return words;
