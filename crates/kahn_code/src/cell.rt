@@ -5,7 +5,7 @@ ghost use Rattle.kahn_code.specs.{Common.network_of, Common.instance_at, Common.
 
 use crate::code::{Code, CodeFault};
 use crate::ports::Ports;
-use crate::progress::Pause;
+use crate::progress::{Called, Pause};
 use crate::tap::Tap;
 use kahn_streams::{Carried, Input, Steps};
 use std::alloc::{Allocator, Global};
@@ -59,6 +59,7 @@ impl<A: Allocator + Copy + Drop> Cell<A> {
 
     /// Runs for at most so many events. With a quantum of 0 it only says what comes next, and never allocates. A cell
     /// that has ended or faulted says so again.
+    #[inline(never)]
     pub fn run<P: Ports, L: Ledger>(
         &mut self,
         code: &Code<A>,
@@ -73,7 +74,7 @@ impl<A: Allocator + Copy + Drop> Cell<A> {
         ensures served { Serve P.site P.others P.which P.delivered ports.old ports.new }
         ensures ran { HasRunFor P.site P.next P.is_dry P.is_ready P.has_room quantum result ports.old ports.new steps.old steps.new self.old self.new }
     {
-        self.tap.run(code, quantum, ports, steps)
+        self.tap.run::<P, L, Called>(code, quantum, ports, steps)
     }
 
     /// The number of its events.

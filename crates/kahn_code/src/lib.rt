@@ -31,5 +31,6 @@ pub use ports::Ports;
 pub use progress::Pause;
 
 // For the crates above.
+pub use progress::{Called, Within};
 pub use tap::{Tap, regrow_taps};
 pub use word::{Atom, apply, negated};

@@ -70,8 +70,9 @@ impl<A: Allocator + Copy + Drop> Tap<A> {
     }
 
     /// Runs for at most so many events. With a quantum of 0 it only says what comes next, and never allocates. A tap
-    /// whose process has ended or faulted says so again.
-    pub fn run<P: Ports, L: Ledger>(
+    /// whose process has ended or faulted says so again. `M` names the loop of instructions.
+    #[inline(always)]
+    pub fn run<P: Ports, L: Ledger, M>(
         &mut self,
         code: &Code<A>,
         quantum: u64,
@@ -88,7 +89,7 @@ impl<A: Allocator + Copy + Drop> Tap<A> {
     {
         let process_code = code.process_code(self.progress.instance);
         let arguments = code.arguments(self.progress.instance);
-        self.progress.run(&process_code.instructions, arguments, quantum, ports, steps)
+        self.progress.run::<P, L, M>(&process_code.instructions, arguments, quantum, ports, steps)
     }
 
     /// The number of its events.

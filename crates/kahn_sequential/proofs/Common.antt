@@ -1,5 +1,5 @@
 -- The names of the crates below and of this crate's definitions that proofs cite, passed on from one place.
-pub use Rattle.kahn_code.proofs.Lists.{at_last, one_first, own_of, sent_stands, stand_in, kept_grown}
+pub use Rattle.kahn_code.proofs.Lists.{at_last, found_in, one_first, own_of, sent_stands, stand_in, kept_grown}
 pub use Rattle.kahn_code.proofs.Poured.{poured_at, poured_grown, poured_length}
 pub use Rattle.kahn_code.proofs.Queued.{given_zero, set_each, set_here, taken_zero}
 pub use Rattle.kahn_code.proofs.Readers.{driven, joins_within}
@@ -21,7 +21,7 @@ pub use Rattle.kahn_sequential.specs.inner.FlowBench.{AreLent, IsFlowOf, flow_of
 pub use Rattle.kahn_sequential.specs.inner.Gathered.{IsFrom, IsGiven, IsOutcomeOf, TookAll, TookNoMore, no_view, view_at}
 pub use Rattle.kahn_sequential.specs.inner.Parts.{AreEnded, HaveRisen, run_with}
 pub use Rattle.kahn_sequential.specs.inner.Streams.{AreAllGiven, AreLists, AreNamed, HaveChanged, IsBegun, IsDeclared, IsFilled, IsFilledStream, IsOpenStream, KeepsOtherLines, OpensWith, kept_in, kept_lists, printed_in, printed_list}
-pub use Rattle.kahn_sequential.specs.inner.Workbench.{AllStandBy, AreKeptOf, AreOpen, AreOpeningCells, AreStreamsReady, AreWhole, HasAdvanced, HasEmptied, HasComeToRest, HasTakenIn, HasTakenTurn, HasWorked, IsInRound, IsLaid, IsLeft, IsRightAlone, IsSeated, Marked, MayRun, StandsAsTold, Table, actual_count, gone_in, parameter_count, sight_of, table_of, told_in, turn_of, vacant_of, weight, HasVisited, HasSpent, IsSameTap, IsSpent, IsSpentBy, IsSpentTap}
+pub use Rattle.kahn_sequential.specs.inner.Workbench.{AllStandBy, AreKeptOf, AreOpen, AreOpeningCells, AreStreamsReady, AreWhole, HasAdvanced, HasEmptied, HasComeToRest, HasTakenIn, HasTakenTurn, IsMarked, HasWorked, IsInRound, IsLaid, IsLeft, IsRightAlone, IsSeated, Marked, MayRun, StandsAsTold, Table, actual_count, gone_in, parameter_count, sight_of, table_of, told_in, turn_of, vacant_of, weight, HasVisited, HasSpent, IsSameTap, IsSpent, IsSpentBy, IsSpentTap}
 pub use Rattle.kahn_streams.proofs.Dry.{dry_reads}
 pub use Rattle.kahn_streams.proofs.Entered.{none_of}
 pub use Rattle.kahn_streams.proofs.Fed.{meant_input}

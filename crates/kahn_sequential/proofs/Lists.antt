@@ -1,15 +1,6 @@
 -- Lists whose values stand.
 use Rattle.std.proofs.Common.{length-append}
-use Rattle.kahn_sequential.proofs.Common.{⊎_elim, arith, ◌≡◌, ◌⊎◌, inl, inr, subst, slice_set, slice_index_or, sum_by, ℕ, zero, suc, ◌+◌, ◌<◌, ◌≤◌, List, [], ◌∷◌, ◌++◌, length, map, refl, sym, ap, ◌∙◌, Some, slice_get, append-nil, le_of_suc-le-suc, not-suc-le-zero, le_refl, at_last, set_each, cases_lt, get_or_past, fold-map, get_or-le-sum_by, same_Some, slice_get_read, slice_get_within, there, HaveChanged, Value, Line, Schema, Inputs, iterate, IsPrefix, prefix_get, one_value, AllStand, Actual, Reads, Writes, Hands, Written, cases_eq, get_or_from_slice_get, length-set}
-
--- a list that agrees with a longer one begins it
-pub agree : (xs ys : List Value) → length xs ≤ length ys →
-    ((k : ℕ) (v w : Value) → slice_get xs k ≡ Some v → slice_get ys k ≡ Some w → v ≡ w) → IsPrefix xs ys
-agree [] ys le h = (ys, refl)
-agree (x ∷ xs) [] le h = absurd (not-suc-le-zero le)
-agree (x ∷ xs) (y ∷ ys) le h =
-    let r = agree xs ys (le_of_suc-le-suc le) (λ k. h (suc k)) in
-    (r.0, ap (λ l. y ∷ l) r.1 ∙ ap (λ z. z ∷ (xs ++ r.0)) (sym (h zero x y refl refl)))
+use Rattle.kahn_sequential.proofs.Common.{⊎_elim, arith, ◌≡◌, ◌⊎◌, inl, inr, subst, slice_set, slice_index_or, sum_by, ℕ, zero, suc, ◌+◌, ◌<◌, ◌≤◌, List, [], ◌∷◌, ◌++◌, length, map, refl, sym, ap, ◌∙◌, Some, slice_get, append-nil, le_refl, at_last, found_in, set_each, cases_lt, get_or_past, fold-map, get_or-le-sum_by, same_Some, slice_get_read, slice_get_within, there, HaveChanged, Value, Line, Schema, Inputs, iterate, IsPrefix, prefix_get, one_value, AllStand, Actual, Reads, Writes, Hands, Written, cases_eq, get_or_from_slice_get, length-set}
 
 pub prefix_stands : (N : Schema) (I : Inputs) (c : Line) (xs : List Value) → ((n : ℕ) × IsPrefix xs (iterate N I n c)) → AllStand N I c xs
 prefix_stands N I c xs h k v e = (h.0, prefix_get xs (iterate N I h.0 c) h.1 k v e)
@@ -17,7 +8,8 @@ prefix_stands N I c xs h k v e = (h.0, prefix_get xs (iterate N I h.0 c) h.1 k v
 -- of two lists that stand the shorter begins the longer
 pub both_stand : (N : Schema) (I : Inputs) (c : Line) (xs ys : List Value) → AllStand N I c xs → AllStand N I c ys →
     length xs ≤ length ys → IsPrefix xs ys
-both_stand N I c xs ys h g le = agree xs ys le (λ k v w e f. one_value N I c k v w (h k v e) (g k w f))
+both_stand N I c xs ys h g le =
+    found_in xs ys (λ k v e. let w = there ys k (omega (arith, slice_get_within xs k v e, le)) in w.1 ∙ ap Some (one_value N I c k w.0 v (g k w.0 w.1) (h k v e)))
 
 -- behind a prefix of the same length nothing stands
 pub nothing_more : (xs ys : List Value) (h : IsPrefix xs ys) → length xs ≡ length ys → h.0 ≡ []

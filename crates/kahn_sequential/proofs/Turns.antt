@@ -1,6 +1,6 @@
 -- Rounds over cells.
 use Rattle.std.proofs.Common.{length-append}
-use Rattle.kahn_sequential.proofs.Common.{⊎_elim, arith, ◌≡◌, ◌⊎◌, inl, inr, ℕ, suc, ◌+◌, ◌^◌, ◌<◌, ◌≤◌, [], ◌∷◌, ◌++◌, length, sum_by, refl, sym, ap, ◌∙◌, subst, Some, slice_get, slice_set, Bool, true, false, cond, min, vec_capacity, Store, at_last, Pause, More, Reads, actual_at, instance_at, view_at, IsOutcomeOf, TookAll, Round, RunState, IsPaused, HasEndIn, events_at, view_events, all_events, weight, AreEnds, HasAdvanced, HasComeToRest, HasTakenTurn, IsInRound, LacksMemory, Marked, MayRun, PausedAt, no_view, Table, sight_of, sum_by-set, turn_of, length-set, End, Outcome, Waits}
+use Rattle.kahn_sequential.proofs.Common.{⊎_elim, arith, ◌≡◌, ◌⊎◌, inl, inr, ℕ, suc, ◌+◌, ◌-◌, ◌^◌, ◌<◌, ◌≤◌, [], ◌∷◌, ◌++◌, length, sum_by, refl, sym, ap, ◌∙◌, subst, Some, slice_get, slice_set, Bool, true, false, cond, min, vec_capacity, Store, at_last, Pause, More, Reads, actual_at, instance_at, view_at, IsOutcomeOf, TookAll, Round, RunState, IsPaused, HasEndIn, events_at, view_events, all_events, weight, AreEnds, HasAdvanced, HasComeToRest, HasRunCell, HasTakenTurn, HasWorked, IsInRound, IsMarked, LacksMemory, Marked, MayRun, PausedAt, no_view, Table, sight_of, sum_by-set, turn_of, length-set, End, Outcome, Waits}
 use Rattle.kahn_sequential.proofs.{Tapping.worked_on, Lists.one_of_sum}
 use Rattle.kahn_streams.specs.Script as script
 use Rattle.kahn_code.specs.declared.progress.Pause.TheVariants as pause
@@ -51,7 +51,7 @@ as_well {b} {d} {r} {r'} {q} o h = record {
 
 -- ---- one turn
 
-turn_most : (r : Round) → turn_of r ≤ r.left
+pub turn_most : (r : Round) → turn_of r ≤ r.left
 turn_most r = by r.memory
   where
     by : (m : Bool) → cond m 0 (min r.quantum r.left) ≤ r.left
@@ -69,6 +69,17 @@ turn_none r some = by r.memory
 pub turn_bound : (s : RunState) (r : Round) (p : ℕ) → MayRun s r → events_at s p + turn_of r < 2 ^ 48
 turn_bound s r p may =
     omega (arith, may.bound, turn_most r, one_of_sum view_events s.cells p no_view refl)
+
+-- a turn that was marked
+pub took_turn : {b d : Table} {r r' : Round} {p n before : ℕ} {z : Pause} → n ≡ turn_of r → before ≡ events_at (sight_of b) p → HasRunCell (sight_of b) (sight_of d) p n z →
+    HasWorked b d → IsMarked (events_at (sight_of d) p - before) z r r' → HasTakenTurn b d r r' p z
+took_turn {b} {d} {r} {r'} {p} {n} {before} e f ran worked marked = record {
+  ran = rw (sym e) ran;
+  done = events_at (sight_of d) p - before;
+  counts = let up = ran.events.0 in omega (arith, f, up);
+  marked = marked;
+  worked = worked;
+}
 
 module _ {b d : Table} {r r' : Round} {p : ℕ} {z : Pause} (may : MayRun (sight_of b) r) (within : p < length (sight_of b).network.instances) (v : HasTakenTurn b d r r' p z) where
   abbrev s : RunState

@@ -7,7 +7,7 @@ ghost use Rattle.std.specs.Prelude.{◌≡◌, ◌<◌, ◌+◌, ◌^◌, ℕ, [
 
 use crate::awake::Awake;
 use crate::channel::channel_read;
-use crate::looks::{LONG_TURN, Looks};
+use crate::looks::{LONG_TURN, Looks, sent_on};
 use crate::streams::fill;
 use crate::taps::{all_kept, all_sized, all_stood, forget_turned, named_taps};
 use crate::woken::Woken;
@@ -108,15 +108,25 @@ impl<'n> Sequential<'n> {
         self.network.instances()
     }
 
-    /// Runs a process for at most `quantum` events.
+    /// Runs a process for at most `quantum` events. `M` names the loop of instructions.
     #[inline(always)]
-    pub fn run<L: Ledger>(&mut self, instance: usize, quantum: u64, steps: &mut Steps<L>) -> Pause
+    pub fn run<L: Ledger, M>(
+        &mut self,
+        instance: usize,
+        quantum: u64,
+        steps: &mut Steps<L>,
+    ) -> Pause
         requires here { instance < length (sight_of self.old).network.instances }
         requires bound { events_at (sight_of self.old) instance + quantum < 2 ^ 48 }
         ensures { HasRunCell (sight_of self.old) (sight_of self.new) instance quantum result × HasWorked self.old self.new }
     {
         self.queues.at(instance);
-        let pause = self.taps[instance].run(&self.code, quantum, &mut self.queues, steps);
+        let pause = self.taps[instance].run::<Plain<Global>, L, M>(
+            &self.code,
+            quantum,
+            &mut self.queues,
+            steps,
+        );
         self.queues.counted();
         pause
     }
@@ -155,7 +165,7 @@ impl<'n> Sequential<'n> {
         ensures { self.new ≡ self.old }
     {
         if self.looks.note_turn(instance, done, left) && self.looks.is_over() {
-            let sent = self.sent();
+            let sent = sent_on(self.network, &self.queues);
             self.looks.turn(sent);
         }
         if done >= LONG_TURN {
@@ -200,18 +210,6 @@ impl<'n> Sequential<'n> {
     /// How many instances have work, if there is work for several workers, as far as is known; else 0.
     pub fn wide(&self) -> usize {
         self.looks.wide()
-    }
-
-    // How many tokens were sent on all channels between processes, and those of the input.
-    fn sent(&self) -> u64 {
-        let mut sum = 0_u64;
-        for channel in 0..self.network.channels() {
-            let waiting = self.queues.waiting(channel) as u64;
-            sum = sum
-                .saturating_add(self.queues.taken(channel))
-                .saturating_add(waiting);
-        }
-        sum
     }
 
     /// Goes on for a longer input, in which these values come after those of an input channel: they wait there. Fails only if

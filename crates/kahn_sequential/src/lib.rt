@@ -1,6 +1,7 @@
 //! Runs on one thread, and what the answers of all runs mean.
 #![tactic(auto)]
 
+mod apart;
 mod awake;
 mod bench;
 mod channel;

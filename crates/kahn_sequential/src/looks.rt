@@ -4,7 +4,7 @@
 ghost use Rattle.std.specs.Prelude.{◌≡◌, ◌<◌, length};
 ghost use Rattle.kahn_sequential.specs.inner.Below.{network_of};
 
-use kahn_code::Code;
+use kahn_code::{Code, Plain};
 use kahn_streams::{Network, NoMemory};
 use std::alloc::Global;
 
@@ -82,6 +82,18 @@ fn cost_of(network: &Network, code: &Code, instance: usize) -> u64
         }
     }
     (code.length(instance) as u64 / events.max(1)).saturating_add(EVENT)
+}
+
+/// How many tokens were sent on all channels between processes, and those of the input.
+pub(crate) fn sent_on(network: &Network, queues: &Plain<Global>) -> u64 {
+    let mut sum = 0_u64;
+    for channel in 0..network.channels() {
+        let waiting = queues.waiting(channel) as u64;
+        sum = sum
+            .saturating_add(queues.taken(channel))
+            .saturating_add(waiting);
+    }
+    sum
 }
 
 impl Looks {

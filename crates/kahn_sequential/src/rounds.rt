@@ -9,10 +9,11 @@ ghost use Rattle.kahn_sequential.specs.inner.FlowBench.{IsPartEnd};
 ghost use Rattle.kahn_sequential.specs.inner.Workbench.{HasAdvanced, HasComeToRest, HasTakenTurn, HasVisited, HasWorked, IsInRound, IsMarked, MayGoOn, MayRun, sight_of, turn_of, weight};
 ghost use Rattle.kahn_streams.specs.declared.answer.Outcome.TheVariants as outcome;
 ghost use Rattle.kahn_code.specs.declared.progress.Pause.TheVariants as pause;
-ghost use Rattle.std.specs.Prelude.{◌≡◌, ◌⊎◌, ◌<◌, ◌≤◌, ◌+◌, ◌^◌, length, slice_set, true, vec_capacity, IfErr, IfOk, MatchResult};
+ghost use Rattle.std.specs.Prelude.{◌≡◌, ◌⊎◌, ◌<◌, ◌≤◌, ◌+◌, ◌-◌, ◌^◌, length, slice_set, true, vec_capacity, IfErr, IfOk, MatchResult};
 
+use crate::apart::run_apart;
 use crate::bench::Sequential;
-use kahn_code::{Pause, Steps};
+use kahn_code::{Pause, Steps, Within};
 use kahn_streams::{End, Gate, Outcome, Plan, Verdict};
 use std::sync::ledger::{Blank, Ledger};
 
@@ -124,6 +125,26 @@ impl Round {
         bench.note_turn(instance, done, self.left);
     }
 
+    // Marks and notes a turn before which an instance had done so many events.
+    #[inline(always)]
+    fn mark_turn(
+        &mut self,
+        bench: &mut Sequential<'_>,
+        instance: usize,
+        before: u64,
+        stopped: Pause,
+    )
+        requires here { instance < length (sight_of bench.old).network.instances }
+        requires up { before ≤ events_at (sight_of bench.old) instance }
+        requires few { events_at (sight_of bench.old) instance ≤ before + self.old.left }
+        ensures bench { bench.new ≡ bench.old }
+        ensures marked { IsMarked (events_at (sight_of bench.old) instance - before) stopped self.old self.new }
+    {
+        let done = bench.events(instance) - before;
+        self.mark(done, stopped);
+        self.note_turn(bench, instance, done);
+    }
+
     // How many events the next turn may do.
     fn turn(&self) -> u64
         ensures { result ≡ turn_of self.now }
@@ -178,14 +199,28 @@ impl<'g, L: Ledger, G: Gate> Driver<'g, L, G> {
         ensures worked { HasWorked bench.old bench.new }
     {
         if self.gate.is_open() || quantum == 0 {
-            return bench.run(instance, quantum, &mut self.steps);
+            return run_apart(bench, instance, quantum, &mut self.steps);
         }
-        let next = bench.run(instance, 0, &mut self.steps);
+        let next = run_apart(bench, instance, 0, &mut self.steps);
         if !matches!(next, Pause::Spent) {
             return next;
         }
         self.gate.enter(instance);
-        bench.run(instance, quantum, &mut self.steps)
+        run_apart(bench, instance, quantum, &mut self.steps)
+    }
+
+    // The same in a brief round: at an open gate by a loop of instructions that stands within the rounds.
+    #[inline(always)]
+    fn run_within(&mut self, bench: &mut Sequential<'_>, instance: usize, quantum: u64) -> Pause
+        requires here { instance < length (sight_of bench.old).network.instances }
+        requires bound { events_at (sight_of bench.old) instance + quantum < 2 ^ 48 }
+        ensures ran { HasRunCell (sight_of bench.old) (sight_of bench.new) instance quantum result }
+        ensures worked { HasWorked bench.old bench.new }
+    {
+        if !self.gate.is_open() {
+            return self.run_gated(bench, instance, quantum);
+        }
+        bench.run::<L, Within>(instance, quantum, &mut self.steps)
     }
 
     // The turn of an instance: runs it, and marks what was done.
@@ -198,9 +233,7 @@ impl<'g, L: Ledger, G: Gate> Driver<'g, L, G> {
         let before = bench.events(instance);
         let quantum = round.turn();
         let stopped = self.run_gated(bench, instance, quantum);
-        let done = bench.events(instance) - before;
-        round.mark(done, stopped);
-        round.note_turn(bench, instance, done);
+        round.mark_turn(bench, instance, before, stopped);
         stopped
     }
 
@@ -217,23 +250,21 @@ impl<'g, L: Ledger, G: Gate> Driver<'g, L, G> {
 
     // The turn of an instance in a brief round. One that is far ahead of its readers is passed over, so that they come up to it.
     #[inline(always)]
-    fn visit_brief(
-        &mut self,
-        bench: &mut Sequential<'_>,
-        round: &mut Round,
-        instance: usize,
-    ) -> Pause
+    fn visit_brief(&mut self, bench: &mut Sequential<'_>, round: &mut Round, instance: usize)
         requires here { instance < length (sight_of bench.old).network.instances }
         requires may { MayRun (sight_of bench.old) round.old }
         ensures { HasAdvanced bench.old bench.new round.old round.new }
     {
         if bench.passes_over(instance) {
-            return Pause::Spent;
+            return;
         }
-        self.take_turn(bench, round, instance)
+        let before = bench.events(instance);
+        let quantum = round.turn();
+        let stopped = self.run_within(bench, instance, quantum);
+        round.mark_turn(bench, instance, before, stopped);
     }
 
-    // A round that notes no ends. It is over where memory was refused, so that no turn asks whether it was.
+    // A round that notes no ends. It is over where memory was refused.
     #[tactic(auto, using(crate::proofs::Turns::moved_on))]
     fn brief_round(&mut self, bench: &mut Sequential<'_>, round: &mut Round)
         requires { MayRun (sight_of bench.old) round.old }
@@ -245,14 +276,12 @@ impl<'g, L: Ledger, G: Gate> Driver<'g, L, G> {
             if round.memory {
                 return;
             }
-            let stopped = self.visit_brief(bench, round, instance);
-            if matches!(stopped, Pause::NoMemory) {
-                return;
-            }
+            self.visit_brief(bench, round, instance);
         }
     }
 
     // Some brief rounds.
+    #[inline(never)]
     fn rounds_together(&mut self, bench: &mut Sequential<'_>, round: &mut Round)
         requires { MayRun (sight_of bench.old) round.old }
         ensures { HasAdvanced bench.old bench.new round.old round.new }

@@ -2,13 +2,13 @@ use Rattle.std.proofs.Common.{refl, rules}
 use Rattle.kahn_sequential.proofs.Turns.{begun, moved_on}
 use Rattle.kahn_sequential.proofs.rounds.Driver.brief_round.Goals as goal
 
-pub visit_brief-stopped-requires-clause-may : goal.visit_brief-stopped-requires-clause-may
-visit_brief-stopped-requires-clause-may g c = c.loop-instance.invariant.moved.may
+pub visit_brief-requires-clause-may : goal.visit_brief-requires-clause-may
+visit_brief-requires-clause-may g c = c.loop-instance.invariant.moved.may
 
 pub loop-instance-preserved : goal.loop-instance-preserved
 loop-instance-preserved g c =
     let i = c.loop-instance.invariant in
-    let v = c.visit_brief-stopped.ensures in
+    let v = c.visit_brief.ensures in
     record { moved = moved_on i.moved v; count = search rules }
 
 pub loop-instance-init : goal.loop-instance-init
