@@ -121,7 +121,7 @@ impl<'n> Sequential<'n> {
         ensures { HasRunCell (sight_of self.old) (sight_of self.new) instance quantum result × HasWorked self.old self.new }
     {
         self.queues.at(instance);
-        let pause = self.taps[instance].run::<Plain<Global>, L, M>(
+        let pause = self.taps[instance].run::<Plain<'n, Global>, L, M>(
             &self.code,
             quantum,
             &mut self.queues,
