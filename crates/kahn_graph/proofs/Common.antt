@@ -2,7 +2,7 @@
 pub use Rattle.kahn_chain.specs.Chain.{AreRings, IsRingMark, LeadsOn, stands}
 pub use Rattle.kahn_chain.specs.declared.standing.Standing.{Standing}
 pub use Rattle.kahn_chain.specs.declared.standing.Standing.TheVariants.{Ended, Faulted, More, Waits}
-pub use Rattle.kahn_graph.specs.Graph.{AreTexts, IsAll, IsEdge, IsNode, awaited_text, edge_text, mark_text, node_text}
+pub use Rattle.kahn_graph.specs.Graph.{AreTexts, IsAll, IsEdge, IsNode, IsPortText, awaited_text, edge_text, mark_text, node_text, values_text}
 pub use Rattle.kahn_graph.specs.Ran.{IsWaitMark, carried}
 pub use Rattle.kahn_graph.specs.inner.Adding.{IsWaitAt, is_wait}
 pub use Rattle.kahn_streams.proofs.By_number.{at_index}

@@ -1,5 +1,48 @@
--- The ends of edges.
-use Rattle.kahn_graph.proofs.Common.{[], Bool, End, IfSome, IsEdge, IsOnly, IsReader, IsWaitMark, IsWithin, IsWriter, Kind, List, Schema, None, Option, Program, Role, Side, Some, Standing, Stream, ap₂, arith, awaited_text, bytes_of, channel_names, codes, concat, edge_text, instance_from, kind_at, length, length-map, map, mark_text, network_of, process_of, role_at, slice_get, stands, subst, ℕ, ◌++◌, ◌+◌, ◌<◌, ◌∷◌, ◌≡◌}
+-- Values and ends of edges by the names of parameters.
+use Rattle.kahn_graph.proofs.Common.{Argument, Bool, End, IfSome, IsEdge, IsOnly, IsPortText, IsReader, IsWaitMark, IsWithin, IsWriter, Kind, List, Schema, None, Option, Parameter, Process, Program, Role, Scope, Side, Some, Standing, Stream, [], actuals_of, ap, ap₂, arith, awaited_text, bytes_of, cases_lt, channel_names, codes, concat, drop, drop_of_length-le, edge_text, inl, inr, instance_at, instance_from, kind_at, length, length-map, map, mark_text, min, network_of, process_of, refl, role_at, slice_get, stands, subst, sym, values_text, ℕ, ⊎_elim, ◌++◌, ◌+◌, ◌<◌, ◌==◌, ◌∙◌, ◌∷◌, ◌≡◌, ◌≤◌, ◌⊎◌, add-one}
+use Rattle.kahn_streams.proofs.Entered.{drop_some}
+
+-- ---- values
+
+front : {X : Type 0} (xs : List X) (k : ℕ) (x : X) → slice_get xs k ≡ Some x → drop k xs ≡ x ∷ drop (k + 1) xs
+front xs k x e = drop_some xs k x e ∙ ap (λ j. x ∷ drop j xs) (sym (add-one k))
+
+pub next_value : (before : List ℕ) (qs : List Parameter) (xs : List Argument) (k : ℕ) (q : Parameter) (x : Argument) → slice_get qs k ≡ Some q → slice_get xs k ≡ Some x
+    → values_text before (drop k qs) (drop k xs) ≡ values_text before (q ∷ drop (k + 1) qs) (x ∷ drop (k + 1) xs)
+next_value before qs xs k q x e f = ap₂ (values_text before) (front qs k q e) (front xs k x f)
+
+no_argument : (before : List ℕ) (qs : List Parameter) → values_text before qs [] ≡ []
+no_argument before [] = refl
+no_argument before (q ∷ qs) = refl
+
+pub no_value_more : (before : List ℕ) (qs : List Parameter) (xs : List Argument) (k : ℕ) → (length qs ≤ k) ⊎ (length xs ≤ k) → values_text before (drop k qs) (drop k xs) ≡ []
+no_value_more before qs xs k (inl le) = ap (λ l. values_text before l (drop k xs)) (drop_of_length-le qs le)
+no_value_more before qs xs k (inr le) = ap (values_text before (drop k qs)) (drop_of_length-le xs le) ∙ no_argument before (drop k qs)
+
+-- nothing is left behind the last of the shorter list
+pub values_end : (before : List ℕ) (qs : List Parameter) (xs : List Argument) (n k : ℕ) → n ≡ min (length xs) (length qs) → n ≤ k
+    → values_text before (drop k qs) (drop k xs) ≡ []
+values_end before qs xs n k e le = ⊎_elim few_arguments few_parameters (cases_lt (length xs) (length qs))
+  where
+    few_arguments : length xs < length qs → values_text before (drop k qs) (drop k xs) ≡ []
+    few_arguments lt = no_value_more before qs xs k (inr (omega (arith, e, le, lt)))
+
+    few_parameters : length qs ≤ length xs → values_text before (drop k qs) (drop k xs) ≡ []
+    few_parameters ge = no_value_more before qs xs k (inl (omega (arith, e, le, ge)))
+
+-- ---- sides
+
+few_actuals : (names : Scope) (qs : List Parameter) (xs : List Argument) → length (actuals_of names qs xs) ≤ length qs
+few_actuals names [] xs = omega arith
+few_actuals names (q ∷ qs) [] = omega arith
+few_actuals names (q ∷ qs) (x ∷ xs) = let less = few_actuals names qs xs in omega (arith, less)
+
+pub port_within : (N : Schema) (names : Scope) (p : Process) (xs : List Argument) (s : Side) → IsWithin N s → instance_at N s.instance ≡ instance_from names (Some p) xs
+    → s.parameter < length p.parameters.items
+port_within N names p xs s within e =
+    let same : length (instance_at N s.instance).actuals ≡ length (actuals_of names p.parameters.items xs) = ap (λ i. length i.actuals) e in
+    let less : length (actuals_of names p.parameters.items xs) ≤ length p.parameters.items = few_actuals names p.parameters.items xs in
+    omega (arith, within.1, same, less)
 
 pub writer_within : (N : Schema) (c : ℕ) (o : Option Side) → IsOnly (IsWriter N c) o → IfSome o (IsWithin N)
 writer_within N c None only = tt
@@ -9,12 +52,14 @@ pub reader_within : (N : Schema) (c : ℕ) (o : Option Side) → IsOnly (IsReade
 reader_within N c None only = tt
 reader_within N c (Some s) only = only.0.0
 
--- an edge by what is found of its channel
+-- ---- edges
+
 pub edge_of : (t : Program) (streams : List Stream) (ends : List End) (ss : List Standing) (c : ℕ) (name tail head : List ℕ) (kind : Kind) (role : Role) (writer reader : Option Side) (ring : Bool)
     → slice_get (channel_names t) c ≡ Some name → kind ≡ kind_at (network_of t) c → role ≡ role_at (network_of t) c
-    → IsOnly (IsWriter (network_of t) c) writer → IsOnly (IsReader (network_of t) c) reader → ss ≡ map stands ends → IsWaitMark (network_of t) ss c ring
+    → IsOnly (IsWriter (network_of t) c) writer → IsOnly (IsReader (network_of t) c) reader
+    → IsPortText t (codes "taillabel") writer tail → IsPortText t (codes "headlabel") reader head → ss ≡ map stands ends → IsWaitMark (network_of t) ss c ring
     → IsEdge t streams ends c (mark_text c role ++ (edge_text streams c name kind writer reader ++ (tail ++ (head ++ concat (awaited_text ring ∷ codes "];\n" ∷ [])))))
-edge_of t streams ends ss c name tail head kind role writer reader ring e k r w d same m = (
+edge_of t streams ends ss c name tail head kind role writer reader ring e k r w d it ih same m = (
   name,
   writer,
   reader,
@@ -24,6 +69,8 @@ edge_of t streams ends ss c name tail head kind role writer reader ring e k r w 
   e,
   w,
   d,
+  it,
+  ih,
   subst (λ l. IsWaitMark (network_of t) l c ring) same m,
   ap₂ (λ x y. mark_text c x ++ (edge_text streams c name y writer reader ++ (tail ++ (head ++ concat (awaited_text ring ∷ codes "];\n" ∷ []))))) r k,
 )

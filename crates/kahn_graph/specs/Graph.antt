@@ -1,15 +1,33 @@
 -- Believed. The picture of a network: a text in the language of Graphviz with a node for each instance and an edge for each channel,
 -- from its writer to its reader, with what came of a run, where there was one. This project's own choice of what a picture shows.
 use Rattle.std.specs.Prelude.{◌≡◌, ℕ, ◌+◌, List, [], ◌∷◌, ◌++◌, length, codes, decimal, map, Bool, true, false, Option, None, Some, option_map, slice_get}
-use Rattle.std.specs.List.{concat}
-use Rattle.kahn_streams.specs.declared.{answer.End.End, answer.Stream.Stream, tree.Kind.Kind, tree.Role.Role, tree.Argument.Argument, tree.Instance.Instance, tree.Name.Name, tree.Process.Process, tree.Program.Program, sides.Side.Side}
+use Rattle.std.specs.{Fmt.signed_decimal, List.concat}
+use Rattle.kahn_streams.specs.declared.{answer.End.End, answer.Stream.Stream, tree.Kind.Kind, tree.Role.Role, tree.Argument.Argument, tree.Instance.Instance, tree.Name.Name, tree.Parameter.Parameter, tree.Process.Process, tree.Program.Program, sides.Side.Side}
 use Rattle.kahn_streams.specs.declared.tree.Kind.TheVariants as K
 use Rattle.kahn_streams.specs.{declared.tree.Role.TheVariants.Inner, declared.tree.Role.TheVariants.Input, declared.tree.Role.TheVariants.Output, Place.line_of, Place.column_of, Prints.process_prints, View.bytes_of, Made.IsMadeOf, Network.network_of, Network.kind_at, Network.role_at, Network.IsOnly, Network.IsWriter, Network.IsReader, Network.channel_names}
+use Rattle.kahn_streams.specs.declared.tree.Argument.TheVariants as A
 use Rattle.kahn_chain.specs.{declared.standing.Standing.Standing, Chain.IsRingMark, Chain.stands}
 use Rattle.kahn_chain.specs.declared.standing.Standing.TheVariants as Stands
 use Rattle.kahn_graph.specs.Ran.{ended_text, carried, count_text, IsWaitMark}
 
 -- ---- instances
+
+-- a text where something is so, and else another one
+abbrev pub text_if : Bool → List ℕ → List ℕ → List ℕ
+text_if true one other = one
+text_if false one other = other
+
+-- a value by the name of its parameter, after what separates it from the value before
+abbrev pub named_text : List ℕ → Parameter → List ℕ → List ℕ
+named_text before q value = concat (before ∷ bytes_of q.name ∷ codes "=" ∷ value ∷ [])
+
+-- the value arguments, the first after `before` and each further one after a comma; channels are shown by edges
+abbrev pub values_text : List ℕ → List Parameter → List Argument → List ℕ
+values_text before [] xs = []
+values_text before (q ∷ qs) [] = []
+values_text before (q ∷ qs) (A.Channel n ∷ rest) = values_text before qs rest
+values_text before (q ∷ qs) (A.Number z at ∷ rest) = named_text before q (signed_decimal z) ++ values_text (codes ", ") qs rest
+values_text before (q ∷ qs) (A.Logical b at ∷ rest) = named_text before q (text_if b (codes "true") (codes "false")) ++ values_text (codes ", ") qs rest
 
 -- a second border where the process prints
 abbrev pub border_text : Bool → List ℕ
@@ -18,10 +36,11 @@ border_text false = []
 
 -- the colour of a box by how its instance stands; it stays white where the instance waits, and without a run
 abbrev pub colour_text : Option Standing → List ℕ
+colour_text None = []
 colour_text (Some Stands.Ended) = codes ", style=filled, fillcolor=lightgrey"
+colour_text (Some (Stands.Waits c)) = []
 colour_text (Some Stands.Faulted) = codes ", style=filled, fillcolor=salmon"
 colour_text (Some Stands.More) = codes ", style=filled, fillcolor=palegreen"
-colour_text s = []
 
 -- a red border where the instance is on a ring of waits
 abbrev pub ring_text : Bool → List ℕ
@@ -33,18 +52,20 @@ abbrev pub tip_text : List ℕ → Name → List ℕ
 tip_text source n =
     concat (codes ", tooltip=\"" ∷ bytes_of n ∷ codes " at " ∷ decimal (line_of source n.span.from) ∷ codes ":" ∷ decimal (column_of source n.span.from) ∷ codes "\"" ∷ [])
 
--- the node of an instance of the program: its label has its number from 1, its process, its values below them, and how it ended
-abbrev pub node_text : Program → Option End → ℕ → Process → List ℕ → Bool → List ℕ
-node_text t end i p values ring =
-    concat (codes "  p" ∷ decimal i ∷ codes " [label=\"" ∷ decimal (i + 1) ∷ codes " " ∷ bytes_of p.name ∷ []) ++ (values ++ (ended_text t end
+-- the node of an instance of the program: its label has its number from 1, its process, the values below them, and how it ended
+abbrev pub node_text : Program → Option End → ℕ → Process → List Argument → Bool → List ℕ
+node_text t end i p arguments ring =
+    concat (codes "  p" ∷ decimal i ∷ codes " [label=\"" ∷ decimal (i + 1) ∷ codes " " ∷ bytes_of p.name ∷ [])
+    ++ (values_text (codes "\\n") p.parameters.items arguments
+    ++ (ended_text t end
     ++ concat (codes "\"" ∷ border_text (process_prints p) ∷ colour_text (option_map stands end) ∷ ring_text ring ∷ [])))
 
--- the text is the node of instance i of the program, with some words for its values
+-- the text is the node of instance i of the program
 abbrev pub IsNode : Program → List ℕ → List End → ℕ → List ℕ → Type 0
 IsNode t source ends i text =
-    (p : Process) × (arguments : List Argument) × (x : Instance) × (ring : Bool) × (values : List ℕ)
+    (p : Process) × (arguments : List Argument) × (x : Instance) × (ring : Bool)
     × IsMadeOf t i p arguments × (slice_get t.instances.items i ≡ Some x) × IsRingMark (network_of t) (map stands ends) i ring
-    × (text ≡ node_text t (slice_get ends i) i p values ring ++ (tip_text source x.process ++ codes "];\n"))
+    × (text ≡ node_text t (slice_get ends i) i p arguments ring ++ (tip_text source x.process ++ codes "];\n"))
 
 -- ---- channels
 
@@ -66,21 +87,32 @@ style_text K.Logical = codes "dashed"
 
 -- a red and broad line where a ring waits on the channel
 abbrev pub awaited_text : Bool → List ℕ
-awaited_text true = codes ", color=red, penwidth=2"
-awaited_text false = []
+awaited_text ring = text_if ring (codes ", color=red, penwidth=2") []
+
+-- the name of the parameter at a side
+abbrev pub IsPort : Program → Side → List ℕ → Type 0
+IsPort t s name =
+    (p : Process) × (arguments : List Argument) × (q : Parameter)
+    × IsMadeOf t s.instance p arguments × (slice_get p.parameters.items s.parameter ≡ Some q) × (name ≡ bytes_of q.name)
+
+-- that name as an attribute of an edge, where the edge has that side
+abbrev pub IsPortText : Program → List ℕ → Option Side → List ℕ → Type 0
+IsPortText t attribute None text = text ≡ []
+IsPortText t attribute (Some s) text =
+    (name : List ℕ) × IsPort t s name × (text ≡ concat (codes ", " ∷ attribute ∷ codes "=\"" ∷ name ∷ codes "\"" ∷ []))
 
 -- the edge of a channel with that name, from its writer to its reader; its label has the name, and how many values it carried
 abbrev pub edge_text : List Stream → ℕ → List ℕ → Kind → Option Side → Option Side → List ℕ
 edge_text streams c name kind writer reader =
     concat (codes "  " ∷ place_text c writer ∷ codes " -> " ∷ place_text c reader ∷ codes " [label=\"" ∷ name ∷ count_text (carried streams c) ∷ codes "\", style=" ∷ style_text kind ∷ [])
 
--- the text is the edge of channel c of the program, after its mark, with some words for its two ends
+-- the text is the edge of channel c of the program, after its mark
 abbrev pub IsEdge : Program → List Stream → List End → ℕ → List ℕ → Type 0
 IsEdge t streams ends c text =
     let n = network_of t in
     (name : List ℕ) × (writer : Option Side) × (reader : Option Side) × (tail : List ℕ) × (head : List ℕ) × (ring : Bool)
     × (slice_get (channel_names t) c ≡ Some name) × IsOnly (IsWriter n c) writer × IsOnly (IsReader n c) reader
-    × IsWaitMark n (map stands ends) c ring
+    × IsPortText t (codes "taillabel") writer tail × IsPortText t (codes "headlabel") reader head × IsWaitMark n (map stands ends) c ring
     × (text ≡ mark_text c (role_at n c) ++ (edge_text streams c name (kind_at n c) writer reader ++ (tail ++ (head ++ concat (awaited_text ring ∷ codes "];\n" ∷ [])))))
 
 -- ---- the whole

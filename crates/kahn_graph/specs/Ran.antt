@@ -15,8 +15,10 @@ outcome_text (Faulted Division) = codes "fault division"
 outcome_text More = codes "wants more"
 
 abbrev pub waited_text : Program → Outcome → List ℕ
+waited_text t Ended = []
 waited_text t (Waits c) = slice_index_or (channel_names t) c []
-waited_text t o = []
+waited_text t (Faulted k) = []
+waited_text t More = []
 
 -- how an instance ended, as a further line of its label
 abbrev pub ended_text : Program → Option End → List ℕ

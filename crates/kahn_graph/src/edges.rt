@@ -1,17 +1,19 @@
 //! The edges of a picture.
 
-ghost use Rattle.std.specs.Prelude.{◌≡◌, ◌<◌, ◌++◌, Option, IfOk, IfSome, length, map, string_bytes};
-ghost use Rattle.kahn_streams.specs.Network.{IsWithin, network_of};
-ghost use Rattle.kahn_graph.specs.{Graph.place_text, Graph.mark_text, Graph.style_text, Graph.awaited_text, Graph.edge_text, Graph.IsEdge, Graph.AreEdges, inner.Adding.Adds};
+ghost use Rattle.std.specs.Prelude.{◌≡◌, ◌<◌, ◌++◌, Option, IfOk, length, map, string_bytes};
+ghost use Rattle.kahn_streams.specs.Network.{network_of};
+ghost use Rattle.kahn_graph.specs.{Graph.place_text, Graph.mark_text, Graph.style_text, Graph.edge_text, Graph.IsEdge, Graph.AreEdges, inner.Adding.Adds};
 ghost use Rattle.kahn_chain.specs.Chain.{AreRings, stands};
 
+use crate::nodes::text_if;
+use crate::ports::add_port;
 use crate::ran::{add_count, carried};
 use crate::stands::is_ring_channel;
 use itoa::Buffer;
 use kahn_chain::Standing;
 use kahn_marks::add;
 use kahn_streams::{End, Kind, Network, Role, Side, Stream};
-use std::alloc::{AllocError, Global};
+use std::alloc::AllocError;
 
 // Adds where an edge of a channel begins or ends.
 fn add_place(text: &mut String, channel: usize, side: Option<Side>) -> Result<(), AllocError>
@@ -74,39 +76,9 @@ fn add_line(
     add(text, &["\", style=", style(kind)])
 }
 
-// What names the parameter at a side.
-fn port(
-    alloc: Global,
-    network: &Network,
-    attribute: &str,
-    side: Option<Side>,
-) -> Result<String, AllocError>
-    requires { IfSome side (IsWithin (network_of network.now)) }
-{
-    let mut text = String::new(alloc);
-    let Some(side) = side else {
-        return Ok(text);
-    };
-    let process = network.instance(side.instance).process;
-    if let Some(parameter) = process.parameters.get(side.parameter) {
-        text.push_str(attribute)?;
-        text.push_str(parameter.name.text.as_str())?;
-        text.push_str("\"")?;
-    }
-    Ok(text)
-}
-
-// What makes an edge red on which a ring waits.
-fn awaited(ring: bool) -> &'static str
-    ensures { result.now ≡ awaited_text ring }
-{
-    if ring { ", color=red, penwidth=2" } else { "" }
-}
-
 // Adds the mark and the edge of a channel.
 fn add_edge(
     text: &mut String,
-    alloc: Global,
     network: &Network,
     streams: &[Stream],
     _ends: &[End],
@@ -127,18 +99,16 @@ fn add_edge(
     add_line(
         text, streams, channel, found.name, found.kind, writer, reader,
     )?;
-    let tail = port(alloc, network, ", taillabel=\"", writer)?;
-    let head = port(alloc, network, ", headlabel=\"", reader)?;
-    text.push_str(tail.as_str())?;
-    text.push_str(head.as_str())?;
-    add(text, &[awaited(ring), "];\n"])?;
+    add_port(text, network, "taillabel", writer)?;
+    add_port(text, network, "headlabel", reader)?;
+    let awaited = text_if(ring, ", color=red, penwidth=2", "");
+    add(text, &[awaited, "];\n"])?;
     Ok(())
 }
 
 /// Adds the edges of all channels.
 pub(crate) fn add_edges(
     text: &mut String,
-    alloc: Global,
     network: &Network,
     streams: &[Stream],
     _ends: &[End],
@@ -150,9 +120,7 @@ pub(crate) fn add_edges(
     ensures { IfOk result (λ _. Adds (AreEdges network.now streams.now _ends.now) (string_bytes text.old) (string_bytes text.new)) }
 {
     for channel in 0..network.channels() {
-        add_edge(
-            text, alloc, network, streams, _ends, standings, rings, channel,
-        )?;
+        add_edge(text, network, streams, _ends, standings, rings, channel)?;
     }
     Ok(())
 }

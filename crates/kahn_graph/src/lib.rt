@@ -4,6 +4,7 @@
 mod edges;
 mod nodes;
 mod picture;
+mod ports;
 mod printing;
 mod ran;
 mod stands;

@@ -1,19 +1,20 @@
 //! The whole picture.
 
 ghost use Rattle.std.specs.Prelude.{◌≡◌, ◌⊎◌, [], IfOk, map, string_bytes};
-ghost use Rattle.kahn_streams.specs.Network.{network_of};
+ghost use Rattle.kahn_streams.specs.{Network.network_of, Prints.declaration_prints};
 ghost use Rattle.kahn_chain.specs.Chain.{AreRings, AreStandings, stands};
 ghost use Rattle.kahn_graph.specs.Graph.{IsPicture};
 
 use crate::edges::add_edges;
 use crate::nodes::add_nodes;
+use crate::printing::printing;
 use crate::stands::rings_of;
 use kahn_chain::{Standing, standings};
 use kahn_marks::add;
 use kahn_streams::{End, Network, Stream};
 use std::alloc::{AllocError, Global};
 
-// The picture of a network, with what came of a run and which instances are on rings.
+// The picture of a network, with what came of a run, which instances are on rings, and which processes print.
 fn drawn(
     alloc: Global,
     network: &Network,
@@ -22,7 +23,9 @@ fn drawn(
     ends: &[End],
     standings: &[Standing],
     rings: &[bool],
+    printing: &[bool],
 ) -> Result<String, AllocError>
+    requires printing { printing.now ≡ map declaration_prints network.now.declarations.items }
     requires standings { standings.now ≡ map stands ends.now }
     requires rings { AreRings (network_of network.now) standings.now rings.now }
     ensures { IfOk result (λ text. IsPicture network.now source.now streams.now ends.now (string_bytes text)) }
@@ -34,8 +37,8 @@ fn drawn(
             "digraph network {\n  rankdir=LR;\n  node [shape=box];\n  edge [labelfontsize=9, labeldistance=1.5, labelangle=45];\n",
         ],
     )?;
-    add_nodes(&mut text, alloc, network, source, ends, standings, rings)?;
-    add_edges(&mut text, alloc, network, streams, ends, standings, rings)?;
+    add_nodes(&mut text, network, source, ends, standings, rings, printing)?;
+    add_edges(&mut text, network, streams, ends, standings, rings)?;
     add(&mut text, &["}\n"])?;
     Ok(text)
 }
@@ -58,5 +61,8 @@ pub fn picture_text(
 {
     let standings = standings(alloc, ends)?;
     let rings = rings_of(alloc, network, ends)?;
-    drawn(alloc, network, source, streams, ends, &standings, &rings)
+    let printing = printing(alloc, network)?;
+    drawn(
+        alloc, network, source, streams, ends, &standings, &rings, &printing,
+    )
 }

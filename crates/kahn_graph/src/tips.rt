@@ -1,6 +1,7 @@
 //! Where the instances of a picture stand in the program text.
 
-ghost use Rattle.std.specs.Prelude.{◌≡◌, ◌<◌, ◌++◌, IfOk, length, string_bytes};
+ghost use Rattle.std.specs.Prelude.{◌≡◌, ◌<◌, ◌∷◌, ◌++◌, [], IfOk, codes, length, string_bytes};
+ghost use Rattle.std.specs.List.{concat};
 ghost use Rattle.kahn_streams.specs.Network.{network_of};
 ghost use Rattle.kahn_graph.specs.{Graph.tip_text, inner.Adding.Adds, inner.Adding.IsTip};
 
@@ -8,6 +9,21 @@ use itoa::Buffer;
 use kahn_marks::{add, place};
 use kahn_streams::{Name, Network};
 use std::alloc::AllocError;
+
+// Adds where a name stands, by the words of that.
+fn add_words<'a>(
+    text: &mut String,
+    name: &'a str,
+    line: &'a str,
+    column: &'a str,
+) -> Result<(), AllocError>
+    ensures { IfOk result (λ _. string_bytes text.new ≡ string_bytes text.old ++ concat (codes ", tooltip=\"" ∷ name.now ∷ codes " at " ∷ line.now ∷ codes ":" ∷ column.now ∷ codes "\"" ∷ [])) }
+{
+    add(
+        text,
+        &[", tooltip=\"", name, " at ", line, ":", column, "\""],
+    )
+}
 
 // Adds where a name stands.
 fn add_name(text: &mut String, source: &str, name: &Name) -> Result<(), AllocError>
@@ -17,11 +33,7 @@ fn add_name(text: &mut String, source: &str, name: &Name) -> Result<(), AllocErr
     let mut first = Buffer::new();
     let mut second = Buffer::new();
     let (line, column) = (first.format(line), second.format(column));
-    let name = name.text.as_str();
-    add(
-        text,
-        &[", tooltip=\"", name, " at ", line, ":", column, "\""],
-    )
+    add_words(text, name.text.as_str(), line, column)
 }
 
 /// Adds where an instance stands in the program text.
