@@ -12,7 +12,7 @@ use crate::place::{Place, front, names_behind};
 use crate::rules::grammar_said;
 use crate::said::{Heading, Saying, Words, sentence};
 use crate::words::add_wanted;
-use kahn_marks::{Fix, Note, Other, Sort, add, part_of};
+use kahn_marks::{Fix, Note, Other, Sort, add, part_of, simple};
 use kahn_streams::NoMemory;
 use kahn_syntax::{Lexeme, Span, What};
 use kahn_wanted::{FaultPlace, Unexpected, comment_before, place_at, reaches, swallows};
@@ -105,30 +105,24 @@ fn note_at(
     ensures told { IfOk result (IsToldAt span (string_bytes expected)) }
     ensures fix { IfOk result (λ note. note.fix ≡ fix) }
 {
-    let mut others = Vec::new(alloc);
     match head {
         Some((at, words)) => {
-            others.push(Other {
+            let mut note = simple(alloc, Sort::Error, at, words.as_str())?;
+            note.others.push(Other {
                 span,
                 words: expected,
             })?;
-            Ok(Note {
-                sort: Sort::Error,
-                span: at,
-                words,
-                fix,
-                below,
-                others,
-            })
+            note.fix = fix;
+            note.below = below;
+            Ok(note)
         }
-        None => Ok(Note {
-            sort: Sort::Error,
-            span: heading_at(span, &fix),
-            words: expected,
-            fix,
-            below,
-            others,
-        }),
+        None => {
+            let at = heading_at(span, &fix);
+            let mut note = simple(alloc, Sort::Error, at, expected.as_str())?;
+            note.fix = fix;
+            note.below = below;
+            Ok(note)
+        }
     }
 }
 
@@ -151,11 +145,11 @@ fn parts_at(
             head = Some((at, words));
         }
     }
-    if let Some(sentence) = sentence {
-        below.push(sentence)?;
-    }
     if let Some(comment) = comment {
         below.push(comment_words(alloc, text, comment)?)?;
+    }
+    if let Some(sentence) = sentence {
+        below.push(sentence)?;
     }
     Ok((head, fix, below))
 }
