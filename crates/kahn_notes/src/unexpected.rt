@@ -12,7 +12,7 @@ use crate::place::{Place, front, names_behind};
 use crate::rules::grammar_said;
 use crate::said::{Heading, Saying, Words, sentence};
 use crate::words::add_wanted;
-use kahn_marks::{Fix, Note, Other, Sort, add, part_of, simple};
+use kahn_marks::{Fix, Note, Other, Sort, add, part_of};
 use kahn_streams::NoMemory;
 use kahn_syntax::{Lexeme, Span, What};
 use kahn_wanted::{FaultPlace, Unexpected, comment_before, place_at, reaches, swallows};
@@ -105,24 +105,30 @@ fn note_at(
     ensures told { IfOk result (IsToldAt span (string_bytes expected)) }
     ensures fix { IfOk result (λ note. note.fix ≡ fix) }
 {
+    let mut others = Vec::new(alloc);
     match head {
         Some((at, words)) => {
-            let mut note = simple(alloc, Sort::Error, at, words.as_str())?;
-            note.others.push(Other {
+            others.push(Other {
                 span,
                 words: expected,
             })?;
-            note.fix = fix;
-            note.below = below;
-            Ok(note)
+            Ok(Note {
+                sort: Sort::Error,
+                span: at,
+                words,
+                fix,
+                below,
+                others,
+            })
         }
-        None => {
-            let at = heading_at(span, &fix);
-            let mut note = simple(alloc, Sort::Error, at, expected.as_str())?;
-            note.fix = fix;
-            note.below = below;
-            Ok(note)
-        }
+        None => Ok(Note {
+            sort: Sort::Error,
+            span: heading_at(span, &fix),
+            words: expected,
+            fix,
+            below,
+            others,
+        }),
     }
 }
 

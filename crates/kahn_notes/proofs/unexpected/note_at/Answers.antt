@@ -6,4 +6,4 @@ use Rattle.kahn_notes.proofs.unexpected.note_at.Goals as goal
 pub returns-in_ok-push-in-Some-clause-told : goal.returns-in_ok-push-in-Some-clause-told
 returns-in_ok-push-in-Some-clause-told c =
     let o : Other = record { span = c.args.span; words = c.args.expected } in
-    inr (o, subst (λ l. Contains l o) (sym c.in_ok-push-in-Some.ensures.items) (Contains-push _ o), refl, refl)
+    inr (o, subst (λ l. Contains l o) (sym c.in_ok-push-in-Some.ensures.items) (Contains-push c.new-others.result.items o), refl, refl)
