@@ -1,16 +1,15 @@
 //! What is said of blocks where a text has more `begin`s than `end`s, or fewer, by the indentation of their lines.
 
-ghost use Rattle.std.specs.Prelude.{Contains, IfSome};
-
+use crate::changes::is_late_else;
 use crate::foreign::closing_word;
 use crate::mending::mending;
 use crate::place::{Place, front, near};
 use crate::said::{Saying, Words, line_of, put_at, put_behind, sentence, spot_words};
-use crate::table::{finds, has_word};
+use crate::table::{finds, has_word, may_stand};
 use crate::words::class_word;
 use kahn_marks::part_of;
-use kahn_syntax::{Lexeme, Span};
-use kahn_wanted::{Spot, open_behind};
+use kahn_syntax::Span;
+use kahn_wanted::Spot;
 use std::alloc::AllocError;
 
 /// How many lexemes before an `end` are looked at.
@@ -158,22 +157,13 @@ fn surplus_at(place: Place, seats: &[LineLexeme]) -> Result<Option<usize>, Alloc
     Ok(doubt)
 }
 
-/// The `begin` there, if its block is open.
-fn open_there(begins: &[Lexeme], span: Span) -> Option<Lexeme>
-    ensures { IfSome result (Contains begins.now) }
-{
-    for begin in begins {
-        if begin.span == span {
-            return Some(*begin);
-        }
-    }
-    None
-}
-
-/// What is said of the `begin` with a number, whose block ends before the lexeme with another number: by its indentation before the line of
-/// this, or on that of its `begin`; one that stands beside another one is left out.
-fn unclosed(place: Place, seats: &[LineLexeme], number: usize, end: usize) -> Saying {
+/// What is said of the `begin` that has no `end`: by its indentation its block ends before a line, or on that of the `begin`; one that stands
+/// beside another one is left out.
+fn unclosed(place: Place, seats: &[LineLexeme]) -> Saying {
     let (alloc, text) = (place.alloc, place.text);
+    let Some((number, end)) = unclosed_at(place, seats)? else {
+        return Ok(None);
+    };
     let beside = [number.checked_sub(1), number.checked_add(1)];
     let mut beside = beside.iter().filter_map(|number| seats.get((*number)?));
     let Some(begin) = seats.get(number) else {
@@ -186,10 +176,6 @@ fn unclosed(place: Place, seats: &[LineLexeme], number: usize, end: usize) -> Sa
             return Ok(Some((Some((begin.span, words)), Some(fix), None)));
         }
     }
-    let open = open_behind(alloc, front(place.lexemes, end))?;
-    let Some(one) = open_there(&open, begin.span) else {
-        return Ok(None);
-    };
     let (words, from) = match seats.get(end) {
         Some(end) if begin.line == end.line => ("it ends before #", end.span.from),
         Some(end) => ("by its indentation it ends before line @", end.span.from),
@@ -198,7 +184,7 @@ fn unclosed(place: Place, seats: &[LineLexeme], number: usize, end: usize) -> Sa
     let at = spot_words(alloc, text, from)?;
     let ending = sentence(alloc, words, line_of(at.as_str()), at.as_str())?;
     let words = sentence(alloc, "`begin` has no `end`: @", ending.as_str(), "")?;
-    Ok(Some((Some((one.span, words)), None, None)))
+    Ok(Some((Some((begin.span, words)), None, None)))
 }
 
 /// The lexeme that leads to several statements, to the `end` with a number.
@@ -217,10 +203,11 @@ fn led_words(place: Place, sentence_of: &str, guard: LineLexeme, at: usize) -> W
     sentence(place.alloc, sentence_of, guard.word, at.as_str())
 }
 
-/// What is said of the `end` with a number: it is one too many, with a word behind it that says what it ends, or closes several statements
-/// without a block behind what leads to them.
-fn surplus(place: Place, seats: &[LineLexeme], number: usize) -> Saying {
+/// What is said of the `end` that is one too many, with a word behind it that says what it ends, or that closes several statements without a
+/// block behind what leads to them.
+fn surplus(place: Place, seats: &[LineLexeme]) -> Saying {
     let (alloc, text) = (place.alloc, place.text);
+    let number = surplus_at(place, seats)?.unwrap_or(usize::MAX);
     let Some(end) = seats.get(number) else {
         return Ok(None);
     };
@@ -245,24 +232,26 @@ fn surplus(place: Place, seats: &[LineLexeme], number: usize) -> Saying {
     Ok(Some((Some((end.span, words)), Some(fix), None)))
 }
 
-/// What is said of a word that ends a block elsewhere, at a place or before it, behind several statements without a block.
+/// What is said of a word that ends a block elsewhere, at a place or before it, or of an `else`, behind several statements without a block.
 pub(crate) fn closer_said(place: Place) -> Saying {
     let (alloc, text) = (place.alloc, place.text);
-    let (number, next) = match closing_word(place) {
-        Some(Spot::Here) => (place.number, near(place, 1)),
-        Some(_) => (place.number.saturating_sub(1), near(place, 0)),
-        None => return Ok(None),
+    let is_else = finds("else", near(place, 0)) && may_stand("end", place.wanted);
+    let number = match closing_word(place) {
+        Some(Spot::Before) => place.number.saturating_sub(1),
+        None if !is_else || is_late_else(place) => return Ok(None),
+        _ => place.number,
     };
     let all = seats(place)?;
     let (Some(guard), Some(end)) = (guard_before(&all, number), all.get(number)) else {
         return Ok(None);
     };
-    let from = end.span.from;
-    let span = match next {
-        Some(next) if finds("false", Some(next)) => Span { from, ..next.span },
-        _ => end.span,
-    };
-    let fix = put_at(alloc, text, span, span, "end")?;
+    if is_else {
+        let words =
+            "one statement stands between `@` and `else`: insert `begin` behind `@` at #, and `end` before `else`";
+        let words = led_words(place, words, guard, guard.span.from)?;
+        return Ok(Some((None, None, Some(words))));
+    }
+    let fix = put_at(alloc, text, end.span, end.span, "end")?;
     let fix = mending(alloc, text, place.span, Some(fix))?;
     let words = "insert `begin` after `@` at #: it makes one statement of several, to its `end`";
     let words = led_words(place, words, guard, guard.span.from)?;
@@ -281,13 +270,8 @@ pub(crate) fn blocks_said(place: Place) -> Saying {
     }
     let all = seats(place)?;
     if ends < begins {
-        return match unclosed_at(place, &all)? {
-            Some((begin, end)) => unclosed(place, &all, begin, end),
-            None => Ok(None),
-        };
-    }
-    match surplus_at(place, &all)? {
-        Some(number) => surplus(place, &all, number),
-        None => Ok(None),
+        unclosed(place, &all)
+    } else {
+        surplus(place, &all)
     }
 }

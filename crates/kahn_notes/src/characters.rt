@@ -12,22 +12,27 @@ use kahn_marks::Fix;
 use kahn_syntax::{Span, SyntaxFault};
 use std::alloc::Global;
 
+/// In a text of more bytes no change is preferred with which the text goes on past the next lexeme.
+const MOST_READ_TWICE: usize = 131_072;
+
 /// What stands there, what is put in its place if the text goes on with it, what is said, and a test of its line. The first row that holds is
 /// told.
 const CHARACTERS: &str = "
 . |  | ; numbers are whole | digit
 _ |  | ; a number has decimal digits alone | digit
+. | , nothing ; | ; no `.` stands in a name or behind the last `end` | blank
 . | nothing | ; no `.` stands in a name or behind the last `end`
 _ |  | ; a name begins with a letter
 != ~= /= \u{2260} | <> | ; unequal is `<>`
 ! | not | ; a value is sent by `send E on C`, and `not` is a word
+% |  | ; a comment goes from `comment` to `;` | first
 % | mod | ; a remainder is `mod`
-/ | div | ; a quotient is `div`, and a comment goes from `comment` to `;`
+/ | div ; | ; a quotient is `div`, and a comment goes from `comment` to `;`
 #include |  | ; there is nothing to include: a program is one text
 #define |  | ; there are no constants: an instance hands a number over, `P(A, 10)`
-# |  | ; a comment goes from `comment` to `;`
+# | <> | ; a comment goes from `comment` to `;`
 \" \u{2018} \u{2019} \u{201C} \u{201D} |  | ; there are no texts
-' |  | ; there are no texts, and a name has letters, digits and `_`
+' | ; | ; there are no texts, and a name has letters, digits and `_`
 [ |  | ; brackets are `(` and `)`, and there are no arrays; a channel that one process writes and reads is a queue
 { | begin | ; a block goes from `begin` to `end`, a comment from `comment` to `;`
 } | end | ; a block goes from `begin` to `end`, a comment from `comment` to `;`
@@ -43,7 +48,7 @@ _ |  | ; a name begins with a letter
 ? |  | ; a value is taken by `X := wait(C)`, and a choice is `if .. then .. else ..`
 : |  | ; a kind stands before its names | kind
 : | then do | ; behind a test stands `then` or `do` | test
-: | ; | ; `:` stands before `=` alone
+: | := ; | ; `:` stands before `=` alone
 \u{FF1A} | : := | ; a colon is `:`
 \u{FF1B} | ; | ; a semicolon is `;`
 \u{FF0C} | , | ; a comma is `,`
@@ -80,6 +85,8 @@ fn holds(test: &str, line: &str, behind: &str) -> bool {
             .trim_start()
             .starts_with(|first: char| first.is_ascii_digit()),
         "colon" => behind.find(":").is_some(),
+        "first" => line.trim().is_empty(),
+        "blank" => behind.is_empty() || behind.starts_with(" "),
         "kind" => {
             let mut names = behind.split(|one: char| !one.is_ascii_alphanumeric());
             names
@@ -125,33 +132,35 @@ fn place_help(text: &str, at: usize) -> &'static str {
     }
 }
 
-/// A change, if it mends a place, also where such characters behind it are passed over.
-fn told(alloc: Global, text: &str, plain: &str, span: Span, fix: Option<Fix>) -> Fixed
-    ensures { IfOk result (λ fix. IfSome fix (Mends text.now span)) }
-{
-    let fix = mending(alloc, plain, span, fix)?;
-    mending(alloc, text, span, fix)
-}
-
 /// What is put in the place of a character that isn't of the language: the first that mends the place, in the text and in that with blanks
 /// for such characters.
 pub(crate) fn character_fix(alloc: Global, text: &str, plain: &str, span: Span) -> Fixed
     ensures { IfOk result (λ fix. IfSome fix (Mends text.now span)) }
 {
-    let rewritten = rewritten(alloc, text, plain, span.from)?;
-    if let Some(fix) = told(alloc, text, plain, span, rewritten)? {
-        return Ok(Some(fix));
+    let fix = mending(alloc, text, span, rewritten(alloc, text, plain, span.from)?)?;
+    if fix.is_some() {
+        return Ok(fix);
     }
     let Some((row, key)) = row_at(text, span.from) else {
         return Ok(None);
     };
     let to = span.from.saturating_add(key.len());
     let part = Span { to, ..span };
-    for put in cell(row, 1).split_whitespace() {
-        let put = if put == "nothing" { "" } else { put };
-        let fix = put_at(alloc, text, part, part, put)?;
-        if let Some(fix) = told(alloc, text, plain, span, Some(fix))? {
-            return Ok(Some(fix));
+    let behind = text.get(to..).unwrap_or("").trim_start().len();
+    let next = if text.len() <= MOST_READ_TWICE {
+        text.len().saturating_sub(behind)
+    } else {
+        span.from
+    };
+    for from in [next, span.from] {
+        for put in cell(row, 1).split_whitespace() {
+            let put = if put == "nothing" { "" } else { put };
+            let fix = put_at(alloc, text, part, part, put)?;
+            let fix = mending(alloc, plain, Span { from, to: from }, Some(fix))?;
+            let fix = mending(alloc, text, span, fix)?;
+            if fix.is_some() {
+                return Ok(fix);
+            }
         }
     }
     Ok(None)

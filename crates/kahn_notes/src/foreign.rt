@@ -1,13 +1,15 @@
 //! Words of other languages, and what this one has in their place.
 
 use crate::place::{Place, is_declared, name_at, near};
-use crate::table::{cell, finds, may_stand, row_of};
+use crate::table::{cell, finds, has_word, holds};
 use kahn_wanted::{Spot, is_of_word};
 
-/// Words of other languages, the keyword in their place if the text goes on with it, and what is said of them wherever they stand.
+/// Words of other languages, the keyword in their place if the text goes on with it, what is said of them, and where that is, if it isn't
+/// everywhere: where a statement begins, or a value may stand.
 const FOREIGN: &str = "
 until | none | ; `repeat S` goes on for ever, and a loop with a test is `while not E do S`
-for foreach goto | none | ; a loop is `while E do S`, or `repeat S`, which has no end
+for foreach | none | ; a loop that counts is `while I < N do begin S; I := I + 1 end`, and one without an end `repeat S`
+goto | none | ; a loop is `while E do S`, or `repeat S`, which has no end
 loop forever | repeat | ; a loop is `while E do S`, or `repeat S`, which has no end
 break exit continue stop halt | none | ; a loop ends where the test of its `while` is false
 return yield | none | ; a process has no result: `send E on C` gives a value to another one
@@ -17,10 +19,11 @@ int ints long short unsigned | integer | ; the kinds are `integer` and `logical`
 bool boolean booleans | logical | ; the kinds are `integer` and `logical`; one stands before its names
 real float string char array | none | ; the kinds are `integer` and `logical`; one stands before its names
 chan chans | channel | ; a channel is `integer channel C`
-inputs outputs | none | ; an input is `integer input channel C`, an output `integer output channel C`
+inputs | input in | ; an input is `integer input channel C`, an output `integer output channel C`
+outputs | output out | ; an input is `integer input channel C`, an output `integer output channel C`
 var let local declare | none | ; a kind declares variables, right behind the `begin` of a process: `integer X`
 function func procedure proc def fn void thread task node actor | process | ; a process is `process P(integer in U; integer out W); begin .. end`
-endif endwhile endfor fi od done tel | end | ; an `if`, a `while` or a `repeat` has no `end` of its own
+endif endwhile endfor endprocess endproc fi od done tel | end | ; an `if`, a `while` or a `repeat` has no `end` of its own
 const constant | none | ; there are no constants: an instance hands a number over, `P(A, 10)`
 xor | none | ; there is no exclusive or: of logicals it is `<>`
 shl shr | none | ; there is no shift: `X * 16`, `X div 16`
@@ -28,25 +31,17 @@ try except catch finally raise throw | none | ; there are no exceptions: a fault
 seq | none | ; statements stand one behind another, with `;` between: `begin S; T end`
 pre fby | none | ; a variable keeps what came before: `J := I; I := wait(C)`
 inout | none | ; one process reads a channel, and another one writes it: `in U`, `out W`
-to into | on | ; a value is sent by `send E on C`
+to into | on | ; a value is sent by `send E on C` | +on
 go call spawn start run cobegin parbegin doco closeco coend parend | none | ; nothing starts an instance: it is `p(A, B)`, and `par` stands between two
-";
-
-/// Those that are told of where they begin a statement.
-const ACTING: &str = "
-select alt | none | ; there is no choice among channels, since timing can't matter: a process waits on one at a time
-case switch match | none | ; a choice is `if E then S else if F then T else ..`
-recv receive get read take await waits scanf getline readln | none | ; a statement takes a value by `X := wait(C)`
-put emit write push sends give | send | ; a statement sends a value by `send E on C`
-writeln println printf echo prints | print | ; a statement prints a value by `print E`
-close | none | ; a channel has no end that is told: a process just sends no more
-skip pass null nop | none | ; a statement that does nothing is empty, or `begin end`
-";
-
-/// Those that are told of where a value may stand.
-const GIVING: &str = "
-recv receive read get take await | wait | ; a value is taken by `wait(C)`
-eof empty isempty len length size count has_next hasnext ready available | none | ; nothing tells whether a value comes: `wait(C)` holds the process until one does
+select alt | none | ; there is no choice among channels, since timing can't matter: a process waits on one at a time | +:=
+case switch match | none | ; a choice is `if E then S else if F then T else ..` | +:=
+recv receive get read take await waits scanf getline readln | none | ; a statement takes a value by `X := wait(C)` | +:=
+put emit write push sends give | send | ; a statement sends a value by `send E on C` | +:=
+writeln println printf echo prints | print | ; a statement prints a value by `print E` | +:=
+close | none | ; a channel has no end that is told: a process just sends no more | +:=
+skip pass null nop | none | ; a statement that does nothing is empty, or `begin end` | +:=
+recv receive read get take await | wait | ; a value is taken by `wait(C)` | called
+eof empty isempty len length size count has_next hasnext ready available | none | ; nothing tells whether a value comes: `wait(C)` holds the process until one does | called
 ";
 
 /// How many bytes of a line are looked at.
@@ -55,9 +50,10 @@ const MOST_OF_LINE: usize = 256;
 /// A word of another language, at a place or before it, with its row.
 pub(crate) type Foreign = (Spot, &'static str);
 
-/// The row of a word of another language.
+/// The row of a word of another language, but of one that is told of as a value alone.
 pub(crate) fn row_of_foreign(word: &str) -> Option<&'static str> {
-    row_of(FOREIGN, word).or(row_of(ACTING, word))
+    let mut rows = FOREIGN.lines();
+    rows.find(|row| has_word(cell(row, 0), word) && cell(row, 3) != "called")
 }
 
 /// What is said, behind a heading, of the first word of another language that stands before a byte on its line, and nowhere on a line before.
@@ -80,39 +76,33 @@ pub(crate) fn line_help(text: &str, at: usize) -> Option<&'static str> {
 }
 
 /// One of these words there, if the text doesn't declare it; not one that has a value given to it, nor the name of a process.
-fn foreign_in(table: &'static str, place: Place, spot: Spot) -> Option<Foreign> {
+fn foreign_at(place: Place, spot: Spot) -> Option<Foreign> {
     let name = name_at(place, spot)?;
     let is_before = spot == Spot::Before;
-    let is_head = finds("process", near(place, if is_before { -2 } else { -1 }));
+    let is_head = finds(
+        "process channel",
+        near(place, if is_before { -2 } else { -1 }),
+    );
     let is_given = is_before && finds("= :=", near(place, 0));
     if is_given || is_head || is_declared(place, name) {
         return None;
     }
-    Some((spot, row_of(table, name)?))
+    let mut rows = FOREIGN.lines();
+    let row = rows.find(|row| has_word(cell(row, 0), name) && holds(cell(row, 3), place))?;
+    Some((spot, row))
 }
 
-/// A word of another language before a place, or at it; or one that begins a statement, or stands before a bracket among values.
+/// A word of another language before a place, or at it.
 pub(crate) fn foreign_word(place: Place) -> Option<Foreign> {
-    let table = if may_stand(":=", place.wanted) {
-        ACTING
-    } else if finds("(", near(place, 0)) {
-        GIVING
-    } else {
-        ""
-    };
-    foreign_in(FOREIGN, place, Spot::Before)
-        .or(foreign_in(FOREIGN, place, Spot::Here))
-        .or(foreign_in(table, place, Spot::Before))
+    foreign_at(place, Spot::Before).or(foreign_at(place, Spot::Here))
 }
 
 /// Where a word of another language stands that ends a block.
 pub(crate) fn closing_word(place: Place) -> Option<Spot> {
     let (spot, row) = foreign_word(place)?;
-    let is_here = spot == Spot::Here;
-    let next = near(place, if is_here { 1 } else { 0 });
-    let is_endless = cell(row, 0) == "until" && finds("false", next);
-    if is_endless || cell(row, 1) == "end" {
-        return Some(spot);
+    if cell(row, 1) == "end" {
+        Some(spot)
+    } else {
+        None
     }
-    None
 }

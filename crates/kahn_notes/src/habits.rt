@@ -1,14 +1,27 @@
-//! What is said of what stands as in another language, or without what belongs to it, and where each is said. A row has what stands before
-//! the place, what stands there, the tests, and the words; the first row that fits is told.
+//! What is said of a place where a text goes wrong, a rule a row: of one change of a lexeme that is often meant, of what stands as in another
+//! language, or without what belongs to it.
 
-/// Lines that other programs made.
-pub(crate) const MARKS: &str = "
+/// A row has the lexeme before the place, the one there, and the tests; and what is said: where a change is and what is put there, of several
+/// the first that is offered; or the name of a rule; or a sentence. The first row that says something is told: first lines of others, and one
+/// of two same words; several words, slips, words of another language, and blocks; what would mislead; changes of one lexeme, as what one
+/// is often written for and what is one too many, and then what is often left out; habits; and at last what a part of a program looks like
+/// that is open there, in which names of the text stand for `@` to `%`.
+pub(crate) const RULES: &str = "
 any | < = | first | a merge left its marks: keep one of the two parts, and leave out the lines that begin with `<<<<<<<`, `=======` and `>>>>>>>`
 any | > | first | lines that are quoted in a mail begin with `>`: leave it out of all of them
-";
-
-/// These are told before a change of one lexeme, which would mislead.
-pub(crate) const EARLY: &str = "
+any | any | always | number
+any | process repeat while send print wait in out input output channel | twice | here | nothing
+any | process repeat while send print wait in out input output channel | twins | before | nothing
+any | any | always | parted
+any | any | always | joined
+, | integer logical | -number | group
+any | any | always | words
+any | any | always | slip
+any | any | always | remark
+any | any | always | meant
+any | any | always | closer
+any | any | always | foreign
+any | any | always | blocks
 - | > | joined | there is no arrow: `send E on C` sends, `X := wait(C)` takes, and `;` stands between statements
 < > | < > | joined | there is no shift: `X * 16`, `X div 16`
 * | * | joined | there is no power: `X * X`
@@ -17,10 +30,40 @@ then | while | always | a `while` behind `then` stands between `begin` and `end`
 then | repeat | always | a `repeat` behind `then` stands between `begin` and `end`
 any | if | +operand | an `if` among operators stands in brackets
 any | name | +integer -declaration -statement bare | a parameter has its kind: `integer in U` is read, `integer out W` is written, `integer N` is a number
-";
-
-/// These behind the changes that are most often meant.
-pub(crate) const HABITS: &str = "
+any | any | twice | here | nothing
+any | any | twins | before | nothing
+in out input output | in out input output | always | here | nothing
+any | in out input output | role | here | nothing
+any | = <= | always | here | :=
+any | := | always | here | =
+any | , | always | here | ; par on
+any | ; | always | here | , par on
+) | and or | always | here | par
+any | then | always | here | do
+any | do | always | here | then
+any | input | always | here | in
+any | output | always | here | out
+any | in | always | here | input
+any | out | always | here | output
+, | any | always | before | ; par on
+; | any | always | before | , par on
+any | ; , | leading | here | nothing
+; | else | late | before | nothing
+; | par | always | before | nothing
+; | par | always | here | nothing
+( | , | whole | here | nothing
+, | ) | always | before | nothing
+any | any | always | between | ;
+any | any | apart | between | ,
+any | any | always | between | ) (
+any | any | assigned | between | :=
+any | any | always | between | on then do par
+nothing | any | always | between | begin
+any | any | whole | between | begin end
+number ) | name | declared -then -do | between | *
+number ) | ( | always | between | *
+in out input output | any | always | between | channel
+any | any | bodiless | interchanged
 number | name | joined | a number has decimal digits alone
 name | - | joined -) | a name has letters, digits and `_`
 then begin do else ; repeat | wait | always | `wait(C)` is a value: a statement takes one by `X := wait(C)`
@@ -42,6 +85,8 @@ any | in out | always | a keyword is no name, in any letter case: `in` and `out`
 any | input output | always | a keyword is no name, in any letter case: `input` and `output` stand behind a kind, `integer input channel C`
 nothing | name | always | a program has no name: it goes from `begin` to `end`
 any | name | +channel | variables are declared in processes; a channel is `integer channel C`
+any | ) | -value | this `)` has no `(`: insert `(` before it, or leave it out
+any | begin | +:= | a loop that counts is `while I < N do begin S; I := I + 1 end`, and one without an end `repeat S`
 any | name | +:= | a statement begins with `send`, `print`, `if`, `while`, `repeat` or `begin`, or is `X := E`; `X := wait(C)` takes a value
 any | name number | +, +) -; | a comma stands between two arguments: `P(A, B)`
 any | number | +name -declaration | a name begins with a letter
@@ -50,7 +95,7 @@ any | if | +operator -; | a choice among values is `if T then A else B`
 end | begin | +; -end | a file has one program, which ends before this `begin`
 end | if while repeat do process | always | an `end` stands alone: no word says what it ends
 any | if while repeat wait send print | +declaration | statements stand in processes alone
-; | name if while repeat send print | +begin | the body of a process stands between `begin` and `end`
+; | name process if while repeat send print | +begin | the body of a process stands between `begin` and `end`
 any | integer logical | +statement | variables are declared right behind the first `begin` of a process, channels outside of processes
 any | integer logical | +begin -statement | variables are declared right behind the first `begin` of a process, channels outside of processes
 any | integer logical | +value | a kind changes no value: `if T then 1 else 0` makes a number of `T`, `X <> 0` a truth value of `X`
@@ -58,6 +103,7 @@ any | integer logical process | +par | channels and processes are declared befor
 any | integer logical process | +end -; | channels and processes are declared before all instances
 any | end | +declaration | a program ends with its instances: `p(A, B) par q(B, C)`
 ; | begin | +integer -declaration -statement | `)` stands behind the parameters: `process P(integer in U; integer out W);`
+any | begin | +declaration typed | a process begins with its heading: `process P(integer in U; integer out W);`
 any | begin | +declaration | instances stand without `begin`: `p(A) par q(B)`
 any | par | -( | `par` stands between instances: `p(A) par q(B)`
 any | ; | +:= | a statement that begins with a name assigns to it, `X := E`; names of one kind stand with commas, `integer I, J`
@@ -66,8 +112,8 @@ any | ; end else par | +on | `on` and a channel stand behind the value: `send E 
 any | ; end else par | +( | brackets stand behind the name of a process, also where they are empty: `p()`
 any | ; end else par on do then ) , | +else -end | an `if` among values has its `else`: `if E then E else E`
 any | + | +value | no `+` stands before a value: leave it out
-any | = := | +, +) | an instance hands over channels and literals, by their places: `P(A, -1, true)`
-any | + - * < > <> <= >= and div mod or | +, +) | an argument is no expression: an instance hands over channels and literals: `P(A, -1, true)`
+any | = := | +, +) -; | an instance hands over channels and literals, by their places: `P(A, -1, true)`
+any | + - * < > <> <= >= and div mod or | +, +) -; | an argument is no expression: an instance hands over channels and literals: `P(A, -1, true)`
 any | + - * < > <> <= >= and div mod or = | -, +arithmetic | a comparison has two sides: `0 < X and X < 3`
 any | + - * < > <> <= >= and div mod or | -, +:= | a statement that begins with a name assigns to it, `X := E`; `send E on C` sends a value
 name | + - * < > <> <= >= and div mod or | -, +) | one channel alone stands between these brackets: `wait(C) + 1`
@@ -80,14 +126,12 @@ name | name number | +( known | an instance is `P(A, B)`: brackets stand round w
 name | ( | +:= | a body calls nothing and starts nothing: `send E on C` sends a value, and instances stand behind all processes
 name | ( | +operator | a body calls nothing: there are no functions, `wait(C)` takes a value, and nothing tells whether one is there
 any | and div mod or not false true if then else while do repeat begin end wait send on print | +name -declaration | a keyword is no name, in any letter case: take another one
-";
-
-/// These where nothing else is, and then what a part of a program looks like that is open there: names of the text stand for `@` to `%`.
-pub(crate) const LAST: &str = "
+any | any | always | neighbours
+any | any | always | only
 any | else | +end | an `else` stands behind `if E then S`, where S is one statement; `begin` and `end` make one of several
 any | , | +on | `send` sends one value: `send E on C; send F on C`
-any | ) | always | this `)` has no `(`: insert `(` before it, or leave it out
 nothing | any | always | a program is like `begin integer output channel B; process p(integer out W); begin send 1 on W end; p(B) end`
+name | name | +( -operator | an instance is `P(A, B)`: brackets stand round what it hands over; words for readers stand between `comment` and `;`
 any | any | +:= | a statement begins with `send`, `print`, `if`, `while`, `repeat` or `begin`, or assigns to a name: `@ := @ + 1`, `@ := wait(#)`
 any | any | +declaration | here stand channels, `integer channel C;`, and processes, `process P(integer in U; integer out W); begin .. end;`; then instances, `P(A, B)`
 any | any | +statement | a statement is like `@ := wait(#)`, `send @ on %`, `print @`, `if @ > 0 then S`, `while @ > 0 do S`, `repeat S` or `begin S; T end`

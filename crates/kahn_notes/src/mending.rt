@@ -54,16 +54,6 @@ fn goes_on(alloc: Global, new: &str, text: &str, span: Span) -> Result<bool, NoM
     }
 }
 
-/// Whether a text with a change is a program, or goes wrong only later.
-fn is_mended(alloc: Global, text: &str, span: Span, fix: &Fix) -> Result<bool, NoMemory>
-    ensures { IfOk result (λ mends. IsTrue mends → Mends text.now span fix.now) }
-{
-    match applied(alloc, text, fix)? {
-        Some(new) => goes_on(alloc, new.as_str(), text, span),
-        None => Ok(false),
-    }
-}
-
 /// A change, where there is one.
 pub(crate) type Fixed = Result<Option<Fix>, NoMemory>;
 
@@ -74,7 +64,10 @@ pub(crate) fn mending(alloc: Global, text: &str, span: Span, fix: Option<Fix>) -
     let Some(fix) = fix else {
         return Ok(None);
     };
-    if is_mended(alloc, text, span, &fix)? {
+    let Some(new) = applied(alloc, text, &fix)? else {
+        return Ok(None);
+    };
+    if goes_on(alloc, new.as_str(), text, span)? {
         return Ok(Some(fix));
     }
     Ok(None)

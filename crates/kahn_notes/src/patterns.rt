@@ -1,25 +1,26 @@
 //! What several words and signs are often written for.
 
 /// What is put in, and what stands there, in one form or several; the first is told with which the text is read past it. Capital letters
-/// stand for what is kept: `A` to `C` names, `O` the name of a channel that is written, `K` a kind, `D` a direction, `R` a role, `V` a word
+/// stand for what is kept: `A` to `C` names, `O` the name of a channel that is written, `U` of one that is read, `K` a kind, `D` a direction, `R` a role, `V` a word
 /// for `wait`, `S` one for `send`, `P` one that starts, `E` to `G` expressions, `N` names alone, `L` names with commas between, and `T` what
 /// stands there to the end of the line; `|` without blanks stands between words of which there is one.
 pub(crate) const PATTERNS: &str = "\
-A := wait(B) | A = receive|recv|read|get|take|await ( B ) | A = < - B | A : = < - B | V A from B | let A = V B | A < - V B
-B := wait(A) | V ( A , B ) | A ? B
-wait(A) | V [ A ] | V on|for|from A | V A | A . V ( )
+A := wait(B) | A = receive|recv|read|get|take|await ( B ) | A = < - B | A : = < - B | V A from B | let A = V B | A < - V B | A , C : = < - B
+B := wait(A) | V ( A , B ) | A ? B | V ( A ) : = B
+wait(A) | V [|{ A ]|} | V ) A ( | V on|for|from|of A | V A | A . V ( )
 send E on O | S ( E , O ) | S ( O , E ) | S E D O | S E - > O | S O , E | S O : = E | S O < - E | S O E | O . S ( E ) | O ! E | O < - E
 send E on A | on A S E
 send A on O | A on O
 A := B + E | A < - B + E
-A := wait(B) | A < - B
+A := wait(U) | A < - U
 A := E | A < - E
-B := wait(A) | A - > B | A > > B
-send E on O | E - > O | S E > > O | O < < E | output|write|put|emit|push E to O
+B := wait(U) | U - > B | U > > B
+send E on O | E - > O | S E > > O | O < < E | output|write|put|emit|push E to O | output E on O | print E to O
+B := A | A - > B
 then send E on O | O < - E | O ! E
 A := if F then E else G | A : = E if F else G
 S | A : S
-send if E then F else G on | send E ? F : G on
+send if E then F else G on | send E ? F : G on | send F if E else G on
 A := if E then F else G | A : = E ? F : G
 (if E then F else G) | ( E ? F : G )
 A := A + 1 | inc ( A ) | + + A | A + +
@@ -37,20 +38,20 @@ else begin | else if begin
 -A | negate A
 and | and then | andalso
 or | or else | orelse
-<> | not = | is not | > < | = !
+<> | not = | is not | > < | = ! | < >
 (E) mod (F) | mod ( E , F )
 (E) div (F) | div ( E , F )
+:= | : = = | : =|-|+ | = : | ; =
 = | is | = = = | = =
 * | x | times
 + | plus
 - | minus
 on A | on ( A )
 A := E | let mut A = E | let A : = E | let|set A = E
-A := A + E | A + = E | add E to A
-A := A - E | A - = E
+A := A + E | A + = E | add E to A | inc ( A , E )
+A := A - E | A - = E | dec ( A , E )
 A := A * (E) | A * = E
 A := B + 1 | A : = B + +
-:= | : =
 A := E | A = = E
 repeat | repeat - > | repeat forever
 <= | = < | < =
@@ -62,46 +63,49 @@ K in A | A < - chan K | K input channel A | input K A
 K D L | D L : K | L : K D
 ); | ) - > | ) is|do|=
 ); begin | ) = | ) {
-K A | K ( A ) | let A : K = 0 | A : : K | var A K | K : A | K A = 0|false | K A : = 0
+K A | K ( A ) | let A : K = 0 | A : : K | var A K | K : A | K A = 0|false | K A : = 0 | K value|val|const A
 K A) | K A : = E ) | K A = E )
-K D A | D A K | D K A | K A D | A D K | A K D | K D channel A
-K R channel A | A : K R channel | R channel K A | channel K R A | channel A : K R | R A : K | R K channel A | channel K A R | A = R ( K )
-K channel L | channel L : K
+K D A | D A K | D K A | K A D | A D K | A K D | K D channel A | K channel D A
+K R channel A | A : K R channel | R channel K A | channel K R A | channel A : K R | R A : K | R K channel A | channel K A R | A = R ( K ) | channel R K A | R K A
+K channel L | channel L : K | signal L : K
 K D L | L : D K
 (K in L | ( L : K
 ; K out L) | ; L : K )
 ; K out A) | , A : K )
-K L | var L : K
+K L | var L : K | var L K | variable L : K | variable L : K : = E
 K L | L : K
 integer D A | D channel A
 ; integer D A | , D A
 ; K D A) | ) - > K D A
+; K D A | - > K D A
 K A, B; | K A ; B ;
 R channel A | channel R A
-integer R channel A | R channel A
+integer R channel A | R channel A | R A
 K channel A | A : = make ( chan K ) | channel|chan of K A | channel < K > A | chan|channel K A | A = channel ( K ) | var A : channel of K
 K channel A, B; | K channel A ; B ;
+K channel L; | chan|channel of K L :
 K R channel A, B; | K R channel A ; B ;
 integer channel A | channel A | var A = channel ( ) | A = channel ( )
 A(T | process A ( T
 process A(K D L | A ( K D L
 process A( | process A [ | process A = (
+process A(K | int A ( K
 A(E) | A [ E ]
 (E) | [ E ]
 process A(); begin | process A begin
 process B( | process A = B (
 B(E, A) | A = B ( E ) | A : = B ( E )
-B( | A : B (
+B( | A : B ( | A : B port map (
 A(E) par | process A ( E ) par process
 A( | P A (
 (A | ( K A | ( D A
 , A | , K A | , D A
 integer D A | D A
-(B | ( A = B | ( A : B
-, B | , A = B | , A : B
+(B | ( A = B | ( A : B | ( A = > B
+, B | , A = B | , A : B | , A = > B
 begin | A main ( ) { | begin {
 if E then begin | if E {
-while E do begin | while E {
+while E do begin | while E { | while E loop
 A := 0; while A < F do begin A := A + 1; | for A : = 1 to F do begin | for A = 1 to F do begin
 A := E - 1; while A < F do begin A := A + 1; | for A : = E to F do begin
 A := E; while A <= F do begin G; A := A + 1 end | for A : = E to F do G | for A = E to F do G
@@ -109,15 +113,18 @@ A := E + 1; while F < A do begin A := A - 1; | for A : = E downto F do begin | f
 A := E; while F <= A do begin G; A := A - 1 end | for A : = E downto F do G | for A = E downto F do G
 A := 0; while A < F do begin G; A := A + 1 end | for A in range ( F ) : G
 A := E - 1; while A < F do begin A := A + 1; | for ( A = E ; B < = F ; C + + ) {|begin | for ( A : = E ; B < = F ; C + + ) {|begin | for ( K A = E ; B < = F ; C + + ) {|begin
-A := -1; while A < F - 1 do begin A := A + 1; | for ( A = 0 ; B < F ; C + + ) {|begin | for ( A : = 0 ; B < F ; C + + ) {|begin | for ( K A = 0 ; B < F ; C + + ) {|begin
+A := -1; while A < F - 1 do begin A := A + 1; | for ( A = 0 ; B < F ; C + + ) {|begin | for ( A = 0 ; B < F ; C = N + 1 ) {|begin | for ( A : = 0 ; B < F ; C + + ) {|begin | for ( K A = 0 ; B < F ; C + + ) {|begin
+repeat begin A := wait(B); | for A : = range B { | for A in B :
 repeat begin | for|loop {
- | import|package|program|use|uses|unit A ; | import|program|module A | # define T
+ | import|package|program|use|uses|unit A ; | import|package|use A | import|program|module A | # define T
 then | then :
 else | else :
 do | do :
-end | end program
+end | end program|process|procedure|function | end process|procedure|function A
 ; comment T; | ; % T
 end comment T; | end % T
 comment T; | / / T | comment T | / * T * / | ( * T * ) | - - T | # T
 comment N; | { N }
+do begin | seq
+begin | seq
 div | / /";

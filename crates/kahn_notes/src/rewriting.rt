@@ -2,10 +2,10 @@
 
 use crate::mending::{Fixed, mending};
 use crate::patterns::PATTERNS;
-use crate::place::{is_name, names_behind};
-use crate::said::{Meaning, filled, is_capital, sentence};
+use crate::place::{front, is_name, names_behind};
+use crate::said::{Meaning, filled, is_capital, replacing, sentence};
 use crate::table::{cell, has_word, row_of};
-use kahn_marks::{Fix, part_of};
+use kahn_marks::part_of;
 use kahn_syntax::Span;
 use kahn_wanted::is_of_word;
 use std::alloc::{AllocError, Global};
@@ -30,7 +30,7 @@ S | send put emit write push give output
 P | go call spawn start run launch new exec doco
 D | in out
 R | input output
-K | int integer i32 i64 number logical bool boolean
+K | int integer i32 i64 logical bool boolean
 ";
 
 /// Where no expression goes on.
@@ -38,7 +38,7 @@ const ENDS: &str = "; ) ] } begin end else";
 
 /// The kinds, by what they are called elsewhere, and as they are written.
 pub(crate) const KINDS: &str = "
-int integer i32 i64 number | integer | INTEGER
+int integer i32 i64 | integer | INTEGER
 logical bool boolean | logical | LOGICAL
 ";
 
@@ -54,8 +54,9 @@ struct Window<'p> {
     number: usize,
     /// How many stand before the end of its line.
     line: usize,
-    /// The names before the place that stand behind `out`.
+    /// The names before the place that stand behind `out`, and behind `in`.
     written: &'p [&'p str],
+    read: &'p [&'p str],
     /// Whether keywords are in capitals.
     capital: bool,
 }
@@ -97,6 +98,7 @@ fn letter_of(piece: &str) -> Option<u8> {
 fn fits(window: Window, piece: &str, word: &str) -> bool {
     match piece {
         "O" => window.written.iter().any(|name| *name == word),
+        "U" => window.read.iter().any(|name| *name == word),
         _ if letter_of(piece).is_some() => {
             row_of(LETTERS, piece).map_or(is_name(word), |row| has_word(cell(row, 1), word))
         }
@@ -209,8 +211,7 @@ fn change_at(
     };
     for form in ["@", last] {
         let put = sentence(window.alloc, form, new.as_str(), "")?;
-        let beside = span;
-        let (fix, place) = (Fix { span, put, beside }, Span { from, to: from });
+        let (fix, place) = (replacing(span, put), Span { from, to: from });
         let fix = mending(window.alloc, window.plain, place, Some(fix))?;
         if fix.is_some() || end < window.line {
             return Ok(fix);
@@ -226,7 +227,8 @@ pub(crate) fn rewritten(alloc: Global, text: &str, plain: &str, at: usize) -> Fi
     let to = text.len().min(line_end.saturating_add(BEHIND));
     let pieces = pieces_of(alloc, text, at.saturating_sub(NEAR), to)?;
     let number = pieces.partition_point(|piece| piece.from < at);
-    let written = names_behind(alloc, text, pieces.get(..number).unwrap_or(&[]), "out")?;
+    let written = names_behind(alloc, text, front(&pieces, number), "out")?;
+    let read = names_behind(alloc, text, front(&pieces, number), "in")?;
     let window = Window {
         alloc,
         text,
@@ -235,6 +237,7 @@ pub(crate) fn rewritten(alloc: Global, text: &str, plain: &str, at: usize) -> Fi
         number,
         line: pieces.partition_point(|piece| piece.from < line_end),
         written: &written,
+        read: &read,
         capital: is_capital(text),
     };
     let first = number.saturating_sub(BEFORE);

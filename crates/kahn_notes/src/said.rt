@@ -62,6 +62,12 @@ pub(crate) fn is_capital(text: &str) -> bool {
     text.find("BEGIN").is_some() && text.find("begin").is_none()
 }
 
+/// What is put in the place of a part of a text.
+pub(crate) fn replacing(span: Span, put: String) -> Fix {
+    let beside = span;
+    Fix { span, put, beside }
+}
+
 /// What is put in the place of a part of a text, beside a lexeme.
 pub(crate) fn put_at(alloc: Global, text: &str, span: Span, beside: Span, put: &str) -> Fixing {
     let put = filled(alloc, put, is_capital(text), &[])?;

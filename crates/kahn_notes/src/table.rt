@@ -50,7 +50,7 @@ pub(crate) fn are_joined(place: Place) -> bool {
 }
 
 /// Whether a test holds of a place: behind `+` stands what may stand there, behind `-` what may not.
-fn holds(test: &str, place: Place) -> bool {
+pub(crate) fn holds(test: &str, place: Place) -> bool {
     match (test.strip_prefix("+"), test.strip_prefix("-")) {
         (Some(word), _) => may_stand(word, place.wanted),
         (_, Some(word)) => !may_stand(word, place.wanted),
@@ -68,6 +68,11 @@ fn holds(test: &str, place: Place) -> bool {
                 let name = name_at(place, Spot::Before);
                 !finds("(", near(place, 0)) || name.is_none_or(|name| is_declared(place, name))
             }
+            "bodiless" => {
+                !finds("if while repeat", near(place, 0)) || !finds("begin", near(place, 1))
+            }
+            "called" => finds("(", near(place, 0)) && !may_stand(":=", place.wanted),
+            "typed" => finds("integer logical", near(place, 1)),
             "bare" => !finds("integer logical", near(place, 1)),
             "known" => name_at(place, Spot::Before).is_some_and(|name| is_declared(place, name)),
             "first" =>

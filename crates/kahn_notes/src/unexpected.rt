@@ -151,11 +151,11 @@ fn parts_at(
             head = Some((at, words));
         }
     }
-    if let Some(sentence) = sentence {
-        below.push(sentence)?;
-    }
     if let Some(comment) = comment {
         below.push(comment_words(alloc, text, comment)?)?;
+    }
+    if let Some(sentence) = sentence {
+        below.push(sentence)?;
     }
     Ok((head, fix, below))
 }

@@ -2,36 +2,12 @@
 
 ghost use Rattle.std.specs.Prelude.{◌≡◌, ◌++◌, IfOk, length, string_bytes};
 ghost use Rattle.std.specs.List.{concat};
-ghost use Rattle.kahn_syntax.specs.Texts.{bytes_of_sign};
 ghost use Rattle.kahn_notes.specs.{Notes.listed, Notes.pieces_of, Notes.text_end_words, Notes.wanted_words, Words.any_words, Words.separator};
 
 use kahn_marks::add;
-use kahn_syntax::{Class, Sign, What};
-use kahn_wanted::{LexemeGroup, Wanted};
+use kahn_syntax::{Class, What};
+use kahn_wanted::{LexemeGroup, Wanted, sign_letters};
 use std::alloc::AllocError;
-
-/// How a sign is written.
-fn sign_word(sign: Sign) -> &'static str
-    ensures { result.now ≡ bytes_of_sign sign }
-{
-    match sign {
-        Sign::Becomes => ":=",
-        Sign::Open => "(",
-        Sign::Close => ")",
-        Sign::Comma => ",",
-        Sign::Semicolon => ";",
-        Sign::Plus => "+",
-        Sign::Minus => "-",
-        Sign::Times => "*",
-        Sign::Equal => "=",
-        Sign::Unequal => "<>",
-        Sign::Less => "<",
-        Sign::AtMost => "<=",
-        Sign::Greater => ">",
-        Sign::AtLeast => ">=",
-        Sign::Not => "\u{AC}",
-    }
-}
 
 /// What any lexeme of a class is called: what stands before its letters, these, and what stands behind them.
 fn class_parts(class: Class) -> ((&'static str, &'static str), &'static str)
@@ -41,7 +17,7 @@ fn class_parts(class: Class) -> ((&'static str, &'static str), &'static str)
         Class::Word(keyword) => (("`", keyword.letters()), "`"),
         Class::Name => (("a ", "name"), ""),
         Class::Number(_) => (("a ", "number"), ""),
-        Class::Sign(sign) => (("`", sign_word(sign)), "`"),
+        Class::Sign(sign) => (("`", sign_letters(sign)), "`"),
     }
 }
 

@@ -17,26 +17,26 @@ fn same_word(first: Keyword, second: Keyword) -> bool
     first.letters().as_bytes() == second.letters().as_bytes()
 }
 
-/// The bytes of a sign.
-fn sign_bytes(sign: Sign) -> &'static [u8]
+/// The letters of a sign.
+pub fn sign_letters(sign: Sign) -> &'static str
     ensures { result.now ≡ bytes_of_sign sign }
 {
     match sign {
-        Sign::Becomes => b":=",
-        Sign::Open => b"(",
-        Sign::Close => b")",
-        Sign::Comma => b",",
-        Sign::Semicolon => b";",
-        Sign::Plus => b"+",
-        Sign::Minus => b"-",
-        Sign::Times => b"*",
-        Sign::Equal => b"=",
-        Sign::Unequal => b"<>",
-        Sign::Less => b"<",
-        Sign::AtMost => b"<=",
-        Sign::Greater => b">",
-        Sign::AtLeast => b">=",
-        Sign::Not => b"\xC2\xAC",
+        Sign::Becomes => ":=",
+        Sign::Open => "(",
+        Sign::Close => ")",
+        Sign::Comma => ",",
+        Sign::Semicolon => ";",
+        Sign::Plus => "+",
+        Sign::Minus => "-",
+        Sign::Times => "*",
+        Sign::Equal => "=",
+        Sign::Unequal => "<>",
+        Sign::Less => "<",
+        Sign::AtMost => "<=",
+        Sign::Greater => ">",
+        Sign::AtLeast => ">=",
+        Sign::Not => "\u{AC}",
     }
 }
 
@@ -44,7 +44,7 @@ fn sign_bytes(sign: Sign) -> &'static [u8]
 fn same_sign(first: Sign, second: Sign) -> bool
     ensures { result ≡ bytes_eq (bytes_of_sign first) (bytes_of_sign second) }
 {
-    sign_bytes(first) == sign_bytes(second)
+    sign_letters(first).as_bytes() == sign_letters(second).as_bytes()
 }
 
 /// Whether a lexeme is this keyword.
@@ -77,9 +77,7 @@ fn is_number(class: Class) -> bool
     ensures { (n : List ℕ) (z : ℤ) → result ≡ accepts a_number (terminal_with n z class) }
 {
     match class {
-        Class::Word(_) => false,
-        Class::Sign(_) => false,
-        Class::Name => false,
+        Class::Word(_) | Class::Sign(_) | Class::Name => false,
         Class::Number(_) => true,
     }
 }
@@ -90,10 +88,8 @@ fn is_name(class: Class) -> bool
     ensures { (n : List ℕ) (z : ℤ) → result ≡ accepts a_name (terminal_with n z class) }
 {
     match class {
-        Class::Word(_) => false,
-        Class::Sign(_) => false,
+        Class::Word(_) | Class::Sign(_) | Class::Number(_) => false,
         Class::Name => true,
-        Class::Number(_) => false,
     }
 }
 

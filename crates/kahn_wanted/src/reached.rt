@@ -70,39 +70,33 @@ fn add_reach(
     Ok(all.push(Reach { change, whole, to })?)
 }
 
-/// Adds how far it goes with each change there.
-fn add_reaches(
-    all: &mut Vec<Reach>,
-    alloc: Global,
-    lexemes: &[Lexeme],
-    number: usize,
-    spot: Spot,
-) -> Result<(), AllocError> {
-    // Before the first lexeme none stands: the list has no such front.
-    let (kept, from) = match spot {
-        Spot::Between => (number, number),
-        Spot::Here => (number, number.saturating_add(1)),
-        Spot::Before => (number.wrapping_sub(1), number),
-    };
-    let (Some(before), Some(rest)) = (lexemes.get(..kept), lexemes.get(from..)) else {
-        return Ok(());
-    };
-    let open = awaited_behind(alloc, before)?;
-    if spot != Spot::Between {
-        add_reach(all, alloc, &open, rest, from, Change { spot, put: None })?;
-    }
-    for class in &CLASSES {
-        let put = Some(*class);
-        add_reach(all, alloc, &open, rest, from, Change { spot, put })?;
-    }
-    Ok(())
-}
-
 /// How far a text goes with each change of one lexeme beside the one with a number, of those that can stand there.
 pub fn reaches(alloc: Global, lexemes: &[Lexeme], number: usize) -> Result<Vec<Reach>, AllocError> {
     let mut all = Vec::new(alloc);
     for spot in [Spot::Between, Spot::Here, Spot::Before] {
-        add_reaches(&mut all, alloc, lexemes, number, spot)?;
+        // Before the first lexeme none stands: the list has no such front.
+        let (kept, from) = match spot {
+            Spot::Between => (number, number),
+            Spot::Here => (number, number.saturating_add(1)),
+            Spot::Before => (number.wrapping_sub(1), number),
+        };
+        if let (Some(before), Some(rest)) = (lexemes.get(..kept), lexemes.get(from..)) {
+            let open = awaited_behind(alloc, before)?;
+            if spot != Spot::Between {
+                add_reach(
+                    &mut all,
+                    alloc,
+                    &open,
+                    rest,
+                    from,
+                    Change { spot, put: None },
+                )?;
+            }
+            for class in &CLASSES {
+                let put = Some(*class);
+                add_reach(&mut all, alloc, &open, rest, from, Change { spot, put })?;
+            }
+        }
     }
     Ok(all)
 }

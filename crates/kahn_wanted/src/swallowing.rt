@@ -11,6 +11,11 @@ pub fn is_blank(b: u8) -> bool
     b == b' ' || b == b'\t' || b == b'\r' || b == b'\n'
 }
 
+/// What stands from one place of a text to another; nothing where that isn't within the text.
+pub fn bytes_between(text: &str, from: usize, to: usize) -> &[u8] {
+    text.as_bytes().get(from..to).unwrap_or(&[])
+}
+
 /// Whether it is a letter, a digit or `_`.
 pub fn is_of_word(b: u8) -> bool {
     b.is_ascii_alphanumeric() || b == b'_'
