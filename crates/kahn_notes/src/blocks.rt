@@ -1,5 +1,7 @@
 //! What is said of blocks where a text has more `begin`s than `end`s, or fewer, by the indentation of their lines.
 
+ghost use Rattle.std.specs.Prelude.{Contains, IfSome};
+
 use crate::changes::is_late_else;
 use crate::foreign::closing_word;
 use crate::mending::mending;
@@ -8,8 +10,8 @@ use crate::said::{Saying, Words, line_of, put_at, put_behind, sentence, spot_wor
 use crate::table::{finds, has_word, may_stand};
 use crate::words::class_word;
 use kahn_marks::part_of;
-use kahn_syntax::Span;
-use kahn_wanted::Spot;
+use kahn_syntax::{Lexeme, Span};
+use kahn_wanted::{Spot, open_behind};
 use std::alloc::AllocError;
 
 /// How many lexemes before an `end` are looked at.
@@ -157,6 +159,18 @@ fn surplus_at(place: Place, seats: &[LineLexeme]) -> Result<Option<usize>, Alloc
     Ok(doubt)
 }
 
+/// The `begin` there, if its block is open.
+fn open_there(begins: &[Lexeme], span: Span) -> Option<Lexeme>
+    ensures { IfSome result (Contains begins.now) }
+{
+    for begin in begins {
+        if begin.span == span {
+            return Some(*begin);
+        }
+    }
+    None
+}
+
 /// What is said of the `begin` that has no `end`: by its indentation its block ends before a line, or on that of the `begin`; one that stands
 /// beside another one is left out.
 fn unclosed(place: Place, seats: &[LineLexeme]) -> Saying {
@@ -176,6 +190,10 @@ fn unclosed(place: Place, seats: &[LineLexeme]) -> Saying {
             return Ok(Some((Some((begin.span, words)), Some(fix), None)));
         }
     }
+    let open = open_behind(alloc, front(place.lexemes, end))?;
+    let Some(one) = open_there(&open, begin.span) else {
+        return Ok(None);
+    };
     let (words, from) = match seats.get(end) {
         Some(end) if begin.line == end.line => ("it ends before #", end.span.from),
         Some(end) => ("by its indentation it ends before line @", end.span.from),
@@ -184,7 +202,7 @@ fn unclosed(place: Place, seats: &[LineLexeme]) -> Saying {
     let at = spot_words(alloc, text, from)?;
     let ending = sentence(alloc, words, line_of(at.as_str()), at.as_str())?;
     let words = sentence(alloc, "`begin` has no `end`: @", ending.as_str(), "")?;
-    Ok(Some((Some((begin.span, words)), None, None)))
+    Ok(Some((Some((one.span, words)), None, None)))
 }
 
 /// The lexeme that leads to several statements, to the `end` with a number.
