@@ -1,5 +1,5 @@
 -- The names of the crates below and of this crate's definitions that proofs cite, passed on from one place.
-pub use Rattle.kahn_hints.specs.Hints.{HasOneMore, TellsOne, are_known}
+pub use Rattle.kahn_hints.specs.Hints.{AreFaultsOf, TellsFault, TellsMore, TellsOne, are_known}
 pub use Rattle.kahn_hints.specs.Inputs.{more_channels, told_channels}
 pub use Rattle.kahn_hints.specs.Near.{IsNearTo, IsNearest, IsOneOf, NoneNear, is_close, nearest, reach_of, steps}
 pub use Rattle.kahn_hints.specs.Sight.{listed_names}

@@ -1,5 +1,4 @@
 mod Nearest
 mod Sights
-mod Sublists
 mod Telling
 pub mod Common

@@ -24,23 +24,21 @@ letters_at text f = word_if text (check_span f)
 abbrev pub is_same_fault : List ℕ → CheckFault → List ℕ → CheckFault → Bool
 is_same_fault text f other g = bytes_eq (check_words f) (check_words g) && bytes_eq (letters_at text f) (letters_at other g)
 
--- a fault of a with_change text is one of those that were there, and all are
+-- a fault of a changed text is one of those that were there, and all are
 abbrev pub is_known : List ℕ → List CheckFault → List ℕ → CheckFault → Bool
 is_known text fs other g = list_any (λ f. is_same_fault text f other g) fs
 
 abbrev pub are_known : List ℕ → List CheckFault → List ℕ → List CheckFault → Bool
 are_known text fs other gs = list_all (is_known text fs other) gs
 
--- the other text is a program that has fewer faults than these, and none that isn't among these
-pub record HasFewerFaults (text : List ℕ) (fs : List CheckFault) (other : List ℕ) : Type 0 where
-  pub tree : Program
-  pub spells : IsProgram other tree
-  pub fewer : length (faults_by_part tree) < length fs
-  pub known : are_known text fs other (faults_by_part tree) ≡ true
+-- these are the faults of a text, which is a program
+abbrev pub AreFaultsOf : List ℕ → List CheckFault → Type 0
+AreFaultsOf text fs = (tree : Program) × IsProgram text tree × (fs ≡ faults_by_part tree)
 
--- the text with a change is such a one
+-- with a change the text is a program that has fewer faults than these, and none that isn't among these
 abbrev pub LessensFaults : List ℕ → List CheckFault → Fix → Type 0
-LessensFaults text fs fix = (other : List ℕ) × IsApplied text fix other × HasFewerFaults text fs other
+LessensFaults text fs fix = (other : List ℕ) × (left : List CheckFault)
+    × IsApplied text fix other × AreFaultsOf other left × (length left < length fs) × (are_known text fs other left ≡ true)
 
 -- a note tells a fault of the text at its place, and a change only if that leaves fewer faults
 pub record TellsFault (text : List ℕ) (fs : List CheckFault) (note : Note) (f : CheckFault) : Type 0 where
@@ -52,6 +50,6 @@ pub record TellsFault (text : List ℕ) (fs : List CheckFault) (note : Note) (f 
 abbrev pub TellsOne : List ℕ → List CheckFault → Note → Type 0
 TellsOne text fs note = (f : CheckFault) × TellsFault text fs note f
 
--- one note more tells such a fault
-abbrev pub HasOneMore : Note → List Note → List Note → Type 0
-HasOneMore note old new = (text : List ℕ) (fs : List CheckFault) → TellsOne text fs note → All (TellsOne text fs) old → All (TellsOne text fs) new
+-- where those before tell such faults, and this is one, those after do too
+abbrev pub TellsMore : List ℕ → List CheckFault → CheckFault → List Note → List Note → Type 0
+TellsMore text fs f old new = Contains fs f → All (TellsOne text fs) old → All (TellsOne text fs) new

@@ -4,12 +4,10 @@ use crate::heads::{end_of, head_before};
 use crate::lost::{longer_of, spans_of};
 use crate::names::{NameKind, names_asked, names_seen};
 use crate::near::nearest;
-use crate::place::{
-    Handed, NetworkPlace, called_first, is_called, is_in, process_called, side_of, text_of, word_at,
-};
+use crate::place::{NetworkPlace, called_first, is_called, side_of, word_at};
 use crate::said::Added;
-use crate::trial::{Edit, EditKind, Trial, Tried};
-use kahn_marks::add;
+use crate::trial::{Edit, EditKind, Trial, Tried, is_of_sides};
+use kahn_marks::{add, add_spot};
 use kahn_streams::{CheckFault, Declaration, Name, NoMemory, Span};
 use kahn_syntax::{Class, Keyword, Sign};
 use std::alloc::AllocError;
@@ -20,26 +18,14 @@ impl<'p> Trial<'p> {
         let place = self.place;
         match fault {
             CheckFault::Unknown(_) => return self.with_unknown(),
-            CheckFault::DeclaredTwice(_) => {
-                for fault in self.faults {
-                    if let CheckFault::Unknown(span) = fault {
-                        self.put_one(EditKind::Near, place.at, place.part(*span))?;
-                    }
-                }
-                self.without_name(place.at)?;
-                let names = names_seen(place, place.process, None)?;
-                return match called_first(place.word(), &names) {
-                    Some(first) => self.without_name(first.span),
-                    None => Ok(()),
-                };
-            }
+            CheckFault::DeclaredTwice(_) => return self.with_twice(),
             CheckFault::WrongCount(_) => return self.with_counts(),
             CheckFault::NoWriter(_) => return self.with_role(fault, "input"),
             CheckFault::NoReader(_) => return self.with_role(fault, "output"),
             CheckFault::TooMany(_) | CheckFault::NoMemory => return Ok(()),
             CheckFault::WrongDirection(_) => {
                 if let Some(name) = nearest(place.word(), &names_asked(place)?) {
-                    self.put_name(EditKind::Near, place.at, name)?;
+                    self.put_one(EditKind::Near, place.at, name.text.as_str())?;
                 }
             }
             CheckFault::ChannelExpected(_) => {
@@ -47,6 +33,11 @@ impl<'p> Trial<'p> {
                 if let (Some(wait), Some(close)) = (wait, place.span(1)) {
                     self.put(EditKind::Bare, (wait, close), &[place.part(place.at)])?;
                 }
+            }
+            CheckFault::ValueExpected(_) => {
+                self.with_taken()?;
+                let pieces = ["wait(", place.part(place.at), ")"];
+                self.put(EditKind::Waited, (place.at, place.at), &pieces)?;
             }
             _ => match place.part(place.at) {
                 "0" => self.put_one(EditKind::Near, place.at, "false")?,
@@ -56,6 +47,47 @@ impl<'p> Trial<'p> {
         }
         self.with_targets()?;
         self.with_others(fault)
+    }
+
+    /// The variables that are assigned what was taken from the channel at the place.
+    fn with_taken(&mut self) -> Tried {
+        let place = self.place;
+        for lexeme in place.seen() {
+            if place.part(lexeme.span) == place.part(place.at) {
+                let its = place.moved_to(lexeme.span);
+                let is_assigned = its.class(-3) == Some(Class::Sign(Sign::Becomes));
+                match its.span(-4) {
+                    Some(name) if is_assigned && its.asked() == NameKind::Source => {
+                        self.put_one(EditKind::Near, place.at, place.part(name))?;
+                    }
+                    _ => {}
+                }
+            }
+        }
+        Ok(())
+    }
+
+    /// Those for a name that is declared twice: one that isn't declared in its place, or one of the two left out.
+    fn with_twice(&mut self) -> Tried {
+        let place = self.place;
+        let names = names_seen(place.alloc, place.program, place.process, None)?;
+        for lexeme in place.seen().iter().skip(1) {
+            let part = place.part(lexeme.span);
+            let is_name = lexeme.what == Class::Name && place.process.is_some();
+            if is_name && called_first(part.as_bytes(), &names).is_none() {
+                self.put_one(EditKind::Near, place.at, part)?;
+            }
+        }
+        for fault in self.faults {
+            if let CheckFault::Unknown(span) = fault {
+                self.put_one(EditKind::Near, place.at, place.part(*span))?;
+            }
+        }
+        self.without_name(place.at)?;
+        match called_first(place.word(), &names) {
+            Some(first) => self.without_name(first.span),
+            None => Ok(()),
+        }
     }
 
     /// The name at the place and the one behind its `on` interchanged, where a bracket may stand between; or the channels of the first
@@ -91,26 +123,20 @@ impl<'p> Trial<'p> {
     fn with_pairs(&mut self, first: Span, targets: &[Span]) -> Tried {
         let place = self.place;
         let mut put = String::new(place.alloc);
-        let mut last = Span {
-            to: first.from,
-            ..first
-        };
-        for pair in targets.chunks(2) {
-            if let [one, other] = pair {
-                let front = place.part(Span {
-                    from: last.to,
-                    to: one.from,
-                });
-                let between = place.part(Span {
-                    from: one.to,
-                    to: other.from,
-                });
-                add(
-                    &mut put,
-                    &[front, place.part(*other), between, place.part(*one)],
-                )?;
-                last = *other;
-            }
+        let (mut from, mut last) = (first.from, first);
+        for (number, target) in targets.iter().enumerate() {
+            let beside = match number % 2 {
+                0 => number.saturating_add(1),
+                _ => number.saturating_sub(1),
+            };
+            let other = targets.get(beside).copied().unwrap_or(*target);
+            let to = target.from;
+            add(
+                &mut put,
+                &[place.part(Span { from, to }), place.part(other)],
+            )?;
+            from = target.to;
+            last = *target;
         }
         if targets.len() > 3 {
             self.put(EditKind::Flip, (first, last), &[put.as_str()])?;
@@ -146,30 +172,29 @@ impl<'p> Trial<'p> {
         }
         let names = names_asked(place)?;
         let near = nearest(place.word(), &names);
-        let is_near = |name: &Name| matches!(near, Some(near) if near.span == name.span);
         match place.parameter_for() {
-            Some(name) if !is_near(name) => self.put_name(EditKind::Handed, place.at, name)?,
+            Some(name) if !matches!(near, Some(near) if near.span == name.span) => {
+                self.put_one(EditKind::Handed, place.at, name.text.as_str())?;
+            }
             _ => {}
         }
         if let Some(name) = near {
-            self.put_name(EditKind::Near, place.at, name)?;
+            self.put_one(EditKind::Near, place.at, name.text.as_str())?;
         }
         for name in &names {
-            let is_meant = near.is_none() || is_near(name);
-            if is_meant && !is_called(place.word(), name) && !is_used(place, name) {
-                self.put_name(EditKind::Unused, place.at, name)?;
+            if !is_called(place.word(), name) && !is_used(place, name) {
+                self.put_one(EditKind::Unused, place.at, name.text.as_str())?;
                 self.put_one(EditKind::Renamed, name.span, place.part(place.at))?;
             }
         }
-        if near.is_some() {
-            return Ok(());
-        }
         self.with_declared()?;
-        if place.process.is_none() {
-            self.with_spares(place.handed_at(place.at.from))?;
-            return self.with_names(NameKind::Value);
+        match place.made() {
+            Some(process) if near.is_none() && place.process.is_none() => {
+                self.with_arranged(process, place.handed_at(place.at.from))?;
+                self.with_names(NameKind::Value)
+            }
+            _ => Ok(()),
         }
-        Ok(())
     }
 
     /// A declaration of the name at the place: of a channel; or of a variable that is assigned, with all others like it.
@@ -180,10 +205,9 @@ impl<'p> Trial<'p> {
         let (Some(begin), Some(names)) = (begin, undeclared(place)?) else {
             return Ok(());
         };
-        let parts = (begin.span, begin.span);
         for form in forms_in(place) {
             let pieces = [*form, names.as_str(), ";"];
-            self.put(EditKind::Declared, parts, &pieces)?;
+            self.put(EditKind::Declared, (begin.span, begin.span), &pieces)?;
         }
         Ok(())
     }
@@ -199,7 +223,7 @@ impl<'p> Trial<'p> {
                     true => EditKind::Used,
                     false => EditKind::Unused,
                 };
-                self.put_name(way, place.at, name)?;
+                self.put_one(way, place.at, name.text.as_str())?;
             }
         }
         Ok(())
@@ -208,29 +232,22 @@ impl<'p> Trial<'p> {
     /// Those that don't put a near name in.
     fn with_others(&mut self, fault: CheckFault) -> Tried {
         let place = self.place;
-        let called = match (place.process, place.instance()) {
-            (Some(process), _) => &process.name,
-            (None, Some(instance)) => &instance.process,
-            (None, None) => return Ok(()),
+        let Some(process) = place.process.or(place.made()) else {
+            return Ok(());
         };
-        let called = called.text.as_bytes();
         let handed = place.handed_at(place.at.from);
-        let spans = spans_of(place.alloc, handed)?;
-        self.with_swaps(EditKind::Swap, &spans)?;
+        self.with_swaps(EditKind::Swap, &spans_of(place.alloc, handed)?)?;
         if let Some(first) = place.passed_before(side_of(fault)) {
             let others = spans_of(place.alloc, place.handed_at(first.from))?;
             self.with_swaps(EditKind::Swap, &others)?;
         }
-        if process_called(place.program, called).is_some() {
-            self.with_groups(handed)?;
-            self.with_spares(handed)?;
-        }
+        self.with_arranged(process, handed)?;
         self.with_heads(fault)?;
-        self.with_directions(called)?;
+        self.with_directions(process.name.text.as_bytes())?;
         if is_of_names(place, fault) {
             self.with_names(side_of(fault))?;
         }
-        self.with_moves(&spans)
+        Ok(())
     }
 }
 
@@ -297,7 +314,7 @@ fn undeclared(place: NetworkPlace) -> Result<Option<String>, AllocError> {
     if !is_variable {
         return Ok(Some(String::from_str(place.alloc, word)?));
     }
-    let declared = names_seen(place, place.process, None)?;
+    let declared = names_seen(place.alloc, place.program, place.process, None)?;
     let seen = place.seen();
     let mut words: Vec<&str> = Vec::new(place.alloc);
     let mut names = String::new(place.alloc);
@@ -351,11 +368,6 @@ fn is_unsure(place: NetworkPlace, fault: CheckFault, change: &Edit) -> bool {
     is_declared && place.process.is_none() && change.left > 0
 }
 
-/// Whether a channel has no writer, or no reader.
-pub(crate) fn is_of_sides(fault: CheckFault) -> bool {
-    matches!(fault, CheckFault::NoWriter(_) | CheckFault::NoReader(_))
-}
-
 /// Whether a change is told apart from the words of a fault at a place: it is made elsewhere.
 pub(crate) fn is_elsewhere(change: &Edit, at: Span) -> bool {
     match change.way {
@@ -375,8 +387,20 @@ pub(crate) fn add_change(words: &mut String, place: NetworkPlace, change: &Edit)
             add(words, &["; are `", first, "` and `", last])?;
             words.push_str("` interchanged?")
         }
+        EditKind::Waited => add(words, &["; its next value is `", put, "`"]),
         EditKind::Handed => add(words, &["; `", place.name(), "` has it as `", put, "`"]),
         _ if is_elsewhere(change, place.at) => Ok(()),
         _ => add(words, &["; did you mean `", put, "`?"]),
     }
+}
+
+/// Adds a change that is made elsewhere, and may leave a fault that wasn't looked for.
+pub(crate) fn add_unsure(words: &mut String, place: NetworkPlace, change: &Edit) -> Added {
+    let (old, put) = (place.part(change.fix.span), change.fix.put.as_str());
+    if old.is_empty() {
+        add(words, &["; insert `", put, "`"])?;
+    } else {
+        add(words, &["; replace `", old, "` with `", put, "`"])?;
+    }
+    add_spot(words, " at ", place.text, change.fix.span.from)
 }

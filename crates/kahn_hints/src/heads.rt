@@ -1,7 +1,7 @@
 //! Another head for declared names: another kind, direction or role.
 
 use crate::names::{NameKind, names_seen};
-use crate::place::{NetworkPlace, called_first, is_called, process_called};
+use crate::place::{NetworkPlace, called_first, is_called};
 use crate::trial::{EditKind, Trial, Tried};
 use kahn_marks::add;
 use kahn_streams::{Argument, CheckFault, Name, Process, Span};
@@ -45,24 +45,19 @@ fn others_for(class: Class) -> &'static [&'static str] {
     }
 }
 
-/// The names whose heads may be wrong: all of the process at a place, or the channels that the instance there hands over, and the parameters
-/// that take them.
+/// The names whose heads may be wrong: all of the process at a place, or the channels that the instance there hands over.
 fn suspects<'p>(place: NetworkPlace<'p>) -> Result<Vec<&'p Name>, AllocError> {
     let Some(instance) = place.instance() else {
-        return names_seen(place, place.process, None);
+        return names_seen(place.alloc, place.program, place.process, None);
     };
-    let channels = names_seen(place, None, Some(NameKind::Channel))?;
+    let asked = Some(NameKind::Channel);
+    let channels = names_seen(place.alloc, place.program, None, asked)?;
     let mut names = Vec::new(place.alloc);
     for argument in &instance.arguments {
         if let Argument::Channel(name) = argument {
             if let Some(channel) = called_first(name.text.as_bytes(), &channels) {
                 names.push(channel)?;
             }
-        }
-    }
-    if let Some(process) = process_called(place.program, instance.process.text.as_bytes()) {
-        for parameter in &process.parameters {
-            names.push(&parameter.name)?;
         }
     }
     Ok(names)
@@ -77,14 +72,11 @@ impl<'p> Trial<'p> {
             return Ok(());
         };
         let (from, to) = (first.span.from, last.span.to);
+        if is_whole && old.from == old.to {
+            return self.put_one(EditKind::Role, first.span, word);
+        }
         if is_whole {
-            let is_inserted = old.from == old.to;
-            let way = if is_inserted {
-                EditKind::Role
-            } else {
-                EditKind::Flip
-            };
-            return self.put_one(way, if is_inserted { first.span } else { old }, word);
+            return self.put_one(EditKind::Flip, old, word);
         }
         let front = place.part(Span { from, to: old.from });
         let back = place.part(Span { from: old.to, to });
@@ -184,21 +176,14 @@ impl<'p> Trial<'p> {
         Ok(())
     }
 
-    /// Neighbouring directions interchanged, and neighbouring groups, of the process at a place.
+    /// Neighbouring directions of the parameters of a process interchanged.
     pub(crate) fn with_directions(&mut self, called: &[u8]) -> Tried {
-        let place = self.place;
-        let Some(process) = process_called(place.program, called) else {
-            return Ok(());
-        };
-        let mut directions: Vec<Span> = Vec::new(place.alloc);
-        for parameter in &process.parameters {
-            for lexeme in head_before(place.moved_to(parameter.name.span)) {
-                let is_new = directions.last().map(|last| last.from) != Some(lexeme.span.from);
-                if is_new && matches!(lexeme.what, Class::Word(Keyword::In | Keyword::Out)) {
-                    directions.push(lexeme.span)?;
-                }
+        let mut directions: Vec<Span> = Vec::new(self.place.alloc);
+        for lexeme in self.place.text_in(called) {
+            if matches!(lexeme.what, Class::Word(Keyword::In | Keyword::Out)) {
+                directions.push(lexeme.span)?;
             }
         }
-        self.with_swaps(EditKind::Moved, &directions)
+        self.with_swaps(EditKind::Flip, &directions)
     }
 }

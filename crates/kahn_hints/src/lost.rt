@@ -1,32 +1,76 @@
 //! Arguments that are lost or too many, and several that are others.
 
-use crate::names::{NameKind, spare_channels, taken_by};
-use crate::place::{Handed, NetworkPlace, called_first, channel_called, instance_of, is_called};
+use crate::names::{NameKind, taken_by};
+use crate::place::{Handed, NetworkPlace, channel_called, instance_of, is_called};
 use crate::trial::{EditKind, Trial, Tried};
 use kahn_marks::add;
-use kahn_streams::{Argument, Instance, Kind, Name, Parameter, Process, Span, Taking};
+use kahn_streams::{
+    Argument, Declaration, Instance, Kind, Name, Parameter, Process, Role, Span, Taking,
+};
 use kahn_syntax::{Class, Sign};
 use std::alloc::{AllocError, Global};
+
+/// Of a process with more parameters no arguments are looked for.
+const MOST_PARAMETERS: usize = 64;
+
+/// A channel, with what it may be handed over for, of its kind.
+#[derive(Clone, Copy)]
+struct Spare<'p> {
+    taken: (NameKind, Kind),
+    name: &'p Name,
+}
 
 /// Where arguments stand.
 pub(crate) fn spans_of(alloc: Global, handed: &[Handed]) -> Result<Vec<Span>, AllocError> {
     handed.iter().map(|one| one.span).collect(alloc)
 }
 
-/// Whether arguments are of the kinds that parameters take, and channels or unknown names where they take these, one by one, as far as both
-/// go.
-fn all_fit(place: NetworkPlace, parameters: &[Parameter], handed: &[Handed]) -> bool {
+/// The channels for each side, or those alone whose side neither the outside has nor an instance but the one at a place.
+fn spares_at<'p>(place: NetworkPlace<'p>, are_all: bool) -> Result<Vec<Spare<'p>>, AllocError> {
+    let mut spares: Vec<Spare<'p>> = Vec::new(place.alloc);
+    for declaration in &place.program.declarations {
+        if let Declaration::Channels(kind, role, names) = declaration {
+            for name in names {
+                let word = name.text.as_bytes();
+                if are_all || *role != Role::Output && !place.is_had(NameKind::Source, word) {
+                    let taken = (NameKind::Source, *kind);
+                    spares.push(Spare { taken, name })?;
+                }
+                if are_all || *role != Role::Input && !place.is_had(NameKind::Target, word) {
+                    let taken = (NameKind::Target, *kind);
+                    spares.push(Spare { taken, name })?;
+                }
+            }
+        }
+    }
+    Ok(spares)
+}
+
+/// Whether an argument is what a parameter takes.
+fn fits(spares: &[Spare], taken: (NameKind, Kind), one: &Handed) -> bool {
+    match one.argument {
+        Argument::Number(_, _) => taken == (NameKind::Value, Kind::Integer),
+        Argument::Logical(_, _) => taken == (NameKind::Value, Kind::Logical),
+        Argument::Channel(name) => spares.iter().any(|spare| spare.taken == taken
+            && is_called(name.text.as_bytes(), spare.name)),
+    }
+}
+
+/// Whether arguments are what parameters take, or names that aren't declared where these take channels, one by one, as far as both go.
+fn all_fit(
+    place: NetworkPlace,
+    spares: &[Spare],
+    parameters: &[Parameter],
+    handed: &[Handed],
+) -> bool {
     for (parameter, one) in parameters.iter().zip(handed) {
-        let is_fit = match (parameter.taking, one.argument) {
-            (Taking::Value(kind), Argument::Number(_, _)) => kind == Kind::Integer,
-            (Taking::Value(kind), Argument::Logical(_, _)) => kind == Kind::Logical,
-            (Taking::Channel(_, kind), Argument::Channel(name)) => {
-                let found = channel_called(place.program, name.text.as_bytes());
-                found.is_none_or(|(found, _)| found == kind)
+        let is_unknown = match (parameter.taking, one.argument) {
+            (Taking::Channel(_, _), Argument::Channel(name)) => {
+                channel_called(place.program, name.text.as_bytes()).is_none()
             }
             _ => false,
         };
-        if !is_fit {
+        if !is_unknown && !fits(spares, taken_by(parameter), one) {
             return false;
         }
     }
@@ -42,22 +86,23 @@ pub(crate) fn lost_in<'p>(
     let handed = place.handed_at(place.at.from);
     let parameters = &process.parameters;
     let mut lost = Vec::new(place.alloc);
-    if handed.len().saturating_add(1) != parameters.len() {
+    let count = handed.len().saturating_add(1);
+    if count != parameters.len() || count > MOST_PARAMETERS {
         return Ok(lost);
     }
+    let (all, spares) = (spares_at(place, true)?, spares_at(place, false)?);
     for (number, parameter) in parameters.iter().enumerate() {
         let behind = parameters.get(number.saturating_add(1)..).unwrap_or(&[]);
         let (front, rest) = handed.split_at_checked(number).unwrap_or((handed, &[]));
-        if all_fit(place, parameters, front) && all_fit(place, behind, rest) {
-            let (side, kind) = taken_by(parameter);
-            if side == NameKind::Value {
+        let taken = taken_by(parameter);
+        if all_fit(place, &all, parameters, front) && all_fit(place, &all, behind, rest) {
+            if taken.0 == NameKind::Value {
                 lost.push((number, None))?;
-                continue;
             }
-            for spare in &spare_channels(place, side, kind)? {
-                let word = spare.text.as_bytes();
-                if !handed.iter().any(|one| one.is_channel(word)) {
-                    lost.push((number, Some(*spare)))?;
+            for spare in &spares {
+                let word = spare.name.text.as_bytes();
+                if spare.taken == taken && !handed.iter().any(|one| one.is_channel(word)) {
+                    lost.push((number, Some(spare.name)))?;
                 }
             }
         }
@@ -73,6 +118,46 @@ pub(crate) fn longer_of<'p>(place: NetworkPlace<'p>) -> Option<(&'p Process, &'p
     let mut all = place.program.instances.iter();
     let longer = all.find(|one| one.arguments.len() > most && is_called(name, &one.process))?;
     Some((process, longer))
+}
+
+/// What may be handed over for the parameters of a process, in their order: the first of some arguments that fits, none twice; or, where
+/// spare channels may stand, its own argument or else such a channel. Nothing where one parameter has none.
+fn arranged<'p>(
+    place: NetworkPlace<'p>,
+    process: &Process,
+    handed: &[Handed],
+    are_spare: bool,
+) -> Result<Vec<&'p str>, AllocError> {
+    let mut words: Vec<&'p str> = Vec::new(place.alloc);
+    if process.parameters.len() > MOST_PARAMETERS {
+        return Ok(words);
+    }
+    let spares = spares_at(place, false)?;
+    let mut used: Vec<usize> = Vec::new(place.alloc);
+    for (number, parameter) in process.parameters.iter().enumerate() {
+        let taken = taken_by(parameter);
+        let own = handed.get(number..number.saturating_add(1)).unwrap_or(&[]);
+        let pool = if are_spare { own } else { handed };
+        let mut word = None;
+        for one in pool {
+            if word.is_none() && fits(&spares, taken, one) && !used.contains(&one.span.from) {
+                used.push(one.span.from)?;
+                word = Some(place.part(one.span));
+            }
+        }
+        for spare in &spares {
+            let name = spare.name.text.as_str();
+            let is_new = word.is_none() && spare.taken == taken && !words.contains(&name);
+            if are_spare && is_new {
+                word = Some(name);
+            }
+        }
+        match word {
+            Some(word) => words.push(word)?,
+            None => return Ok(Vec::new(place.alloc)),
+        }
+    }
+    Ok(words)
 }
 
 impl<'p> Trial<'p> {
@@ -107,92 +192,53 @@ impl<'p> Trial<'p> {
         Ok(())
     }
 
-    /// Neighbouring groups of arguments interchanged, each for parameters that take the same.
-    pub(crate) fn with_groups(&mut self, handed: &[Handed]) -> Tried {
-        let mut groups: Vec<Span> = Vec::new(self.place.alloc);
-        let mut last = None;
-        for one in handed {
-            let taken = one.parameter.map(taken_by);
-            let before = if last == taken { groups.pop() } else { None };
-            let from = before.map_or(one.span.from, |group| group.from);
-            groups.push(Span { from, ..one.span })?;
-            last = taken;
-        }
-        self.with_swaps(EditKind::Swap, &groups)
-    }
-
-    /// The first spare channel for a parameter that isn't taken, which is taken then.
-    fn spare_for(
-        &self,
-        parameter: &Parameter,
-        taken: &mut Vec<&'p Name>,
-    ) -> Result<Option<&'p str>, AllocError> {
-        let (side, kind) = taken_by(parameter);
-        for spare in &spare_channels(self.place, side, kind)? {
-            if called_first(spare.text.as_bytes(), taken).is_none() {
-                taken.push(*spare)?;
-                return Ok(Some(spare.text.as_str()));
+    /// Several arguments of an instance that are other ones: all of them in the order of the parameters, or spare channels in the place of
+    /// those that don't fit.
+    pub(crate) fn with_arranged(&mut self, process: &Process, handed: &[Handed]) -> Tried {
+        let place = self.place;
+        for are_spare in [false, true] {
+            let mut put = String::new(place.alloc);
+            let mut parts: Option<(Span, Span)> = None;
+            for (one, word) in handed
+                .iter()
+                .zip(&arranged(place, process, handed, are_spare)?)
+            {
+                if place.part(one.span) != *word {
+                    let (first, last) = parts.unwrap_or((one.span, one.span));
+                    let (from, to) = (last.to, one.span.from);
+                    add(&mut put, &[place.part(Span { from, to }), word])?;
+                    parts = Some((first, one.span));
+                }
+            }
+            let is_value = place.class(0) != Some(Class::Name);
+            match parts {
+                Some((first, last)) if is_value || first.from != last.from => {
+                    self.put(EditKind::Flip, (first, last), &[put.as_str()])?;
+                }
+                _ => {}
             }
         }
-        Ok(None)
+        Ok(())
     }
 
     /// One instance more of a process, over spare channels, with the values of its first instance.
-    pub(crate) fn with_instance(&mut self, process: &'p Process) -> Tried {
+    pub(crate) fn with_instance(&mut self, process: &Process) -> Tried {
         let place = self.place;
         let first = instance_of(place.program, process);
         let values = place.handed_at(first.map_or(0, |first| first.process.span.from));
+        let words = arranged(place, process, values, true)?;
         let mut put = String::from_str(place.alloc, ") par ")?;
-        let mut taken: Vec<&'p Name> = Vec::new(place.alloc);
-        let mut between = "(";
         put.push_str(process.name.text.as_str())?;
-        for (number, parameter) in process.parameters.iter().enumerate() {
-            let word = match taken_by(parameter).0 {
-                NameKind::Value => values.get(number).map(|value| place.part(value.span)),
-                _ => self.spare_for(parameter, &mut taken)?,
-            };
-            let Some(word) = word else {
-                return Ok(());
-            };
-            add(&mut put, &[between, word])?;
-            between = ", ";
+        for (number, word) in words.iter().enumerate() {
+            add(&mut put, &[if number == 0 { "(" } else { ", " }, word])?;
         }
         let mut lexemes = place.lexemes.iter().rev();
         let close = lexemes.find(|lexeme| matches!(lexeme.what, Class::Sign(Sign::Close)));
         match close {
-            Some(close) => {
+            Some(close) if !words.is_empty() => {
                 let parts = (close.span, close.span);
                 self.put(EditKind::Unused, parts, &[put.as_str(), ")"])
             }
-            None => Ok(()),
-        }
-    }
-
-    /// Spare channels in the place of all arguments of an instance that aren't declared, or stand elsewhere before for the same side, where several do.
-    pub(crate) fn with_spares(&mut self, handed: &[Handed<'p>]) -> Tried {
-        let place = self.place;
-        let mut put = String::new(place.alloc);
-        let mut taken: Vec<&'p Name> = Vec::new(place.alloc);
-        let mut parts: Option<(Span, Span)> = None;
-        for one in handed {
-            let Some(parameter) = one.parameter else {
-                continue;
-            };
-            let side = taken_by(parameter).0;
-            let its = place.moved_to(one.span);
-            let is_wrong = its.passed_before(side).is_some() || its.channel().is_none();
-            if side != NameKind::Value && is_wrong {
-                let Some(spare) = self.spare_for(parameter, &mut taken)? else {
-                    return Ok(());
-                };
-                let (front, last) = parts.unwrap_or((one.span, one.span));
-                let (from, to) = (last.to, one.span.from);
-                add(&mut put, &[place.part(Span { from, to }), spare])?;
-                parts = Some((front, one.span));
-            }
-        }
-        match parts {
-            Some(parts) if taken.len() > 1 => self.put(EditKind::Flip, parts, &[put.as_str()]),
             _ => Ok(()),
         }
     }

@@ -1,8 +1,8 @@
 //! Whether a program has fewer faults with a change, and none that wasn't there.
 
-ghost use Rattle.std.specs.Prelude.{◌≡◌, IfOk, IfSome};
+ghost use Rattle.std.specs.Prelude.{◌≡◌, ◌<◌, IfOk, IfSome, IsTrue, length, true};
 ghost use Rattle.std.specs.List.{list_all, list_any};
-ghost use Rattle.kahn_hints.specs.Hints.{LessensFaults, HasFewerFaults, are_known, is_known, is_same_fault, letters_at};
+ghost use Rattle.kahn_hints.specs.Hints.{AreFaultsOf, LessensFaults, are_known, is_known, is_same_fault, letters_at};
 
 use crate::place::{NetworkPlace, is_in, word_at};
 use kahn_check::every;
@@ -31,7 +31,7 @@ pub(crate) fn is_same_fault(text: &str, fault: CheckFault, other: &str, found: C
 }
 
 /// Whether a fault of a changed text is one of those that were there.
-fn is_known(text: &str, faults: &[CheckFault], other: &str, found: CheckFault) -> bool
+pub(crate) fn is_known(text: &str, faults: &[CheckFault], other: &str, found: CheckFault) -> bool
     ensures { result ≡ is_known text.now faults.now other.now found }
 {
     faults
@@ -47,39 +47,41 @@ fn are_known(text: &str, faults: &[CheckFault], other: &str, left: &[CheckFault]
         .all(|found| is_known(text, faults, other, *found))
 }
 
-/// How many faults a changed text has, if it spells a program with fewer of them than these, and none that isn't among these.
-fn left_in(
-    alloc: Global,
-    text: &str,
-    faults: &[CheckFault],
-    other: &str,
-) -> Result<Option<usize>, NoMemory>
-    ensures { IfOk result (λ left. IfSome left (λ _. HasFewerFaults text.now faults.now other.now)) }
+/// The faults of a text, if it spells a program.
+pub(crate) fn faults_in(alloc: Global, text: &str) -> Result<Option<Vec<CheckFault>>, NoMemory>
+    ensures { IfOk result (λ found. IfSome found (λ fs. AreFaultsOf text.now fs.items)) }
 {
-    let tree = match parse(alloc, other) {
-        Ok(tree) => tree,
-        Err(SyntaxFault::NoMemory) => return Err(NoMemory),
-        Err(_) => return Ok(None),
-    };
-    let left = every(alloc, &tree)?;
-    if left.len() < faults.len() && are_known(text, faults, other, &left) {
-        return Ok(Some(left.len()));
+    match parse(alloc, text) {
+        Ok(tree) => Ok(Some(every(alloc, &tree)?)),
+        Err(SyntaxFault::NoMemory) => Err(NoMemory),
+        Err(_) => Ok(None),
     }
-    Ok(None)
 }
 
-/// How many faults a change leaves, where these are the faults of the text; none if they aren't fewer, or one is new.
-pub(crate) fn left_by(
+/// Whether the faults that are left are fewer, and each was there.
+pub(crate) fn are_fewer(text: &str, faults: &[CheckFault], other: &str, left: &[CheckFault]) -> bool
+    ensures fewer { IsTrue result → length left.now < length faults.now }
+    ensures known { IsTrue result → are_known text.now faults.now other.now left.now ≡ true }
+{
+    left.len() < faults.len() && are_known(text, faults, other, left)
+}
+
+/// Whether a change leaves fewer faults of a text, and none that wasn't there.
+pub(crate) fn is_mended(
     alloc: Global,
     text: &str,
     faults: &[CheckFault],
     fix: &Fix,
-) -> Result<Option<usize>, NoMemory>
-    ensures { IfOk result (λ left. IfSome left (λ _. LessensFaults text.now faults.now fix.now)) }
+) -> Result<bool, NoMemory>
+    ensures { IfOk result (λ is. IsTrue is → LessensFaults text.now faults.now fix.now) }
 {
-    match applied(alloc, text, fix)? {
-        Some(other) => left_in(alloc, text, faults, other.as_str()),
-        None => Ok(None),
+    let Some(changed) = applied(alloc, text, fix)? else {
+        return Ok(false);
+    };
+    let other = changed.as_str();
+    match faults_in(alloc, other)? {
+        Some(left) => Ok(are_fewer(text, faults, other, &left)),
+        None => Ok(false),
     }
 }
 
@@ -94,13 +96,11 @@ pub(crate) fn found_kind(place: NetworkPlace) -> Result<Option<Kind>, NoMemory> 
     let Some(other) = applied(alloc, place.text, &Fix { span, put, beside })? else {
         return Ok(None);
     };
-    let tree = match parse(alloc, other.as_str()) {
-        Ok(tree) => tree,
-        Err(SyntaxFault::NoMemory) => return Err(NoMemory),
-        Err(_) => return Ok(None),
+    let Some(faults) = faults_in(alloc, other.as_str())? else {
+        return Ok(None);
     };
     let to = span.from.saturating_add(2);
-    for fault in &every(alloc, &tree)? {
+    for fault in &faults {
         if let CheckFault::WrongKind(at) = fault {
             if is_in(Span { to, ..span }, *at) && at.to.saturating_sub(at.from) == 1 {
                 return Ok(Some(Kind::Integer));

@@ -33,19 +33,25 @@ pub(crate) fn taken_by(parameter: &Parameter) -> (NameKind, Kind) {
 
 /// The names that may stand at the place of a fault.
 pub(crate) fn names_asked<'p>(place: NetworkPlace<'p>) -> Result<Vec<&'p Name>, AllocError> {
-    names_seen(place, place.process, Some(place.asked()))
+    names_seen(
+        place.alloc,
+        place.program,
+        place.process,
+        Some(place.asked()),
+    )
 }
 
 /// The names of a process, its parameters first, or those of the program where there is none; of the kind that is asked for, or all.
 pub(crate) fn names_seen<'p>(
-    place: NetworkPlace<'p>,
+    alloc: Global,
+    program: &'p Program,
     process: Option<&'p Process>,
     asked: Option<NameKind>,
 ) -> Result<Vec<&'p Name>, AllocError> {
-    let mut names = Vec::new(place.alloc);
+    let mut names = Vec::new(alloc);
     let is_asked = |kind: NameKind| asked.is_none() || asked == Some(kind);
     let Some(process) = process else {
-        for declaration in &place.program.declarations {
+        for declaration in &program.declarations {
             match declaration {
                 Declaration::Process(process) if is_asked(NameKind::Process) => {
                     names.push(&process.name)?;
@@ -67,31 +73,6 @@ pub(crate) fn names_seen<'p>(
         }
     }
     Ok(names)
-}
-
-/// The channels of a kind that nothing has on a side.
-pub(crate) fn spare_channels<'p>(
-    place: NetworkPlace<'p>,
-    side: NameKind,
-    kind: Kind,
-) -> Result<Vec<&'p Name>, AllocError> {
-    let mut spares = Vec::new(place.alloc);
-    for declaration in &place.program.declarations {
-        if let Declaration::Channels(of, role, names) = declaration {
-            let is_had = match role {
-                Role::Input => side == NameKind::Target,
-                Role::Output => side == NameKind::Source,
-                Role::Inner => false,
-            };
-            for name in names {
-                let word = name.text.as_bytes();
-                if *of == kind && !is_had && place.passed(side, word).is_none() {
-                    spares.push(name)?;
-                }
-            }
-        }
-    }
-    Ok(spares)
 }
 
 /// Adds names of channels.

@@ -1,17 +1,17 @@
 //! The notes on what is wrong with a network.
 
-ghost use Rattle.std.specs.Prelude.{◌≡◌, ◌∷◌, ◌<◌, [], All, Contains, IfOk, IfSome};
+ghost use Rattle.std.specs.Prelude.{◌≡◌, [], All, Contains, IfOk, IfSome};
 ghost use Rattle.kahn_fault.specs.Message.{check_span};
-ghost use Rattle.kahn_hints.specs.Hints.{HasOneMore, LessensFaults, TellsFault, TellsOne};
+ghost use Rattle.kahn_hints.specs.Hints.{LessensFaults, TellsFault, TellsMore, TellsOne};
 
-use crate::changes::{add_change, change_for, is_elsewhere, is_of_sides};
-use crate::kept::kept;
-use crate::mending::{found_kind, left_by};
+use crate::changes::{add_change, add_unsure, change_for, is_elsewhere};
+use crate::kept::{is_held, limit_of};
+use crate::mending::{found_kind, is_mended};
 use crate::place::{NetworkPlace, beginning, handed_in};
 use crate::said::{add_advice, add_found, facts_of, others_of};
-use crate::trial::{Edit, tries_of};
+use crate::trial::{Edit, is_of_sides, tries_of};
 use kahn_fault::{check_span, check_words};
-use kahn_marks::{Fix, MOST_NOTES, Note, Other, Sort, first_ones};
+use kahn_marks::{Fix, MOST_NOTES, Note, Other, Sort};
 use kahn_streams::{CheckFault, NoMemory, Program, Span};
 use kahn_syntax::lex;
 use std::alloc::Global;
@@ -46,6 +46,7 @@ fn span_of(fault: CheckFault) -> Span
 /// The words of a fault, with what is wanted and found, and what to do; and the other places that have to do with it.
 fn told_of(
     place: NetworkPlace,
+    faults: &[CheckFault],
     fault: CheckFault,
     change: &Option<Edit>,
 ) -> Result<(String, Vec<Other>), NoMemory> {
@@ -59,6 +60,10 @@ fn told_of(
     match change {
         Some(change) if !is_of_sides(fault) => {
             add_change(&mut words, place, change)?;
+            let is_sure = is_mended(place.alloc, place.text, faults, &change.fix)?;
+            if is_elsewhere(change, place.at) && !is_sure {
+                add_unsure(&mut words, place, change)?;
+            }
         }
         _ => add_advice(&mut words, place, fault, &facts)?,
     }
@@ -78,13 +83,10 @@ fn fix_of(
     let Some(change) = change else {
         return Ok(None);
     };
-    if !is_elsewhere(&change, at) {
-        return Ok(None);
+    if is_elsewhere(&change, at) && is_mended(alloc, text, faults, &change.fix)? {
+        return Ok(Some(change.fix));
     }
-    match left_by(alloc, text, faults, &change.fix)? {
-        Some(_) => Ok(Some(change.fix)),
-        None => Ok(None),
-    }
+    Ok(None)
 }
 
 /// What is told of a fault at a place.
@@ -103,7 +105,7 @@ fn found_at(
         Some(change) => change.left == 0,
         None => false,
     };
-    let (words, others) = told_of(place, fault, &change)?;
+    let (words, others) = told_of(place, faults, fault, &change)?;
     let note = Note {
         sort: Sort::Error,
         span: span_of(fault),
@@ -115,35 +117,55 @@ fn found_at(
     Ok(ToldFault { note, is_whole })
 }
 
-/// One note alone, on a fault whose change leaves no other.
-fn alone(alloc: Global, note: Note) -> Result<FaultNotes, NoMemory>
-    ensures { IfOk result (λ told. told.notes.items ≡ note ∷ []) }
-{
-    let mut notes = Vec::new(alloc);
-    notes.push(note)?;
-    Ok(FaultNotes { notes, more: 0 })
+/// What is told so far.
+#[derive(Drop)]
+struct ToldNotes {
+    notes: Vec<Note>,
+    /// The faults of the notes, and those that have none since there are too many, and how many these are.
+    told: Vec<CheckFault>,
+    more: usize,
+    /// Where the first fault of a limit stands: none behind it has a note.
+    limit: usize,
+    /// How many changes may be tried yet.
+    tries: usize,
 }
 
-/// How many faults are told at most: none behind one of a limit.
-fn most_told(faults: &[CheckFault]) -> usize
-    ensures { 0 < result }
-{
-    let limit = faults
-        .iter()
-        .position(|fault| matches!(*fault, CheckFault::TooMany(_)));
-    match limit {
-        Some(number) => number.min(MOST_NOTES - 1) + 1,
-        None => MOST_NOTES,
+impl ToldNotes {
+    /// Tells a fault, if it isn't held back and not too many are told; answers whether a change is told that leaves none. Then its note is
+    /// the only one.
+    #[tactic(auto, using(crate::proofs::Telling::one_more, crate::proofs::Telling::one_alone))]
+    fn tell(
+        &mut self,
+        alloc: Global,
+        text: &str,
+        begin: NetworkPlace,
+        faults: &[CheckFault],
+        fault: CheckFault,
+    ) -> Result<bool, NoMemory>
+        ensures told { IfOk result (λ _. TellsMore text.now faults.now fault self.old.notes.items self.new.notes.items) }
+        ensures some { IfOk result (λ _. self.new.notes.items ≡ [] → ⊥) }
+    {
+        let at = span_of(fault);
+        let is_first = self.notes.is_empty();
+        let is_within = at.from < self.limit;
+        if !is_first && is_within && is_held(begin, faults, &self.told, fault) {
+            return Ok(false);
+        }
+        self.told.push(fault)?;
+        if !is_first && (self.notes.len() >= MOST_NOTES || at.from > self.limit) {
+            self.more = self.more.saturating_add(1);
+            return Ok(false);
+        }
+        let place = begin.moved_to(at);
+        let found = found_at(alloc, text, place, faults, fault, &mut self.tries)?;
+        if found.is_whole {
+            self.notes.clear();
+            self.notes.push(found.note)?;
+            return Ok(true);
+        }
+        self.notes.push(found.note)?;
+        Ok(false)
     }
-}
-
-/// Adds the note on a fault, unless that is the only one to be told.
-fn add_note(notes: &mut Vec<Note>, note: Note) -> Result<(), NoMemory>
-    ensures told { IfOk result (λ _. HasOneMore note notes.old.items notes.new.items) }
-    ensures some { IfOk result (λ _. notes.new.items ≡ [] → ⊥) }
-{
-    notes.push(note)?;
-    Ok(())
 }
 
 /// The notes on the faults that are told of a text that spells a program: on 20 at most, and on none behind one of a limit. What seems to
@@ -158,23 +180,26 @@ pub fn fault_notes(
     ensures told { IfOk result (λ told. All (TellsOne text.now faults.now) told.notes.items) }
     ensures some { IfOk result (λ told. told.notes.items ≡ [] → faults.now ≡ []) }
 {
-    let told = kept(alloc, text, program, faults)?;
     let Ok(lexemes) = lex(alloc, text) else {
         return Err(NoMemory);
     };
     let handed = handed_in(alloc, program)?;
     let begin = beginning(alloc, text, &lexemes, program, &handed);
-    let mut notes = Vec::new(alloc);
-    let mut tries = tries_of(text, &lexemes);
-    let (shown, more) = first_ones(&told, most_told(&told));
-    for fault in shown {
-        let place = begin.moved_to(span_of(*fault));
-        let found = found_at(alloc, text, place, faults, *fault, &mut tries)?;
-        if found.is_whole {
-            return alone(alloc, found.note);
+    let notes = Vec::new(alloc);
+    let told = Vec::new(alloc);
+    let mut telling = ToldNotes {
+        notes,
+        told,
+        more: 0,
+        limit: limit_of(faults),
+        tries: tries_of(text, &lexemes),
+    };
+    for fault in faults {
+        if telling.tell(alloc, text, begin, faults, *fault)? {
+            let notes = telling.notes;
+            return Ok(FaultNotes { notes, more: 0 });
         }
-        add_note(&mut notes, found.note)?;
     }
-    let more = more.len();
+    let (notes, more) = (telling.notes, telling.more);
     Ok(FaultNotes { notes, more })
 }

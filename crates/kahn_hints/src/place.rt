@@ -41,7 +41,7 @@ pub(crate) fn is_in(part: Span, span: Span) -> bool {
 }
 
 /// The first process that a program declares under these letters.
-pub(crate) fn process_called<'p>(program: &'p Program, word: &[u8]) -> Option<&'p Process> {
+fn process_called<'p>(program: &'p Program, word: &[u8]) -> Option<&'p Process> {
     let mut all = program.declarations.iter();
     all.find_map(|declaration| match declaration {
         Declaration::Process(process) if is_called(word, &process.name) => Some(process),
@@ -227,6 +227,11 @@ impl<'p> NetworkPlace<'p> {
         instance_at(&self.program.instances, self.at.from)
     }
 
+    /// The process of that instance.
+    pub(crate) fn made(&self) -> Option<&'p Process> {
+        process_called(self.program, self.instance()?.process.text.as_bytes())
+    }
+
     /// The first process of its letters.
     pub(crate) fn called(&self) -> Option<&'p Process> {
         process_called(self.program, self.word())
@@ -260,6 +265,13 @@ impl<'p> NetworkPlace<'p> {
         let mut all = self.handed.iter();
         let one = all.find(|one| one.is_for(side) && one.is_channel(word))?;
         Some(one.span)
+    }
+
+    /// Whether another instance than the one at the place hands over a channel for such a parameter.
+    pub(crate) fn is_had(&self, side: NameKind, word: &[u8]) -> bool {
+        let own = self.instance().map_or(0, |one| one.process.span.from);
+        let mut all = self.handed.iter();
+        all.any(|one| one.process.span.from != own && one.is_for(side) && one.is_channel(word))
     }
 
     /// Where the channel at the place is handed over first, if not there.
@@ -307,9 +319,12 @@ impl<'p> NetworkPlace<'p> {
         }
     }
 
-    /// The lexemes from a byte to another one.
-    pub(crate) fn within(&self, part: Span) -> &'p [Lexeme] {
+    /// The lexemes of the process of these letters, or of the whole text where there is none.
+    pub(crate) fn text_in(&self, word: &[u8]) -> &'p [Lexeme] {
         let lexemes = self.lexemes;
+        let Some(part) = text_of(self.program, word) else {
+            return lexemes;
+        };
         let from = lexemes.partition_point(|lexeme| lexeme.span.from < part.from);
         let to = lexemes.partition_point(|lexeme| lexeme.span.from < part.to);
         lexemes.get(from..to).unwrap_or(&[])
@@ -317,10 +332,7 @@ impl<'p> NetworkPlace<'p> {
 
     /// The lexemes of the part that sees the names at the place: a process, or the whole text.
     pub(crate) fn seen(&self) -> &'p [Lexeme] {
-        match text_of(self.program, self.name().as_bytes()) {
-            Some(part) => self.within(part),
-            None => self.lexemes,
-        }
+        self.text_in(self.name().as_bytes())
     }
 
     /// What the names stand for that may stand at the place.

@@ -291,7 +291,7 @@ fn second_place(place: NetworkPlace, fault: CheckFault) -> Result<Option<Span>, 
         CheckFault::Unknown(_) => None,
         _ => place.process,
     };
-    let names = names_seen(place, process, None)?;
+    let names = names_seen(place.alloc, place.program, process, None)?;
     let declared = called_first(place.word(), &names).map(|name| name.span);
     let taken = match fault {
         CheckFault::ChannelExpected(_) => place.parameter().map(|name| name.span),

@@ -1,9 +1,10 @@
 //! Changes that are tried one after another, and the one that leaves the fewest faults.
 
-use crate::mending::left_by;
+use crate::mending::{are_fewer, faults_in, is_known};
 use crate::place::NetworkPlace;
-use kahn_marks::{Fix, add};
-use kahn_streams::{CheckFault, Name, NoMemory, Span};
+use kahn_fault::check_span;
+use kahn_marks::{Fix, add, applied};
+use kahn_streams::{CheckFault, NoMemory, Span};
 use kahn_syntax::Lexeme;
 
 /// Whether memory was there for trying a change.
@@ -24,8 +25,6 @@ pub(crate) enum EditKind {
     Near,
     /// Two arguments are interchanged, or a value and the channel of a `send`.
     Swap,
-    /// One argument stands elsewhere among the others, or two neighbouring directions are interchanged.
-    Moved,
     /// A direction, a kind or a head is another one, or several arguments are.
     Flip,
     /// A name in sight that nothing uses.
@@ -40,6 +39,8 @@ pub(crate) enum EditKind {
     Role,
     /// A name stands without its `wait`.
     Bare,
+    /// The next value of a channel stands in its place.
+    Waited,
     /// The parameter for which the channel of the name is handed over.
     Handed,
 }
@@ -91,6 +92,11 @@ fn better(best: Option<Edit>, change: Edit) -> Edit {
     best
 }
 
+/// Whether a fault is that a channel has no writer, or no reader: these are looked for where there is no other.
+pub(crate) fn is_of_sides(fault: CheckFault) -> bool {
+    matches!(fault, CheckFault::NoWriter(_) | CheckFault::NoReader(_))
+}
+
 /// The changes that are tried for a fault, one after another.
 #[derive(Drop)]
 pub(crate) struct Trial<'p> {
@@ -104,6 +110,46 @@ pub(crate) struct Trial<'p> {
 }
 
 impl<'p> Trial<'p> {
+    /// Whether a fault of a changed text wasn't looked for before: one of sides, or one at or behind another fault of the same part.
+    fn is_hidden(&self, other: &str, fix: &Fix, found: CheckFault) -> bool {
+        let Some(span) = check_span(found) else {
+            return false;
+        };
+        let rest = other.len().saturating_sub(span.from);
+        let from = match span.from > fix.span.from {
+            true => self.place.text.len().saturating_sub(rest),
+            false => span.from,
+        };
+        let its = self.place.moved_to(Span { from, to: from });
+        let begin = match (its.process, its.instance()) {
+            (Some(process), _) => process.name.span.from,
+            (None, Some(instance)) => instance.process.span.from,
+            (None, None) => from,
+        };
+        let (faults, of_sides) = (self.faults, is_of_sides(found));
+        if of_sides && !faults.iter().any(|fault| is_of_sides(*fault)) {
+            return true;
+        }
+        faults.iter().any(|fault| match check_span(*fault) {
+            Some(span) => begin <= span.from && span.from <= from,
+            None => false,
+        })
+    }
+
+    /// How many faults a changed text has, if it has fewer of those that are looked for, and none that wasn't there or was hidden.
+    fn left_of(&self, other: &str, fix: &Fix, left: &[CheckFault]) -> Option<usize> {
+        let (text, faults) = (self.place.text, self.faults);
+        let sides = left.iter().filter(|found| is_of_sides(**found));
+        let count = left.len().saturating_sub(sides.count());
+        let mut all = left.iter();
+        let is_left = are_fewer(text, faults, other, left)
+            || count < faults.len()
+                && !fix.put.is_empty()
+                && all.all(|found| is_known(text, faults, other, *found)
+                    || self.is_hidden(other, fix, *found));
+        if is_left { Some(left.len()) } else { None }
+    }
+
     /// Tries these pieces in the place of what stands from the first part to the second, or behind that, if some change may be tried yet.
     pub(crate) fn put(&mut self, way: EditKind, parts: (Span, Span), pieces: &[&str]) -> Tried {
         let Some(rest) = self.tries.checked_sub(1) else {
@@ -120,7 +166,13 @@ impl<'p> Trial<'p> {
         add(&mut put, pieces)?;
         let span = Span { from, to };
         let fix = Fix { span, put, beside };
-        if let Some(left) = left_by(alloc, self.place.text, self.faults, &fix)? {
+        let Some(other) = applied(alloc, self.place.text, &fix)? else {
+            return Ok(());
+        };
+        let Some(left) = faults_in(alloc, other.as_str())? else {
+            return Ok(());
+        };
+        if let Some(left) = self.left_of(other.as_str(), &fix, &left) {
             let is_one_of = false;
             let change = Edit {
                 way,
@@ -139,45 +191,18 @@ impl<'p> Trial<'p> {
         self.put(way, (at, at), &[put])
     }
 
-    /// Tries a name in the place of one part.
-    pub(crate) fn put_name(&mut self, way: EditKind, at: Span, name: &Name) -> Tried {
-        self.put(way, (at, at), &[name.text.as_str()])
-    }
-
     /// Two parts interchanged, with what stands between them.
     pub(crate) fn with_swap(&mut self, way: EditKind, first: Span, last: Span) -> Tried {
         let (place, from, to) = (self.place, first.to, last.from);
         let between = place.part(Span { from, to });
-        self.put(
-            way,
-            (first, last),
-            &[place.part(last), between, place.part(first)],
-        )
+        let pieces = [place.part(last), between, place.part(first)];
+        self.put(way, (first, last), &pieces)
     }
 
     /// Two neighbouring ones of some parts interchanged.
     pub(crate) fn with_swaps(&mut self, way: EditKind, parts: &[Span]) -> Tried {
         for (first, last) in parts.iter().zip(parts.iter().skip(1)) {
             self.with_swap(way, *first, *last)?;
-        }
-        Ok(())
-    }
-
-    /// Two of some parts interchanged that have others between them, or one of the two on the other side of these.
-    pub(crate) fn with_moves(&mut self, parts: &[Span]) -> Tried {
-        let place = self.place;
-        for (number, last) in parts.iter().enumerate() {
-            let before = parts.get(..number).unwrap_or(&[]);
-            for (first, next) in before.iter().zip(before.iter().skip(1)).rev() {
-                let (from, to) = (next.from, last.to);
-                let rest = place.part(Span { from, to });
-                let to = before.last().map_or(from, |end| end.to);
-                let front = place.part(Span { to, ..*first });
-                let ends = (*first, *last);
-                self.put(EditKind::Moved, ends, &[rest, ", ", place.part(*first)])?;
-                self.put(EditKind::Moved, ends, &[place.part(*last), ", ", front])?;
-                self.with_swap(EditKind::Swap, *first, *last)?;
-            }
         }
         Ok(())
     }

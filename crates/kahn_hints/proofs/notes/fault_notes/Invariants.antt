@@ -3,4 +3,4 @@ use Rattle.kahn_hints.proofs.Common.{◌≡◌, [], All, TellsOne}
 use Rattle.kahn_hints.proofs.notes.fault_notes.Given as goal
 
 abbrev pub invariant-loop-fault : goal.invariant-loop-fault
-invariant-loop-fault l = All (TellsOne l.text l.faults) l.notes.items × (l.notes.items ≡ [] → l.fault-index ≡ 0)
+invariant-loop-fault l = All (TellsOne l.text l.faults) l.telling.notes.items × (l.telling.notes.items ≡ [] → l.fault-index ≡ 0)
