@@ -12,6 +12,13 @@ loop-fault-preserved c =
     let has = All-get_or (Contains faults) faults c.loop-fault.fault-index (DeclaredTwice (record { from = 0; to = 0 })) below (All-contains_itself faults) in
     (c.in_ok-tell.ensures.told has c.loop-fault.invariant.0, λ none. absurd (c.in_ok-tell.ensures.some none))
 
+pub returns-then-branch-clause-told : goal.returns-then-branch-clause-told
+returns-then-branch-clause-told c =
+    let faults = c.args.faults.now in
+    let below : c.loop-fault.fault-index < length faults = omega arith in
+    let has = All-get_or (Contains faults) faults c.loop-fault.fault-index (DeclaredTwice (record { from = 0; to = 0 })) below (All-contains_itself faults) in
+    c.in_ok-tell.ensures.told has c.loop-fault.invariant.0
+
 pub returns-clause-told : goal.returns-clause-told
 returns-clause-told c = c.loop-fault.invariant.0
 
