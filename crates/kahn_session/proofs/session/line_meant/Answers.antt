@@ -1,6 +1,6 @@
 use Rattle.kahn_session.proofs.Common.{inr, string_bytes, IsMeantFor, IsNotMeant, Entry, IsEntry, content, IsText}
 use Rattle.kahn_session.proofs.Steps.{unmeant}
-use Rattle.kahn_session.proofs.feeding.line_meant.Goals as goal
+use Rattle.kahn_session.proofs.session.line_meant.Goals as goal
 
 pub returns-in-Ok : goal.returns-in-Ok
 returns-in-Ok c =

@@ -1,5 +1,5 @@
 use Rattle.kahn_session.proofs.Common.{rules, HasNoHead, HasNoValues, content, IsText}
-use Rattle.kahn_session.proofs.feeding.entry_of_line.Goals as goal
+use Rattle.kahn_session.proofs.session.entry_of_line.Goals as goal
 
 pub returns-in-Err-NoHead : goal.returns-in-Err-NoHead
 returns-in-Err-NoHead c =

@@ -1,6 +1,6 @@
 use Rattle.kahn_session.proofs.Common.{string_bytes, Entry, IsEntry, content, IsText}
 use Rattle.kahn_session.proofs.Steps.{one_pace, unpoured}
-use Rattle.kahn_session.proofs.feeding.feed_line.Goals as goal
+use Rattle.kahn_session.proofs.session.feed_line.Goals as goal
 
 pub returns-in-Ok-Some-clause-fed : goal.returns-in-Ok-Some-clause-fed
 returns-in-Ok-Some-clause-fed c =
