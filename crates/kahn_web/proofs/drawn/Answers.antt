@@ -1,6 +1,6 @@
 use Rattle.kahn_web.proofs.Common.{[], string_bytes, subst, IsChecked}
 use Rattle.kahn_graph.specs.Graph.{IsPicture}
-use Rattle.kahn_web.proofs.drawing.drawn.Goals as goal
+use Rattle.kahn_web.proofs.drawn.Goals as goal
 
 pub returns-in-Ok-picture_text : goal.returns-in-Ok-picture_text
 returns-in-Ok-picture_text c =
