@@ -1,6 +1,7 @@
 -- The names of the crates below and of this crate's definitions that proofs cite, passed on from one place.
 pub use Rattle.kahn_code.proofs.Lists.{found_in, kept_none, none_first, one_first, sent_stands, stand_in}
 pub use Rattle.kahn_code.proofs.Queued.{given_zero, set_each, set_here, taken_zero}
+pub use Rattle.kahn_code.proofs.Stand.{eqb_refl}
 pub use Rattle.kahn_code.specs.Cells.{AllStand, AreKeptTokens, StoodBy, View, exec_on, is_streamed, sent_on}
 pub use Rattle.kahn_code.specs.Lines.{AreFirst, AreQueued, Lines, actual_here, given_of, next_at, place_at, queue_of, taken_of, waiting_of}
 pub use Rattle.kahn_code.specs.Progress.{AreCounts, CellView, IsAt, IsPause, Paused, site_of, told_view}

@@ -1,6 +1,7 @@
 -- For each value of the solution there is a least cut in which it stands.
-use Rattle.kahn_needs.proofs.Common.{arith, ◌≡◌, ℕ, zero, suc, ◌≤◌, ◌<◌, ◌==◌, max, Bool, true, false, List, [], ◌∷◌, ◌++◌, length, take, refl, sym, ap, subst, eqb-true, le_of_suc-le-suc, not-suc-le-zero, le_refl, pos, slice_index_or, if◌then◌else◌, length-append, length-take, le-max_left, le-max_right, Value, Line, Channel, Print, Number, Schema, Actual, Reads, Writes, Hands, instance_at, actual_at, Source, Given, Written, Nobody, Histories, Inputs, tape_of, tapes_of, out, source, fed, input_list, iterate, IsExtended, IsPrefix, prefix_refl, prefix_get, feeds, out_grows, sent_stands, stand_in, AllStand, Cut, first_values, held_in, IsCutWithin, IsMadeIn, IsShortest}
-use Rattle.kahn_needs.proofs.Ways.{AllOf, are_tapes, enough, eqb_refl, fewest, needed, taken, taken_left}
+use Rattle.kahn_needs.proofs.Common.{eqb_refl, arith, ◌≡◌, ℕ, zero, suc, ◌≤◌, ◌<◌, ◌==◌, max, Bool, true, false, List, [], ◌∷◌, ◌++◌, length, take, refl, sym, ap, subst, eqb-true, le_of_suc-le-suc, not-suc-le-zero, le_refl, pos, slice_index_or, if◌then◌else◌, length-append, length-take, le-max_left, le-max_right, Value, Line, Channel, Print, Number, Schema, Actual, Reads, Writes, Hands, instance_at, actual_at, Source, Given, Written, Nobody, Histories, Inputs, tape_of, tapes_of, out, source, fed, input_list, iterate, IsExtended, IsPrefix, prefix_refl, prefix_get, feeds, out_grows, sent_stands, stand_in, AllStand, Cut, first_values, held_in, IsCutWithin, IsMadeIn, IsShortest}
+use Rattle.std.proofs.{Common.drop, Math.Nat.max-le, lemmas.List.take-append-drop}
+use Rattle.kahn_needs.proofs.Ways.{AllOf, are_tapes, enough, fewest, needed, taken, taken_left}
 
 -- ---- lists and numbers
 
@@ -16,9 +17,7 @@ take_grows (suc a) (suc b) [] le = ([], refl)
 take_grows (suc a) (suc b) (x ∷ xs) le = let r = take_grows a b xs (le_of_suc-le-suc le) in (r.0, ap (λ l. x ∷ l) r.1)
 
 pub take_below : (a : ℕ) (xs : List Value) → IsPrefix (take a xs) xs
-take_below zero xs = (xs, refl)
-take_below (suc a) [] = ([], refl)
-take_below (suc a) (x ∷ xs) = let r = take_below a xs in (r.0, ap (λ l. x ∷ l) r.1)
+take_below a xs = (drop a xs, sym (take-append-drop a xs))
 
 pub take_length : (a : ℕ) (xs : List Value) → length (take a xs) ≤ a
 take_length a xs = let e = length-take a xs in omega (arith, e)
@@ -49,10 +48,7 @@ join_left : (x y : Cut) → IsCutWithin x (join x y)
 join_left x y = (λ c. le-max_left (x.values c) (y.values c), λ p. le-max_left (x.events p) (y.events p))
 
 join_below : (x y z : Cut) → IsCutWithin x z → IsCutWithin y z → IsCutWithin (join x y) z
-join_below x y z h g = (λ c. both (h.0 c) (g.0 c), λ p. both (h.1 p) (g.1 p))
-  where
-    both : {a b m : ℕ} → a ≤ m → b ≤ m → max a b ≤ m
-    both h g = omega (arith, h, g)
+join_below x y z h g = (λ c. max-le (h.0 c) (g.0 c), λ p. max-le (h.1 p) (g.1 p))
 
 -- ---- what is held
 

@@ -1,5 +1,6 @@
 -- The laws of needs, proved.
 use Rattle.kahn_needs.proofs.Common.{fun_ext, arith, ◌≡◌, ◌⊎◌, inl, inr, ℕ, zero, suc, ◌≤◌, ◌<◌, List, [], ◌∷◌, ◌++◌, length, take, refl, sym, ap, ◌∙◌, subst, le_refl, eq-or-lt_of_le, le_trans, Option, Some, None, slice_get, slice_index_or, get_or_past, take-append-le, slice_get_within, Value, Line, Channel, Schema, idle, instance_at, Given, Written, Histories, Inputs, out, source, iterate, IsPrefix, Stands, AreInputsExtended, AreRight, prefix_refl, prefix_trans, prefix_get, feeds, out_grows, chain, one_value, inputs_grow, stand_in, Cut, first_values, held_in, Suffices, IsCutWithin, AreNeeds, AreInOrder, AreParts, HaveNeeds, AreOneCut, AreEnough, AreExact, IsMadeIn, AreRunsNeeds, AreDone, AreSameNeeds, IsTight, AreTight}
+use Rattle.std.proofs.Math.Nat.{le_antisymm}
 use Rattle.kahn_streams.specs.{declared.answer.End.End, declared.answer.Verdict.Verdict}
 use Rattle.kahn_needs.proofs.{Needing.take_below, Needing.held_all, Needing.held_made, Needing.held_more, Needing.held_stands, Needing.held_within, Needing.Found, Needing.found, Ways.get_there}
 
@@ -43,13 +44,10 @@ have_needs N I c k v s = ((the_needs N I c k v s).cut, needs_of N I c k v s)
 
 -- ---- one cut
 
-both_ways : (a b : ℕ) → a ≤ b → b ≤ a → a ≡ b
-both_ways a b h g = omega (arith, h, g)
-
 same_cut : (x y : Cut) → IsCutWithin x y → IsCutWithin y x → x ≡ y
 same_cut x y h g =
-    let e : x.values ≡ y.values = fun_ext (λ d. both_ways (x.values d) (y.values d) (h.0 d) (g.0 d)) in
-    let f : x.events ≡ y.events = fun_ext (λ p. both_ways (x.events p) (y.events p) (h.1 p) (g.1 p)) in
+    let e : x.values ≡ y.values = fun_ext (λ d. le_antisymm (h.0 d) (g.0 d)) in
+    let f : x.events ≡ y.events = fun_ext (λ p. le_antisymm (h.1 p) (g.1 p)) in
     λ j. record { values = e j; events = f j }
 
 pub one_cut : (N : Schema) (I : Inputs) → AreOneCut N I

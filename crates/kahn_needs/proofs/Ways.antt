@@ -1,5 +1,5 @@
 -- What the process of an instance does, step by step: on tapes whose values stand all its runs go the same way.
-use Rattle.kahn_needs.proofs.Common.{fun_ext, arith, ◌≡◌, ◌⊎◌, inl, inr, ℕ, zero, suc, ◌+◌, ◌≤◌, ◌<◌, ◌==◌, max, Bool, true, false, if◌then◌else◌, List, [], ◌∷◌, ◌++◌, length, refl, sym, ap, ◌∙◌, subst, le_refl, Option, Some, get_or, slice_get, length-append, le-max_left, le-max_right, cases_lt, slice_get_within, slice_get-get_or, Failure, Value, Line, Channel, Port, Tapes, Script, Give, Fail, Waits, ScriptOutcome, Got, Dry, Fault, Reached, play, Store, Schema, Actual, Reads, Writes, Hands, instance_at, actual_at, Histories, Inputs, IsPrefix, Ending, Waiting, ending, exec_at, goes_to, out, tape_of, tapes_of, values_at, Step, Took, Sent, Turned, Follows, here, took, sent, turned, values_taken, sends_of, and_then, since, RanBy, StoppedAt, and_more, counted, exec_alike, one_value, prefix_get, script_at, play_on, ran, found_in, AllStand, StoodBy, View, exec_on, sent_on, IsShortest, values_append}
+use Rattle.kahn_needs.proofs.Common.{eqb_refl, fun_ext, arith, ◌≡◌, ◌⊎◌, inl, inr, ℕ, zero, suc, ◌+◌, ◌≤◌, ◌<◌, ◌==◌, max, Bool, true, false, if◌then◌else◌, List, [], ◌∷◌, ◌++◌, length, refl, sym, ap, ◌∙◌, subst, le_refl, Option, Some, get_or, slice_get, length-append, le-max_left, le-max_right, cases_lt, slice_get_within, slice_get-get_or, Failure, Value, Line, Channel, Port, Tapes, Script, Give, Fail, Waits, ScriptOutcome, Got, Dry, Fault, Reached, play, Store, Schema, Actual, Reads, Writes, Hands, instance_at, actual_at, Histories, Inputs, IsPrefix, Ending, Waiting, ending, exec_at, goes_to, out, tape_of, tapes_of, values_at, Step, Took, Sent, Turned, Follows, here, took, sent, turned, values_taken, sends_of, and_then, since, RanBy, StoppedAt, and_more, counted, exec_alike, one_value, prefix_get, script_at, play_on, ran, found_in, AllStand, StoodBy, View, exec_on, sent_on, IsShortest, values_append}
 use Rattle.kahn_streams.specs.Script.{Cut as Unended}
 use Rattle.kahn_streams.proofs.Fuel.{play_alike}
 
@@ -86,9 +86,6 @@ taken_both (Took q v ∷ a) b r = by (r == q) (taken_both a b r)
     by false h = h
 taken_both (Sent p v ∷ a) b r = taken_both a b r
 taken_both (Turned ∷ a) b r = taken_both a b r
-
-pub eqb_refl : (q : ℕ) → (q == q) ≡ true
-eqb_refl q = grind arith
 
 took_one : (q : ℕ) (v : Value) (a : List Step) → values_taken (Took q v ∷ a) q ≡ v ∷ values_taken a q
 took_one q v a = ap (λ b. if b then v ∷ values_taken a q else values_taken a q) (eqb_refl q)

@@ -11,8 +11,7 @@ IsNetworkLine N (Print p) = p < length N.instances
 
 abbrev pub of_input : Source → ℕ → ℕ
 of_input Given n = n
-of_input (Written p) n = 0
-of_input Nobody n = 0
+of_input s n = 0
 
 -- so many values of each input, and so many events of each instance
 abbrev pub cut_told : Schema → List ℕ → List ℕ → Cut
@@ -22,9 +21,8 @@ cut_told N values events = record { values = λ d. of_input (source N (Channel d
 -- is said.
 abbrev pub AreNeedsFound : Schema → Inputs → Line → ℕ → Found → Type 0
 AreNeedsFound N I c k (found.Needs x) = AreNeeds N I c k x.value (cut_told N x.values.items x.events.items)
-AreNeedsFound N I c k found.Never = (v : Value) → Stands N I c k v → ⊥
-AreNeedsFound N I c k found.Ring = (v : Value) → Stands N I c k v → ⊥
 AreNeedsFound N I c k found.Bound = Unit {0}
+AreNeedsFound N I c k f = (v : Value) → Stands N I c k v → ⊥
 
 -- a search on a line of a network, for an input, that goes on from that place
 pub record Seeking : Type 0 where

@@ -89,12 +89,10 @@ IsPausedAt b p z =
 -- what a turn for the value at place j of line d tells, where that at place k of line c is sought
 abbrev pub IsTurnTold : Seats → Line → ℕ → Line → ℕ → Turn → Type 0
 IsTurnTold b c k d j turn.Sent = HasCome b d j
-IsTurnTold b c k d j turn.Acted = Unit {0}
 IsTurnTold b c k d j (turn.Waits e) =
     IsDemand b c k (Channel e) (taken_of (slice_get b.queues.queues e)) × IsSooner b d j (Channel e) (taken_of (slice_get b.queues.queues e))
 IsTurnTold b c k d j turn.Over = (y : Cut) → HoldsIn b y c k → ⊥
-IsTurnTold b c k d j turn.Bound = Unit {0}
-IsTurnTold b c k d j turn.NoMemory = Unit {0}
+IsTurnTold b c k d j t = Unit {0}
 
 pub record HasSearched (b e : Seats) (c : Line) (k : ℕ) (d : Line) (j : ℕ) (t : Turn) : Type 0 where
   pub same : AreSeatsOf b.network b.input b.watch e
@@ -106,5 +104,4 @@ abbrev pub IsEndOfSearch : Seats → Line → ℕ → Sought → Type 0
 IsEndOfSearch b c k sought.Come = HasCome b c k
 IsEndOfSearch b c k sought.Never = (y : Cut) → HoldsIn b y c k → ⊥
 IsEndOfSearch b c k sought.Ring = (y : Cut) → HoldsIn b y c k → ⊥
-IsEndOfSearch b c k sought.Bound = Unit {0}
-IsEndOfSearch b c k sought.NoMemory = Unit {0}
+IsEndOfSearch b c k s = Unit {0}
