@@ -175,7 +175,7 @@ fn parts_at_random(rt: HostRuntime) -> Result<(), Fail> {
         )?;
         for _ in 0..20u64 {
             number = shuffled(number);
-            let (workers, second) = (below(16, number).saturating_add(1), shuffled(number));
+            let (workers, second) = (below(6, number).saturating_add(1), shuffled(number));
             let quantum = below(9, second).saturating_add(1);
             let config = watching(alloc, watch, workers, quantum, below(40, second))?;
             let mut part = begun(alloc, &network, input, config)?;
