@@ -16,18 +16,14 @@ less : {A B : Type 0} (n : ℕ) (o : ScriptOutcome A) (r : Reached A) (f : A →
 less n (Got a) r f =
     let e : suc n - suc r.events ≡ n - r.events = omega arith in
     rw (e, suc-add) refl
-less n (Dry q) r f = refl
-less n (Fault k) r f = refl
-less n Cut r f = refl
+less n _ r f = refl
 
 less_send : {A B : Type 0} (n : ℕ) (p : Port) (v : Value) (o : ScriptOutcome A) (r : Reached A) (f : A → Script B) →
     after_send p v (go_on n o r f) ≡ go_on (suc n) o (after_send p v r) f
 less_send n p v (Got a) r f =
     let e : suc n - suc r.events ≡ n - r.events = omega arith in
     rw (e, suc-add) refl
-less_send n p v (Dry q) r f = refl
-less_send n p v (Fault k) r f = refl
-less_send n p v Cut r f = refl
+less_send n p v _ r f = refl
 
 graft_wait : {A B : Type 0} (n q : ℕ) (T : Tapes) (vs : List Value) (go : ℕ → Value → Tapes → Reached A) (go' : ℕ → Value → Tapes → Reached B) (f : A → Script B) →
     ((m : ℕ) (v : Value) (U : Tapes) → go' m v U ≡ and_so m (go m v U) f) →
@@ -41,14 +37,11 @@ play_graft : {A B : Type 0} (n : ℕ) (x : Script A) (f : A → Script B) (T : T
 play_graft n (Give a) f T =
     let e : n - 0 ≡ n = omega arith in
     rw (e, zero-add) refl
-play_graft n (Fail k) f T = refl
 play_graft n (Waits q go) f T =
     graft_wait n q T (T q) (λ m v U. play m (go v) U) (λ m v U. play m (graft (go v) f) U) f (λ m v U. play_graft m (go v) f U)
-play_graft zero (Sends p v s) f T = refl
 play_graft (suc n) (Sends p v s) f T = ap (after_send p v) (play_graft n s f T) ∙ less_send n p v _ _ f
-play_graft zero (Turns s) f T = refl
 play_graft (suc n) (Turns s) f T = ap after_event (play_graft n s f T) ∙ less n _ _ f
-play_graft n Rest f T = refl
+play_graft n _ f T = refl
 
 -- it is enough that what goes on is grafted
 value_graft : {A B : Type 0} (e : Expr) (s : Store) (f : Value → Script A) (f' : Value → Script B) (g : A → Script B) →

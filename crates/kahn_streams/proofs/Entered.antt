@@ -91,9 +91,8 @@ pub record AreFilled (t : Program) (done : List Entry) (flags : List Bool) (list
   pub marks : (c : ℕ) → slice_index_or flags c false ≡ is_given t done c
 
 pub none_of : {A : Type 0} (n c : ℕ) (x : A) → slice_index_or (replicate n x) c x ≡ x
-none_of zero c x = refl
-none_of (suc n) zero x = refl
 none_of (suc n) (suc c) x = none_of n c x
+none_of _ _ x = refl
 
 module _ (t : Program) (done : List Entry) (flags : List Bool) (lists : Lists) (x : Entry) (h : AreFilled t done flags lists) where
   marks_more : IsFitHere t (is_given t done (channel_of t x)) x → (c : ℕ) → slice_index_or (set flags (channel_of t x) true) c false ≡ is_given t (done ++ x ∷ []) c

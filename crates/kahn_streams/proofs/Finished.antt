@@ -1,5 +1,6 @@
 -- A quiet network has the whole solution.
 use Rattle.kahn_streams.proofs.Common.{fun_ext, arith, ◌≡◌, ℕ, zero, suc, ◌+◌, ◌≤◌, max, List, ◌∷◌, ◌++◌, refl, sym, ap, ◌∙◌, subst, append-nil, le_refl, le_trans, le_of_suc-le-suc, not-suc-le-zero, suc-le-suc, Some, pos, le-max_left, le-max_right, Value, Line, Channel, Number, Stmt, Tapes, Script, Give, Fail, Waits, Sends, Turns, Rest, ScriptOutcome, Got, Dry, Fault, Cut, Reached, after_event, after_send, put, wait_at, play, Store, exec, script_of, Schema, Node, Hands, instance_at, Source, Given, Written, Nobody, IsWhole, Histories, Inputs, tapes_of, exec_at, out, values_at, goes_to, source, fed, input_list, iterate, IsPrefix, HasEnd, HasSizes, none_left, one_more, Ending, ending, AreInputsExtended, IsExtended, IsSolution, InputsGrow, SendsStand, IsQuiet, IsSettled, IsCounted, IsUnrolled, SaysSoAgain, IsDetermined, []}
+use Rattle.std.proofs.lemmas.Option.{same_Some}
 use Rattle.kahn_streams.specs.declared.value.Line.TheVariants.{Print}
 use Rattle.kahn_streams.proofs.{Fuel.gives, Fuel.play_alike, Fuel.script_alike, Runs.cut_is_full}
 use Rattle.kahn_streams.proofs.Proved.{prefix_refl, prefix_trans, prefix_get, Feeds, feeds, script_at, exec_alike, out_grows, chain, least, solves, iterates_rise, fits_all}
@@ -19,13 +20,11 @@ more_play n m (Give a) T le h = refl
 more_play n m (Fail k) T le h = refl
 more_play n m (Waits q go) T le h =
     more_wait n m q T (T q) (λ i v U. play i (go v) U) le (λ i j v U le' h'. more_play i j (go v) U le' h') h
-more_play zero m (Sends p v s) T le h = absurd (h refl)
 more_play (suc n) zero (Sends p v s) T le h = absurd (not-suc-le-zero le)
 more_play (suc n) (suc m) (Sends p v s) T le h = ap (after_send p v) (more_play n m s T (le_of_suc-le-suc le) h)
-more_play zero m (Turns s) T le h = absurd (h refl)
 more_play (suc n) zero (Turns s) T le h = absurd (not-suc-le-zero le)
 more_play (suc n) (suc m) (Turns s) T le h = ap after_event (more_play n m s T (le_of_suc-le-suc le) h)
-more_play n m Rest T le h = absurd (h refl)
+more_play n m _ T le h = absurd (h refl)
 
 pub more_events : (N : Schema) (n m p : ℕ) (H : Histories) → n ≤ m → ((exec_at N n p H).outcome ≡ Cut → ⊥) →
     exec_at N m p H ≡ exec_at N n p H
@@ -45,19 +44,14 @@ says_so_again b n k s T h = more_exec b s n (n + k) T (omega arith) h
 
 over : {A : Type 0} (o : ScriptOutcome A) (x : Ending) → ending o ≡ Some x → o ≡ Cut → ⊥
 over (Got a) x e f = absurd cc
-over (Dry q) x e f = absurd cc
-over (Fault k) x e f = absurd cc
-over Cut x e f = absurd cc
+over _ x e f = absurd cc
 
 -- ---- prefixes both ways
 
 no_rest : (xs ys zs : List Value) → xs ≡ xs ++ ys ++ zs → ys ≡ []
 no_rest xs [] zs e = refl
 no_rest [] (y ∷ ys) zs e = absurd cc
-no_rest (x ∷ xs) (y ∷ ys) zs e = no_rest xs (y ∷ ys) zs (tail e)
-  where
-    tail : x ∷ xs ≡ x ∷ (xs ++ (y ∷ ys) ++ zs) → xs ≡ xs ++ (y ∷ ys) ++ zs
-    tail f = cc
+no_rest (x ∷ xs) (y ∷ ys) zs e = let tail : xs ≡ xs ++ (y ∷ ys) ++ zs = cc in no_rest xs (y ∷ ys) zs tail
 
 pub prefix_antisym : (xs ys : List Value) → IsPrefix xs ys → IsPrefix ys xs → ys ≡ xs
 prefix_antisym xs ys h g =
@@ -153,14 +147,10 @@ within_wait zero q T (v ∷ vs) go h = omega arith
 within_wait (suc n) q T (v ∷ vs) go h = suc-le-suc (h n v (put T q vs))
 
 within_play : {A : Type 0} (n : ℕ) (s : Script A) (T : Tapes) → (play n s T).events ≤ n
-within_play n (Give a) T = omega arith
-within_play n (Fail k) T = omega arith
 within_play n (Waits q go) T = within_wait n q T (T q) (λ m v U. play m (go v) U) (λ m v U. within_play m (go v) U)
-within_play zero (Sends p v s) T = omega arith
 within_play (suc n) (Sends p v s) T = suc-le-suc (within_play n s T)
-within_play zero (Turns s) T = omega arith
 within_play (suc n) (Turns s) T = suc-le-suc (within_play n s T)
-within_play n Rest T = omega arith
+within_play n _ T = omega arith
 
 pub counted : (N : Schema) (n p : ℕ) (H : Histories) → IsCounted N n p H
 counted N n p H =
@@ -180,15 +170,12 @@ one_whole N I c L M h g =
     (prefix_trans _ _ _ g.0.1 (h.1 g.0.0))
     (prefix_trans _ _ _ h.0.1 (g.1 h.0.0))
 
-same_ending : {o x : Ending} → Some o ≡ Some x → o ≡ x
-same_ending e = cc
-
 one_end : (N : Schema) (I : Inputs) (p e f : ℕ) (o x : Ending) → HasEnd N I p o e → HasEnd N I p x f → (o ≡ x) × (e ≡ f)
 one_end N I p e f o x h g =
     let n = max h.0 g.0 in
     let a = h.1 n (le-max_left h.0 g.0) in
     let b = g.1 n (le-max_right h.0 g.0) in
-    (same_ending (sym a.0 ∙ b.0), sym a.1 ∙ b.1)
+    (same_Some o x (sym a.0 ∙ b.0), sym a.1 ∙ b.1)
 
 one_size : (N : Schema) (I : Inputs) (p : ℕ) (is : List Node) (a b : ℕ) → HasSizes N I p is a → HasSizes N I p is b → a ≡ b
 one_size N I p [] _ _ none_left none_left = refl

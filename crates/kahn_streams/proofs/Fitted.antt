@@ -19,23 +19,18 @@ handed_kind t n kind role h =
 one_taking : (t : Program) (w : Taking) (x : Argument) → Fits t w x → (taking_of (network_of t) (actual_of (channel_names t) w x) ≡ w) × IsListed (network_of t) (actual_of (channel_names t) w x)
 one_taking t (T.Channel In k) (A.Channel n) h = (ap (T.Channel In) (handed_kind t n k h.0 h.1), within (network_of t).channels (number_of (channel_names t) n) (k, h.0) (handed_channel t n k h.0 h.1))
 one_taking t (T.Channel Out k) (A.Channel n) h = (ap (T.Channel Out) (handed_kind t n k h.0 h.1), within (network_of t).channels (number_of (channel_names t) n) (k, h.0) (handed_channel t n k h.0 h.1))
-one_taking t (T.Channel In k) (A.Number z at) h = absurd h
-one_taking t (T.Channel Out k) (A.Number z at) h = absurd h
-one_taking t (T.Channel In k) (A.Logical b at) h = absurd h
-one_taking t (T.Channel Out k) (A.Logical b at) h = absurd h
-one_taking t (T.Value k) (A.Channel n) h = absurd h
 one_taking t (T.Value k) (A.Number z at) h = (ap T.Value (sym h), tt)
 one_taking t (T.Value k) (A.Logical b at) h = (ap T.Value (sym h), tt)
+one_taking t _ _ h = absurd h
 
 all_takings : (t : Program) (ps : List Parameter) (xs : List Argument) → AllFit t ps xs →
     (map (taking_of (network_of t)) (actuals_of (channel_names t) ps xs) ≡ map (λ q. q.taking) ps) × AllByRecursion (IsListed (network_of t)) (actuals_of (channel_names t) ps xs)
 all_takings t [] [] h = (refl, tt)
-all_takings t [] (x ∷ xs) h = absurd h
-all_takings t (p ∷ ps) [] h = absurd h
 all_takings t (p ∷ ps) (x ∷ xs) h =
     let one = one_taking t p.taking x h.0 in
     let rest = all_takings t ps xs h.1 in
     ((λ j. one.0 j ∷ rest.0 j), (one.1, rest.1))
+all_takings t _ _ h = absurd h
 
 -- the scope of a process, split
 scope_takings : (ps : List Parameter) (vs : List Variable) →

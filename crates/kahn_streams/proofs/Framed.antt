@@ -37,15 +37,11 @@ frame_wait (suc n) q T U (v ∷ vs) go step h = rw (put_more T U q vs) (ap after
 -- the same on longer tapes
 pub frame_play : {A : Type 0} (n : ℕ) (s : Script A) (T U : Tapes) → Stays U (play n s T).outcome →
     play n s (and_more T U) ≡ widened U (play n s T)
-frame_play n (Give a) T U h = refl
-frame_play n (Fail k) T U h = refl
 frame_play n (Waits q go) T U h =
     frame_wait n q T U (T q) (λ m v T'. play m (go v) T') (λ m v T' h'. frame_play m (go v) T' U h') h
-frame_play zero (Sends p v s) T U h = refl
 frame_play (suc n) (Sends p v s) T U h = ap (after_send p v) (frame_play n s T U h)
-frame_play zero (Turns s) T U h = refl
 frame_play (suc n) (Turns s) T U h = ap after_event (frame_play n s T U h)
-frame_play n Rest T U h = refl
+frame_play n _ T U h = refl
 
 -- dry, with no event left, on a tape that is longer: cut
 
@@ -57,9 +53,7 @@ dry_now (suc n) q T U (u ∷ us) go h e = absurd (omega (arith, e))
 
 dry_index : {A : Type 0} → ScriptOutcome A → ℕ → ℕ
 dry_index (Dry q) r = q
-dry_index (Got a) r = r
-dry_index (Fault k) r = r
-dry_index Cut r = r
+dry_index _ r = r
 
 same_dry : {A : Type 0} {q r : ℕ} → ◌≡◌ {A = ScriptOutcome A} (Dry q) (Dry r) → q ≡ r
 unfolding dry_index
@@ -80,12 +74,10 @@ dry_play n (Give a) T U r longer e f = absurd cc
 dry_play n (Fail k) T U r longer e f = absurd cc
 dry_play n (Waits q go) T U r longer e f =
     dry_wait n q r T U (T q) (λ m v T'. play m (go v) T') (λ m v T' e' f'. dry_play m (go v) T' U r longer e' f') longer e f
-dry_play zero (Sends p v s) T U r longer e f = refl
 dry_play (suc n) (Sends p v s) T U r longer e f =
     ap (after_send p v) (dry_play n s T U r longer e (omega (arith, f)))
-dry_play zero (Turns s) T U r longer e f = refl
 dry_play (suc n) (Turns s) T U r longer e f = ap after_event (dry_play n s T U r longer e (omega (arith, f)))
-dry_play n Rest T U r longer e f = refl
+dry_play n _ T U r longer e f = refl
 
 -- in every case, and with more events, what is sent begins with what was sent
 
@@ -109,15 +101,11 @@ grows_wait (suc n) (suc m) q T U (v ∷ vs) go le step =
 
 pub grows_play : {A : Type 0} (n m : ℕ) (s : Script A) (T U : Tapes) → n ≤ m →
     Begins (play n s T).sent (play m s (and_more T U)).sent
-grows_play n m (Give a) T U le = begins_nil _
-grows_play n m (Fail k) T U le = begins_nil _
 grows_play n m (Waits q go) T U le =
     grows_wait n m q T U (T q) (λ i v T'. play i (go v) T') le (λ i j v T' le'. grows_play i j (go v) T' U le')
-grows_play zero m (Sends p v s) T U le = begins_nil _
 grows_play (suc n) zero (Sends p v s) T U le = absurd (not-suc-le-zero le)
 grows_play (suc n) (suc m) (Sends p v s) T U le =
     begins_cons (p, v) _ _ (grows_play n m s T U (le_of_suc-le-suc le))
-grows_play zero m (Turns s) T U le = begins_nil _
 grows_play (suc n) zero (Turns s) T U le = absurd (not-suc-le-zero le)
 grows_play (suc n) (suc m) (Turns s) T U le = grows_play n m s T U (le_of_suc-le-suc le)
-grows_play n m Rest T U le = begins_nil _
+grows_play n m _ T U le = begins_nil _

@@ -35,16 +35,7 @@ play_alike fails T = refl
 play_alike (waits_last {q = q} {f = f} {g = g}) T =
     alike_wait zero q T (T q) (λ m v T'. play m (f v) T') (λ m v T'. play m (g v) T') (λ m v T' e. absurd (omega (arith, e)))
 play_alike (waits {n = n} {q = q} {f = f} {g = g} h) T =
-    alike_wait
-    (suc n)
-    q
-    T
-    (T q)
-    (λ m v T'. play m (f v) T')
-    (λ m v T'. play m (g v) T')
-    (λ m v T' e.
-    let e' : m ≡ n = omega (arith, e) in
-    rw e' (play_alike (h v) T'))
+    alike_wait (suc n) q T (T q) (λ m v T'. play m (f v) T') (λ m v T'. play m (g v) T') (λ m v T' e. let e' : m ≡ n = omega (arith, e) in rw e' (play_alike (h v) T'))
 play_alike sends_last T = refl
 play_alike (sends {p = p} {v = v} h) T = ap (after_send p v) (play_alike h T)
 play_alike turns_last T = refl

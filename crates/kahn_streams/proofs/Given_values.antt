@@ -14,7 +14,4 @@ stands_given t lists c k v is at =
 pub no_channel : {A : Type 0} (N : Schema) (c : ℕ) → length N.channels ≤ c → role_at N c ≡ Input → A
 no_channel N c past is =
     let inner : role_at N c ≡ Inner = ap (λ r. r.1) (get_or_past N.channels c (KindOf.Integer, Inner) past) in
-    absurd (apart (sym inner ∙ is))
-  where
-    apart : Inner ≡ Input → ⊥
-    apart e = cc
+    absurd (let apart : Inner ≡ Input = sym inner ∙ is in cc)

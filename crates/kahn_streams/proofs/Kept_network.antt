@@ -1,6 +1,7 @@
 -- What the tables of a network say of it.
 use Rattle.kahn_streams.proofs.Common.{◌≡◌, ℕ, ◌<◌, List, map, length, Option, None, Some, refl, ap, sym, ◌∙◌, subst, string_bytes, length-map, get_or_from_slice_get, Name, Kind, Role, Process, Declaration, Program, bytes_of, IsMadeOf, network_of, instance_at, instance_from, process_of, idle, IsOnly, IsWriter, IsReader, source_of, channel_names, the_process as the_declared, shown, channel_line, lines_of, first, process_at, IsKept, declared_channels, writers, readers, IsMade, IsWellWired}
 use Rattle.std.specs.Prelude.{slice_get, slice_index_or}
+use Rattle.std.proofs.lemmas.Option.{same_Some}
 use Rattle.kahn_streams.specs.{Types.Argument, Types.Instance, Wires.Line, declared.wires.Wire.Wire, inner.Sources.IsWire}
 use Rattle.kahn_streams.specs.declared.tree.Declaration.TheVariants as D
 use Rattle.kahn_streams.specs.Network as N
@@ -34,10 +35,7 @@ wire_at t ws h lines c w lt at =
     let shown_there = mapped shown ws c w is in
     let line_there = mapped (channel_line t) (declared_channels t.declarations.items) c d.0 d.1 in
     let alike : Some (shown w) ≡ Some (channel_line t d.0) = sym shown_there ∙ ap (λ z. slice_get z c) lines ∙ line_there in
-    one_wire t h c d.0 d.1 w (unsome alike)
-  where
-    unsome : {a b : Line} → Some a ≡ Some b → a ≡ b
-    unsome i = cc
+    one_wire t h c d.0 d.1 w (same_Some _ _ alike)
 
 -- the instance of a number
 instance_made : (t : Program) (p : ℕ) (x : Instance) (o : Option Process) → slice_get t.instances.items p ≡ Some x → process_of t.declarations.items (bytes_of x.process) ≡ o →
@@ -48,9 +46,8 @@ instance_made t p x o is h =
     ∙ ap (λ z. instance_from (channel_names t) z x.arguments.items) h
 
 process_there : (o : Option Declaration) (q : Process) → the_declared o ≡ Some q → o ≡ Some (D.Process q)
-process_there None q h = cc
-process_there (Some (D.Channels kind role names)) q h = cc
 process_there (Some (D.Process p)) q h = let same : p ≡ q = cc in ap (λ z. Some (D.Process z)) same
+process_there _ q h = cc
 
 -- the number of instances
 instance_count : (t : Program) → length (network_of t).instances ≡ length t.instances.items
@@ -76,19 +73,16 @@ declared_number t s ws ns h same p k lt at =
     sym (mapped (process_at ds) ns p k number) ∙ ap (λ z. slice_get z p) h.numbers ∙ mapped (λ (i : Instance). process_of ds (bytes_of i.process)) xs p x.0 x.1 in
     let made = all_at (IsMade t) xs p x.0 h.wired.instances x.1 in
     let named = the_process (bytes_of x.0.process) made.0 ds made.1 in
-    let declared = process_there (slice_get ds k) made.0 (unsome alike ∙ named) in
+    let declared = process_there (slice_get ds k) made.0 (same_Some _ _ alike ∙ named) in
     let inside = within ds k (D.Process made.0) declared in (
       inside,
       (λ d is.
           record {
             process = made.0;
-            is = unsome (sym (at_index ds k d inside is) ∙ declared);
-            made = λ y now. (y, at_index xs p y below now, ap (λ (z : Instance). process_of ds (bytes_of z.process)) (unsome (sym (at_index xs p y below now) ∙ x.1)) ∙ named, refl);
+            is = same_Some _ _ (sym (at_index ds k d inside is) ∙ declared);
+            made = λ y now. (y, at_index xs p y below now, ap (λ (z : Instance). process_of ds (bytes_of z.process)) (same_Some _ _ (sym (at_index xs p y below now) ∙ x.1)) ∙ named, refl);
           }),
     )
-  where
-    unsome : {A : Type 0} {a b : A} → Some a ≡ Some b → a ≡ b
-    unsome i = cc
 
 -- what the network says of such an instance
 pub instance_kept : (t : Program) (p : ℕ) (q : Process) (xs : List Argument) → IsMadeOf t p q xs → instance_at (network_of t) p ≡ instance_from (channel_names t) (Some q) xs

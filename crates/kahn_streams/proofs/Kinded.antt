@@ -33,18 +33,16 @@ held (T.Value j) k v e h =
 
 read_kept : (w : List Taking) (s : Store) (x : ℕ) (k : Kind) → IsStored w s → slice_get w x ≡ Some (T.Value k) → kind_of_value (read s x) ≡ k
 read_kept [] [] x k h e = cc
-read_kept [] (v ∷ vs) x k h e = absurd h
-read_kept (t ∷ ts) [] x k h e = absurd h
 read_kept (t ∷ ts) (v ∷ vs) zero k h e = holds t k v h.0 e
 read_kept (t ∷ ts) (v ∷ vs) (suc x) k h e = read_kept ts vs x k h.1 e
+read_kept _ _ x k h e = absurd h
 
 set_kept : (w : List Taking) (s : Store) (x : ℕ) (k : Kind) (u : Value) → IsStored w s → slice_get w x ≡ Some (T.Value k) → kind_of_value u ≡ k →
     IsStored w (slice_set s x u)
 set_kept [] [] x k u h e i = tt
-set_kept [] (v ∷ vs) x k u h e i = absurd h
-set_kept (t ∷ ts) [] x k u h e i = absurd h
 set_kept (t ∷ ts) (v ∷ vs) zero k u h e i = (held t k u e i, h.1)
 set_kept (t ∷ ts) (v ∷ vs) (suc x) k u h e i = (h.0, set_kept ts vs x k u h.1 e i)
+set_kept _ _ x k u h e i = absurd h
 
 -- ---- operators
 
@@ -65,19 +63,12 @@ unless_zero true z = tt
 unless_zero false z = ranged_kept z
 
 apply_kept : (o : Operator) (v u : Value) → GivesKind (gives o) (apply o v u)
-apply_kept Or v u = refl
-apply_kept And v u = refl
-apply_kept Equal v u = refl
-apply_kept Unequal v u = refl
-apply_kept Less v u = refl
-apply_kept AtMost v u = refl
-apply_kept Greater v u = refl
-apply_kept AtLeast v u = refl
 apply_kept Add v u = ranged_kept (number v +ℤ number u)
 apply_kept Subtract v u = ranged_kept (number v -ℤ number u)
 apply_kept Multiply v u = ranged_kept (number v *ℤ number u)
 apply_kept Divide v u = unless_zero (is_zero (number u)) (int_div (number v) (number u))
 apply_kept Remainder v u = unless_zero (is_zero (number u)) (int_rem (number v) (number u))
+apply_kept _ v u = refl
 
 -- ---- scripts
 
@@ -182,12 +173,8 @@ wait_kept w (suc n) q U (v ∷ vs) go h i step = step n v (put U q vs) i.0 (λ r
 -- all that is sent has the kind of the parameter it is sent to
 pub play_kept : {A : Type 0} (w : List Taking) (n : ℕ) (s : Script A) (U : Tapes) → IsKept (Unit {0}) w s → AreTapesKept w U →
     AllByRecursion (IsSent w) (play n s U).sent
-play_kept w n (Give a) U h i = tt
-play_kept w n (Fail k) U h i = tt
 play_kept w n (Waits q go) U h i =
     wait_kept w n q U (U q) (λ m v V. play m (go v) V) i (i q) (λ m v V e j. play_kept w m (go v) V (h.1 v (λ y. e)) j)
-play_kept w zero (Sends p v s) U h i = tt
 play_kept w (suc n) (Sends p v s) U h i = (h.0 tt, play_kept w n s U h.1 i)
-play_kept w zero (Turns s) U h i = tt
 play_kept w (suc n) (Turns s) U h i = play_kept w n s U h i
-play_kept w n Rest U h i = tt
+play_kept w n _ U h i = tt

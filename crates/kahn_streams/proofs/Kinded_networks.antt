@@ -20,9 +20,8 @@ variables_kept [] = tt
 variables_kept (k ∷ ks) = (default_kept k, variables_kept ks)
 
 actual_kept : (N : Schema) (a : Actual) → HoldsKind (taking_of N a) (opening_of a)
-actual_kept N (Reads c) = tt
-actual_kept N (Writes c) = tt
 actual_kept N (Hands v) = constant_kept v
+actual_kept N _ = tt
 
 opening_kept : (N : Schema) (xs : List Actual) (ks : List Kind) → IsStored (map (taking_of N) xs ++ map (λ k. T.Value k) ks) (map opening_of xs ++ map default_of ks)
 opening_kept N [] ks = variables_kept ks
@@ -36,8 +35,7 @@ tape_kept : (N : Schema) (H : Histories) (a : Actual) → AreKinded N H →
 tape_kept N H (Reads c) g =
     all_from (λ v. kind_of_value v ≡ kind_at N c) (λ v. Some (T.Channel In (kind_at N c)) ≡ Some (T.Channel In (kind_of_value v)))
     (λ v e. ap (λ z. Some (T.Channel In z)) (sym e)) (H (Channel c)) (g c)
-tape_kept N H (Writes c) g = tt
-tape_kept N H (Hands v) g = tt
+tape_kept N H _ g = tt
 
 tapes_kept : (N : Schema) (H : Histories) (xs : List Actual) (ks : List Kind) → AreKinded N H → (q : ℕ) →
     AllByRecursion (IsTaken (map (taking_of N) xs ++ map (λ k. T.Value k) ks) q) (tape_of H (slice_index_or xs q (Hands (Number (pos 0)))))
@@ -51,9 +49,8 @@ same_sent : (d : Direction) (k j : Kind) → Some (T.Channel d k) ≡ Some (T.Ch
 same_sent d k j e = cc
 
 written_kept : (N : Schema) (a : Actual) (c : ℕ) (j : Kind) → Some (taking_of N a) ≡ Some (T.Channel Out j) → is_written a c ≡ true → j ≡ kind_at N c
-written_kept N (Reads d) c j e i = cc
 written_kept N (Writes d) c j e i = sym (same_sent Out (kind_at N d) j e) ∙ ap (kind_at N) (eqb-true d c i)
-written_kept N (Hands v) c j e i = cc
+written_kept N _ c j e i = cc
 
 sends_kept : (N : Schema) (xs : List Actual) (ks : List Kind) (q c : ℕ) (j : Kind) → slice_get (map (taking_of N) xs ++ map (λ k. T.Value k) ks) q ≡ Some (T.Channel Out j) →
     is_written (slice_index_or xs q (Hands (Number (pos 0)))) c ≡ true → j ≡ kind_at N c

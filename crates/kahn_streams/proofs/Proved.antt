@@ -5,9 +5,6 @@ use Rattle.kahn_streams.proofs.Fuel.{Alike, gives, script_alike, play_alike}
 
 -- ---- prefixes
 
-tail_same : {x y : Value} {xs ys : List Value} → x ∷ xs ≡ y ∷ ys → xs ≡ ys
-tail_same e = cc
-
 pub some_same : {v w : Value} → Some v ≡ Some w → v ≡ w
 some_same e = cc
 
@@ -187,7 +184,7 @@ least N I T s (suc n) c = least_by N I T s n (λ d. least N I T s n d) c (source
 
 no_more : (xs zs : List Value) → xs ≡ xs ++ zs → zs ≡ []
 no_more [] zs e = sym e
-no_more (x ∷ xs) zs e = no_more xs zs (tail_same e)
+no_more (x ∷ xs) zs e = let same : xs ≡ xs ++ zs = cc in no_more xs zs same
 
 same_reached : {A : Type 0} (U : Tapes) (a b : Reached A) → a ≡ widened U b → AreSame a b
 same_reached U a b e = (ap (λ r. r.outcome) e, ap (λ r. r.events) e, ap (λ r. r.sent) e)
@@ -199,9 +196,7 @@ cut_reached U n a b e f = (ap (λ r. r.outcome) e, ap (λ r. r.events) e ∙ f, 
 stays_of : {A : Type 0} (i : Node) (H G : Histories) (h : Feeds i H G) (o : ScriptOutcome A) →
     KeepsTape i H G o → Stays (more_of i H G h) o
 stays_of i H G h (Dry q) k = no_more (tapes_of i H q) (h q).0 (sym k ∙ (h q).1)
-stays_of i H G h (Got a) k = tt
-stays_of i H G h (Fault f) k = tt
-stays_of i H G h Cut k = tt
+stays_of i H G h _ k = tt
 
 pub frame : (N : Schema) → Frame N
 frame N n p H G x =

@@ -41,11 +41,7 @@ play_on (turned h) n T = ap after_event (play_on h n T)
 
 pub play_zero : {A : Type 0} (s : Script A) → play 0 s empty ≡ at_once (halted s) empty
 play_zero (Give a) = refl
-play_zero (Fail k) = refl
-play_zero (Waits q go) = refl
-play_zero (Sends p v s) = refl
-play_zero (Turns s) = refl
-play_zero Rest = refl
+play_zero _ = refl
 
 and_then_zero : (steps : List Step) → and_then steps 0 ≡ length steps
 and_then_zero [] = refl
@@ -107,18 +103,14 @@ ran n (Give a) T =
 ran n (Fail k) T =
     record { steps = []; to = Fail k; follows = here; tapes = λ r. refl; events = refl; sent = refl; stopped = refl }
 ran n (Waits q go) T = ran_wait n q T go (T q) refl (λ m v T'. ran m (go v) T')
-ran zero (Sends p v s) T =
-    record { steps = []; to = Sends p v s; follows = here; tapes = λ r. refl; events = refl; sent = refl; stopped = λ r f g. absurd cc }
 ran (suc n) (Sends p v s) T =
     let r = ran n s T in
     record { steps = Sent p v ∷ r.steps; to = r.to; follows = sent r.follows; tapes = r.tapes; events = ap suc r.events; sent = ap (λ l. (p, v) ∷ l) r.sent; stopped = r.stopped }
-ran zero (Turns s) T =
-    record { steps = []; to = Turns s; follows = here; tapes = λ r. refl; events = refl; sent = refl; stopped = λ r f g. absurd cc }
 ran (suc n) (Turns s) T =
     let r = ran n s T in
     record { steps = Turned ∷ r.steps; to = r.to; follows = turned r.follows; tapes = r.tapes; events = ap suc r.events; sent = r.sent; stopped = r.stopped }
-ran n Rest T =
-    record { steps = []; to = Rest; follows = here; tapes = λ r. refl; events = refl; sent = refl; stopped = λ r f g. absurd cc }
+ran n s T =
+    record { steps = []; to = s; follows = here; tapes = λ r. refl; events = refl; sent = refl; stopped = λ r f g. absurd cc }
 
 -- ---- cut means that all events were done
 

@@ -122,9 +122,8 @@ pub line_role : (t : Program) (c : ℕ) (e : Name × (Kind × Role)) → slice_g
 line_role t c e at = ap (λ (z : Kind × Role). z.1) (get_or_from_slice_get (network_of t).channels c e.1 (K.Integer, Inner) (lined_at t c e at))
 
 come_from : (t : Program) (n : Name) (kind : Kind) (role : Role) → IsWired t (n, (kind, role)) → source_by role (first_source (writers t (bytes_of n))) ≡ source_of (first (writers t (bytes_of n)))
-come_from t n kind Inner h = ap first_source h.0.1 ∙ sym (ap (λ z. source_of (first z)) h.0.1)
 come_from t n kind Input h = sym (ap (λ z. source_of (first z)) h.0)
-come_from t n kind Output h = ap first_source h.0.1 ∙ sym (ap (λ z. source_of (first z)) h.0.1)
+come_from t n kind _ h = ap first_source h.0.1 ∙ sym (ap (λ z. source_of (first z)) h.0.1)
 
 pub sourced : (t : Program) → IsWellWired t → (c : ℕ) (e : Name × (Kind × Role)) → slice_get (declared_channels t.declarations.items) c ≡ Some e →
     channel_source (network_of t) c ≡ source_of (first (writers t (bytes_of e.0)))

@@ -21,9 +21,8 @@ pub without_rest : (w : Inside) → IsCanonical w → IsCanonical (record { numb
 without_rest w h = whole (word_value w) w h
 
 few : (v : Value) → (word_of v).mark < 256
-few (Integer z) = omega arith
 few (Logical true) = omega arith
-few (Logical false) = omega arith
+few _ = omega arith
 
 pub few_marks : (w : Inside) → IsCanonical w → w.mark < 256
 few_marks w h = subst (λ x. x.mark < 256) h (few (word_value w))

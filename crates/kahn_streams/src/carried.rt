@@ -74,6 +74,7 @@ impl Carried {
     }
 
     /// Returns the token. The lane knows its line and its place.
+    #[tactic(auto, using(crate::proofs::Token_lists::token_same))]
     pub fn token(&self, line: Line, place: u64) -> Token
         requires { (self.now.line ≡ line) × (self.now.place ≡ place) }
         ensures { result ≡ self.now }

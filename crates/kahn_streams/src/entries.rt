@@ -1,7 +1,7 @@
 //! The entries from which an input is made: names of channels, each with its values.
 
 ghost use Rattle.std.specs.Prelude.{◌≡◌, ◌↔◌, IsTrue, MatchOption, MatchResult, length};
-ghost use Rattle.kahn_streams.specs.{Network.network_of, Inputs.IsNameOf, Inputs.IsNoName, Inputs.AreOfKind, inner.Marked.IsRefusedAt, inner.Marked.IsTakenAt};
+ghost use Rattle.kahn_streams.specs.{Network.network_of, Inputs.IsNameOf, Inputs.IsNoName, Inputs.AreOfKind, declared.entries.InputFault.TheVariants.NoMemory, inner.Marked.IsRefusedAt, inner.Marked.IsTakenAt};
 
 use crate::memory::NoMemory;
 use crate::network::Network;
@@ -38,9 +38,6 @@ pub enum InputFault {
 }
 
 impl From<AllocError> for InputFault {
-    ghost use Rattle.std.specs.Prelude.{◌≡◌};
-    ghost use Rattle.kahn_streams.specs.declared.entries.InputFault.TheVariants.{NoMemory};
-
     ghost from_gives = { λ _ e. e ≡ NoMemory };
 
     fn from(_error: AllocError) -> InputFault {
@@ -49,9 +46,6 @@ impl From<AllocError> for InputFault {
 }
 
 impl From<NoMemory> for InputFault {
-    ghost use Rattle.std.specs.Prelude.{◌≡◌};
-    ghost use Rattle.kahn_streams.specs.declared.entries.InputFault.TheVariants.{NoMemory};
-
     ghost from_gives = { λ _ e. e ≡ NoMemory };
 
     fn from(_error: NoMemory) -> InputFault {

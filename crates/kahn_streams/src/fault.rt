@@ -1,5 +1,8 @@
 //! What can be wrong with a program, and why a run is refused.
 
+ghost use Rattle.std.specs.Prelude.{◌≡◌};
+ghost use Rattle.kahn_streams.specs.declared.fault.{CheckFault.TheVariants.NoMemory, RunFault.TheVariants.NoMemory as Wants};
+
 use crate::memory::NoMemory;
 use crate::span::Span;
 use std::alloc::{AllocError, AllocFailed};
@@ -50,9 +53,6 @@ pub enum CheckFault {
 }
 
 impl From<AllocError> for CheckFault {
-    ghost use Rattle.std.specs.Prelude.{◌≡◌};
-    ghost use Rattle.kahn_streams.specs.declared.fault.CheckFault.TheVariants.{NoMemory};
-
     ghost from_gives = { λ _ e. e ≡ NoMemory };
 
     fn from(_error: AllocError) -> Self {
@@ -61,9 +61,6 @@ impl From<AllocError> for CheckFault {
 }
 
 impl<T: Drop> From<AllocFailed<T>> for CheckFault {
-    ghost use Rattle.std.specs.Prelude.{◌≡◌};
-    ghost use Rattle.kahn_streams.specs.declared.fault.CheckFault.TheVariants.{NoMemory};
-
     ghost from_gives = { λ _ e. e ≡ NoMemory };
 
     fn from(_error: AllocFailed<T>) -> Self {
@@ -92,9 +89,6 @@ pub enum RunFault {
 }
 
 impl From<NoMemory> for RunFault {
-    ghost use Rattle.std.specs.Prelude.{◌≡◌};
-    ghost use Rattle.kahn_streams.specs.declared.fault.RunFault.TheVariants.{NoMemory as Wants};
-
     ghost from_gives = { λ _ e. e ≡ Wants };
 
     fn from(_error: NoMemory) -> RunFault {

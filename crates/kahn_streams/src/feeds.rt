@@ -1,7 +1,7 @@
 //! Values that are appended to an input.
 
-ghost use Rattle.std.specs.Prelude.{MatchResult};
-ghost use Rattle.kahn_streams.specs.Feeds.{IsMeantFor, IsNotMeant};
+ghost use Rattle.std.specs.Prelude.{◌≡◌, MatchResult};
+ghost use Rattle.kahn_streams.specs.{Feeds.IsMeantFor, Feeds.IsNotMeant, declared.feeds.FeedFault.TheVariants.NoMemory};
 
 use crate::entries::{are_of_kind, channel_named};
 use crate::memory::NoMemory;
@@ -31,9 +31,6 @@ pub enum FeedFault {
 }
 
 impl From<NoMemory> for FeedFault {
-    ghost use Rattle.std.specs.Prelude.{◌≡◌};
-    ghost use Rattle.kahn_streams.specs.declared.feeds.FeedFault.TheVariants.{NoMemory};
-
     ghost from_gives = { λ _ e. e ≡ NoMemory };
 
     fn from(_error: NoMemory) -> FeedFault {

@@ -47,6 +47,7 @@ impl Input {
 
     /// Makes an input of entries, each of which names an input channel and has its values; a channel that no entry names has
     /// the empty list. Refuses the first entry that is wrong, by its place from 1. Fails with `NoMemory` if memory was refused.
+    #[tactic(auto, using(crate::proofs::Entered::or_memory))]
     pub fn new(
         alloc: Global,
         network: &Network,
@@ -105,6 +106,7 @@ impl Input {
     }
 
     // Appends values to the list of a channel.
+    #[tactic(auto, using(crate::proofs::Fed::item_kept, std::proofs::lemmas::Result::err_from_is_err_and, crate::proofs::Fed::item_fed, crate::proofs::Few::same_few))]
     fn append(&mut self, channel: usize, values: Vec<Value>) -> Result<(), NoMemory>
         requires here { channel < length self.old }
         requires few { length (inputs_of self.old channel) + length values.items ≤ most_values }

@@ -55,6 +55,7 @@ pub fn grows()
 {}
 
 /// With just the events done and the values taken, all is taken and the same is sent.
+#[tactic(auto, using(crate::proofs::Runs::play_taken))]
 pub fn replays()
     ensures { (s s' : Script Store) (steps : List Step) → Follows s steps s' → Replays s steps s' }
 {}
@@ -105,6 +106,7 @@ pub fn dry_reads()
 {}
 
 /// The definitions at work on small networks.
+#[tactic(auto, using(crate::proofs::Computed::alternating_holds, crate::proofs::Computed::counting_holds, crate::proofs::Computed::doubling_holds, crate::proofs::Computed::limited_sample_holds, crate::proofs::Computed::overflowing_holds, crate::proofs::Computed::own_channel_holds, crate::proofs::Computed::ring_holds, crate::proofs::Computed::silent_holds))]
 pub fn examples()
     ensures counting { Counting }
     ensures doubling { Doubling }

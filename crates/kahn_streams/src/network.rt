@@ -77,6 +77,7 @@ impl Network {
     }
 
     /// Returns the number of channels.
+    #[tactic(auto, using(crate::proofs::Kept_network::wire_count))]
     pub fn channels(&self) -> usize
         ensures { result ≡ length (network_of self.now).channels }
     {
@@ -91,6 +92,7 @@ impl Network {
     }
 
     /// Returns the wire of the channel with that number.
+    #[tactic(auto, using(crate::proofs::Kept_network::wire_count))]
     fn wire(&self, channel: usize) -> &Wire
         requires { channel < length (network_of self.now).channels }
         ensures { IsWire self.now channel result.now }
@@ -131,6 +133,7 @@ impl Network {
     }
 
     /// Returns the instance with that number, counted from 0 in text order.
+    #[tactic(auto, using(crate::proofs::Kept_network::declared_number, crate::proofs::By_number::at_index))]
     pub fn instance(&self, instance: usize) -> NetworkInstance<'_>
         requires { instance < length (network_of self.now).instances }
         ensures number { process_at self.now.declarations.items result.declaration ≡ Some result.process.now }

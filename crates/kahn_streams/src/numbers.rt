@@ -40,6 +40,7 @@ impl<'p, A: Allocator> Model for Numbered<'p, A> {
 }
 
 // Notes the number of a name, unless it has one.
+#[tactic(auto, using(crate::proofs::Noted::noted_new, std::proofs::lemmas::Map::Text::btree_map_updates_text, std::proofs::lemmas::Map::Text::text_keys))]
 fn note<A: Allocator + Clone>(
     numbers: &mut NumberTable<A>,
     name: &Name,
@@ -73,6 +74,7 @@ impl<'p, A: Allocator + Clone> Numbered<'p, A> {
 
 impl<'p, A: Allocator> Numbered<'p, A> {
     /// Returns the number of a name: parameters first, then variables, from 0; one past the last if the process doesn't have it.
+    #[tactic(auto, using(std::proofs::lemmas::Map::Text::text_keys, crate::proofs::Noted::names_count))]
     pub fn number(&self, name: &Name) -> usize
         ensures { result ≡ number_of (names_of self.now) name.now }
     {

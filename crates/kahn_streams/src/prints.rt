@@ -35,6 +35,7 @@ fn prints(statement: &Statement) -> bool
 }
 
 /// Whether a process prints anywhere, reached or not.
+#[tactic(auto, using(crate::proofs::Printing::body_prints))]
 pub fn process_prints(process: &Process) -> bool
     ensures { result ≡ process_prints process.now }
 {

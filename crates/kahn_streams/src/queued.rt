@@ -66,6 +66,7 @@ impl Queued {
     }
 
     /// Returns the token. The queue knows its line and its place.
+    #[tactic(auto, using(crate::proofs::Token_lists::token_same))]
     pub fn token(&self, line: Line, place: u64) -> Token
         requires { (self.now.line ≡ line) × (self.now.place ≡ place) }
         ensures { result ≡ self.now }

@@ -28,6 +28,7 @@ impl Span {
 }
 
 /// Returns where the last line of a text begins.
+#[tactic(auto, using(std::proofs::lemmas::List::Sums::suffix_len_is))]
 fn line_start(text: &[u8]) -> usize
     ensures within { result ≤ length text.now }
     ensures line { length text.now - result ≡ suffix_len (λ b. not (b == 10)) text.now }

@@ -87,6 +87,7 @@ impl Token {
     }
 
     /// Returns a copy of the token. Never allocates.
+    #[tactic(auto, using(crate::proofs::Token_lists::token_same))]
     pub fn again(&self) -> Token
         ensures here { (result.line ≡ self.now.line) × (result.place ≡ self.now.place) × (result.value ≡ self.now.value) }
         ensures names { (result.network.value ≡ self.now.network.value) × (result.input.value ≡ self.now.input.value) }

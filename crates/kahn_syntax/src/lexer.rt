@@ -93,6 +93,7 @@ fn item_at(text: &str, from: usize) -> Result<Item, SyntaxFault>
 /// Splits a text into its lexemes, in order.
 ///
 /// A text of more than 1,048,576 bytes is refused before all else, and then the first fault in the text.
+#[tactic(auto, using(crate::proofs::Lexing::blank_next, crate::proofs::Lexing::comment_next, crate::proofs::Lexing::lexeme_next, crate::proofs::NoList::fault_inside, crate::proofs::NoList::no_list, std::proofs::lemmas::Result::err_from_is_err_and))]
 pub fn lex(alloc: Global, text: &str) -> Result<Vec<Lexeme>, SyntaxFault>
     ensures lexed { IfOk result (λ v. (length text.now ≤ most_bytes) × Lexed text.now 0 (length text.now) v.items) }
     ensures slices { IfOk result (λ v. All (IsSlice text.now) v.items) }

@@ -16,6 +16,3 @@ pub use lexeme::{Class, Keyword, Lexeme, Sign};
 pub use lexer::{lex, one_list};
 pub use parser::program::one_tree;
 pub use parser::{one_fault, parse};
-
-// For the crates above.
-pub use parser::program::lexemes_fault;

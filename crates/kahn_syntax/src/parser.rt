@@ -21,6 +21,7 @@ use program::parse_lexemes;
 use std::alloc::Global;
 
 /// Parses a text. Lexical faults come before all others, over the whole text.
+#[tactic(auto, using(crate::proofs::Proper::lexed_proper))]
 pub fn parse(alloc: Global, text: &str) -> Result<Program, SyntaxFault>
     // The lexemes spell it, and each name, statement and expression has the span from its first to its last lexeme.
     ensures spells { IfOk result (IsProgram text.now) }

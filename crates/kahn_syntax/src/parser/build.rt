@@ -40,6 +40,7 @@ pub fn stated<'t>(
 }
 
 /// Makes the form of two operands with an operator between.
+#[tactic(auto, using(crate::proofs::Rows::operands_made))]
 pub fn compared(
     alloc: Global,
     left: Box<Expression>,

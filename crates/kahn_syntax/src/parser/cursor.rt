@@ -41,6 +41,7 @@ impl<T: Drop> From<AllocFailed<T>> for Stop {
 pub type Read<'t, T> = Result<(T, &'t [Lexeme]), Stop>;
 
 /// Returns what the first lexeme is, and the lexemes after it.
+#[tactic(auto, using(crate::proofs::Lists::next_unsigned, crate::proofs::Lists::next_proper, crate::proofs::Lists::next_passed))]
 pub fn next(input: &[Lexeme]) -> Option<(Class, &[Lexeme])>
     ensures first { MatchOption result (input.now ≡ []) (λ r. First r.0 input.now r.1.now × (length input.now ≡ length r.1.now + 1)) }
     ensures passed { IfSome result (λ r. IsPast input.now r.1.now) }
@@ -54,6 +55,7 @@ pub fn next(input: &[Lexeme]) -> Option<(Class, &[Lexeme])>
 }
 
 /// Returns the lexemes after the first, if it is of this class.
+#[tactic(auto, using(crate::proofs::Lists::first_of))]
 pub fn past(input: &[Lexeme], wanted: Class) -> Option<&[Lexeme]>
     ensures first { IfSome result (λ r. First wanted input.now r.now) }
     ensures passed { IfSome result (λ r. IsPast input.now r.now) }

@@ -1,8 +1,6 @@
 //! Declarations of channels and processes.
 
 ghost use Rattle.std.specs.Prelude.{◌≡◌, ◌≤◌, ◌<◌, ◌+◌, ◌++◌, ◌∷◌, ℕ, List, [], length, map, is_some, IfOk, IfErr, IfSome};
-ghost use Rattle.kahn_syntax.specs.declared.lexeme.Keyword.TheVariants as keyword;
-ghost use Rattle.kahn_syntax.specs.declared.lexeme.Sign.TheVariants as mark;
 ghost use Rattle.kahn_syntax.specs.{declared.parser.cursor.Stop.TheVariants.NoMemory, inner.Reads.Reads, inner.Reads.IsShallow, inner.Reads.ParsesPart, inner.Reads.DeclarationsSpan};
 ghost use Rattle.kahn_syntax.specs.Texts.{terminals, AreProper, process_tree, declaration_tree, lexemes, IsPast, Takes, DeclarationSpans, ProcessSpans, parameter_with, variable_with};
 ghost use Rattle.kahn_syntax.specs.Grammar.{kind_terminal, role_words, taking_words, TakesAll, Head, Parameters, ParameterGroup, Variables, group};

@@ -33,6 +33,7 @@ pub fn read_name<'t>(alloc: Global, text: &str, input: &'t [Lexeme]) -> Read<'t,
 }
 
 /// Reads one name or more, with commas between.
+#[tactic(auto, using(crate::proofs::Moves::members_begin))]
 pub fn read_names<'t>(alloc: Global, text: &str, input: &'t [Lexeme]) -> Read<'t, Vec<Name>>
     requires proper { AreProper text.now input.now }
     ensures { ParsesPart result text.now (TokenPart a_name ∷ NamesTail ∷ []) (λ r. SomeNames (lexemes text.now) r.0.items) input.now (λ r. r.1.now) }

@@ -1,10 +1,9 @@
 //! Instances and whole programs.
 
 ghost use Rattle.std.specs.Prelude.{◌≡◌, ◌≤◌, ◌<◌, ◌+◌, [], ◌∷◌, ℕ, ℤ, neg_ℤ, List, false, length, map, IfOk, IfErr, IfSome, IfNone};
-ghost use Rattle.kahn_syntax.specs.declared.lexeme.Keyword.TheVariants as keyword;
 ghost use Rattle.kahn_syntax.specs.declared.lexeme.Sign.TheVariants as mark;
 ghost use Rattle.kahn_syntax.specs.{Grammar.Terminal, Grammar.sign, Grammar.numeral, Grammar.ProgramTree, Grammar.Spells, Grammar.nesting, Grammar.May, inner.Machine.leads, inner.Machine.InstancePart, inner.Machine.ArgumentsPart, inner.Machine.ArgumentPart, inner.Machine.InstancesTail, inner.Machine.LastTail, inner.Machine.a_number, declared.lexeme.Lexeme.Lexeme, inner.Reads.Reads, inner.Reads.Halts, inner.Reads.ClosedArgumentsSpan, inner.Reads.ParsesPart};
-ghost use Rattle.kahn_syntax.specs.Texts.{terminals, AreProper, IsFault, program_tree, IsPast, Takes, ArgumentSpans, InstanceSpans, InstancesSpan, ProgramSpans, IsWholeWithin};
+ghost use Rattle.kahn_syntax.specs.Texts.{terminals, AreProper, IsFault, program_tree, IsPast, Takes, ArgumentSpans, InstanceSpans, InstancesSpan, ProgramSpans};
 ghost use Rattle.kahn_syntax.specs.declared.fault.SyntaxFault.TheVariants as SyntaxFault;
 
 use crate::fault::{SyntaxFault, What};
@@ -32,19 +31,6 @@ pub fn parse_lexemes(alloc: Global, text: &str, lexemes: &[Lexeme]) -> Result<Pr
     match read_program(alloc, text, lexemes) {
         Ok(program) => Ok(program),
         Err(stop) => Err(fault_of(text, lexemes, stop)),
-    }
-}
-
-/// Returns why the lexemes of a text are no program; None if they are one.
-pub fn lexemes_fault(alloc: Global, text: &str, lexemes: &[Lexeme]) -> Option<SyntaxFault>
-    requires proper { AreProper text.now lexemes.now }
-    ensures whole { IfNone result (IsWholeWithin (terminals text.now lexemes.now)) }
-    ensures found { IfSome result (λ e. IsWholeWithin (terminals text.now lexemes.now) → e ≡ SyntaxFault.NoMemory) }
-    ensures fault { IfSome result (λ e. IsFault text.now lexemes.now e) }
-{
-    match parse_lexemes(alloc, text, lexemes) {
-        Ok(_) => None,
-        Err(fault) => Some(fault),
     }
 }
 

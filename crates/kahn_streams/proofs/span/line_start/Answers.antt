@@ -1,17 +1,9 @@
-use Rattle.std.proofs.Common.{◌≡◌, ℕ, ◌<◌, ◌==◌, not, true, false, sym, arith}
+use Rattle.std.proofs.Common.{◌≡◌, ℕ, ◌<◌, ◌==◌, not, true, sym, arith}
 use Rattle.std.proofs.{lemmas.Bool.Decides.nat_tests, lemmas.List.Sums.suffix_len_is}
 use Rattle.kahn_streams.proofs.span.line_start.Goals as goal
 
 other : (b : ℕ) → ¬ (b ≡ 10) → not (b == 10) ≡ true
 other b h = grind (arith, nat_tests)
-
-line_feed : (b : ℕ) → b ≡ 10 → not (b == 10) ≡ false
-line_feed b h = grind (arith, nat_tests)
-
-pub returns-else-text-at-ne10-clause-line : goal.returns-else-text-at-ne10-clause-line
-returns-else-text-at-ne10-clause-line c =
-    let i = c.bytes.invariant in
-    sym (suffix_len_is _ c.args.text.now c.bytes.at 0 i.inside (λ k low high. other _ (i.passed k low high)) (λ _. line_feed _ c.if-text-at-ne10.false))
 
 pub returns-after-bytes-clause-line : goal.returns-after-bytes-clause-line
 returns-after-bytes-clause-line c =

@@ -1,25 +1,6 @@
-use Rattle.kahn_streams.proofs.Common.{rules, arith, ◌≡◌, ◌≤◌, ◌+◌, ◌++◌, length, length-append, map, slice_set, sym, err_from_is_err_and, most_values, inputs_of}
-use Rattle.kahn_streams.proofs.{Fed.item_fed, Fed.item_kept, Few.put_few, Few.same_few}
+use Rattle.kahn_streams.proofs.Common.{rules, arith, ◌≡◌, ◌≤◌, ◌+◌, ◌++◌, length, length-append, map, slice_set, sym, most_values, inputs_of}
+use Rattle.kahn_streams.proofs.{Fed.item_fed, Few.put_few, Few.same_few}
 use Rattle.kahn_streams.proofs.input.Input.append.Goals as goal
-
-pub returns-in_err-add_values-clause-lists : goal.returns-in_err-add_values-clause-lists
-returns-in_err-add_values-clause-lists c =
-    let kept : c.add_values.new.list.items ≡ c.index_mut.result.now.items = search rules in
-    let p = err_from_is_err_and c.from_residual.result c.from_residual.ensures.1 in
-    rw p.1
-    (item_kept (λ v. v.items) c.self.inside.lists.items c.args.self.now c.args.channel c.index_mut.result.now c.add_values.new.list c.self.view_is c.requires.here c.index_mut.ensures.value kept)
-
-pub returns-clause-lists : goal.returns-clause-lists
-returns-clause-lists c =
-    let fed : c.add_values.new.list.items ≡ c.index_mut.result.now.items ++ c.args.values.items = search rules in
-    item_fed (λ v. v.items) c.self.inside.lists.items c.args.self.now c.args.channel c.index_mut.result.now c.add_values.new.list c.self.view_is c.requires.here c.index_mut.ensures.value c.args.values.items fed
-
-pub invariant_of-self : goal.invariant_of-self
-invariant_of-self c =
-    let kept : c.add_values.new.list.items ≡ c.index_mut.result.now.items = search rules in
-    let few = same_few (map (λ v. v.items) c.self.inside.lists.items) c.args.self.now c.self.invariant (sym c.self.view_is) in
-    same_few c.args.self.now (map (λ v. v.items) (slice_set c.self.inside.lists.items c.args.channel c.add_values.new.list)) few
-    (item_kept (λ v. v.items) c.self.inside.lists.items c.args.self.now c.args.channel c.index_mut.result.now c.add_values.new.list c.self.view_is c.requires.here c.index_mut.ensures.value kept)
 
 pub invariant_of-self-2 : goal.invariant_of-self-2
 invariant_of-self-2 c =

@@ -1,14 +1,7 @@
 use Rattle.kahn_streams.proofs.Common.{rules, sym, subst, ◌<◌, length, network_of}
 use Rattle.kahn_streams.specs.inner.Sources.{IsWire}
-use Rattle.kahn_streams.proofs.Kept_network.{wire_count, wire_at}
+use Rattle.kahn_streams.proofs.Kept_network.{wire_at}
 use Rattle.kahn_streams.proofs.network.Network.wire.Goals as goal
-
-pub index-requires : goal.index-requires
-index-requires c =
-    let n = wire_count c.self.inside.program c.self.inside.wires.items c.self.invariant.lines in
-    let lt = subst (λ z. c.args.channel < length (network_of z).channels) (sym c.self.view_is) c.requires in
-    let here = subst (λ z. c.args.channel < z) (sym n) lt in
-    search (rules, here)
 
 pub returns : goal.returns
 returns c =

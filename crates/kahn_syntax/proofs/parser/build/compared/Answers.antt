@@ -1,11 +1,5 @@
-use Rattle.kahn_syntax.proofs.Parsing.{OperandsSpan, ap, expression_tree, level, operands_made, operands_of, operands_row_spans, refl, subst, sym, [], ◌++◌, ◌∙◌, ◌∷◌}
+use Rattle.kahn_syntax.proofs.Parsing.{OperandsSpan, ap, operands_row_spans, refl, subst, sym, [], ◌++◌, ◌∙◌, ◌∷◌}
 use Rattle.kahn_syntax.proofs.parser.build.compared.Goals as goal
-
-pub returns-clause-built : goal.returns-clause-built
-returns-clause-built c =
-    let items = c.in_ok-push.ensures.items ∙ ap (λ xs. xs ++ record { operator = c.args.operator; expression = c.into_inner.result } ∷ []) c.new-further.ensures.items in
-    ap (level (expression_tree c.args.left.value))
-    (operands_made c.push.new.self ∙ ap operands_of (items ∙ ap (λ e. record { operator = c.args.operator; expression = e } ∷ []) c.into_inner.ensures))
 
 pub returns-clause-spans : goal.returns-clause-spans
 returns-clause-spans c = λ text xs a b r p t q.

@@ -1,13 +1,10 @@
-use Rattle.kahn_syntax.proofs.Parsing.{members_begin, members_more, members_end, name_read, sign, Comma, NameSpans, a_sign, SignClass, TokenPart, a_name, refl, arith, one_lexeme, stopped, then_stops, no_name, NamesTail, [], ◌∷◌}
+use Rattle.kahn_syntax.proofs.Parsing.{members_more, members_end, name_read, sign, Comma, NameSpans, a_sign, SignClass, TokenPart, a_name, refl, arith, one_lexeme, stopped, then_stops, no_name, NamesTail, [], ◌∷◌}
 use Rattle.kahn_syntax.proofs.parser.names.read_names.Goals as goal
 
 pub returns-in_err-name : goal.returns-in_err-name
 returns-in_err-name c = stopped _ _ c.from_residual.result c.from_residual.ensures.1
     (then_stops _ c.names.invariant.reads
     (no_name c.args.text.now 0 (NamesTail ∷ []) c.names.rest.now _ c.in_err-name.ensures.stop))
-
-pub names-init : goal.names-init
-names-init c = members_begin c.args.text.now (sign Comma) (NameSpans c.args.text.now) (TokenPart a_name ∷ NamesTail ∷ []) (TokenPart a_name ∷ NamesTail ∷ []) _ c.args.input.now c.new-names.ensures.items c.requires.proper (record { fates = λ s l. refl })
 
 pub names-preserved : goal.names-preserved
 names-preserved c =
