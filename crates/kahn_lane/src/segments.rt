@@ -12,7 +12,8 @@
 
 ghost use Rattle.std.specs.Prelude.{◌≡◌, ◌+◌, ◌≤◌, ◌^◌, is_some, true, false, Some, vec_len, vec_capacity};
 ghost use Rattle.crossbeam_deque.specs.Handles.{view, worker_view, worker_flavor, stealer_deque, stealer_flavor};
-ghost use Rattle.kahn_lane.specs.{Places.IsOn, Places.IsOn-prop, Places.StandFrom, Places.Placed-prop, Places.tag_name, Places.name-prop, Places.stage-prop, declared.segments.Stage.TheVariants.Running};
+ghost use Rattle.kahn_lane.specs.Places.{IsOn, IsOn-prop, StandFrom, Placed-prop, tag_name, name-prop, stage-prop, opening_mark, spent_mark, owner, writing_mark, reading, both};
+ghost use Rattle.kahn_lane.specs.{declared.segments.Stage.TheVariants.Running, inner.LaneRule.Laned, inner.LaneRule.TellsName, inner.LaneRule.Flushes, inner.LaneRule.Steals, inner.LaneRule.Empties};
 
 use crate::name::{LaneName, Tag};
 use crossbeam_deque::protocol::{Join, Lesson, Outcome, Protocol, Split};
@@ -54,9 +55,6 @@ pub struct Mark {
 pub struct InPlaces;
 
 impl<A: Allocator> Protocol<Segment<A>, Mark> for InPlaces {
-    ghost use Rattle.kahn_lane.specs.Places.{opening_mark, spent_mark};
-    ghost use Rattle.kahn_lane.specs.inner.LaneRule.{Laned};
-
     ghost holds = { Laned };
 
     ghost first = { opening_mark };
@@ -68,8 +66,6 @@ impl<A: Allocator> Protocol<Segment<A>, Mark> for InPlaces {
 pub struct Telling;
 
 impl<A: Allocator> Outcome<Segment<A>, Mark> for Telling {
-    ghost use Rattle.kahn_lane.specs.inner.LaneRule.{TellsName};
-
     ghost then = { λ _. TellsName };
 }
 
@@ -77,9 +73,6 @@ impl<A: Allocator> Outcome<Segment<A>, Mark> for Telling {
 pub struct Starting;
 
 impl<A: Allocator> Outcome<Segment<A>, Mark> for Starting {
-    ghost use Rattle.std.specs.Prelude.{◌≡◌};
-    ghost use Rattle.kahn_lane.specs.Places.{owner};
-
     ghost then = { λ v _ w. w ≡ owner v.writes_on v.flushed };
 
     ghost empty = { λ _. ⊥ };
@@ -89,16 +82,12 @@ impl<A: Allocator> Outcome<Segment<A>, Mark> for Starting {
 pub struct Sides;
 
 impl Split<Mark> for Sides {
-    ghost use Rattle.kahn_lane.specs.Places.{writing_mark, reading};
-
     ghost left = { λ v. writing_mark v.writes_on v.flushed };
 
     ghost right = { λ v. reading v.reads_on v.stolen v.flushed };
 }
 
 impl Join<Mark> for Sides {
-    ghost use Rattle.kahn_lane.specs.Places.{both, spent_mark};
-
     ghost both = { λ v w. both v.writes_on w.reads_on v.flushed w.stolen w.known };
 
     ghost spent = { spent_mark };
@@ -108,16 +97,12 @@ impl Join<Mark> for Sides {
 pub struct Bare;
 
 impl Split<Mark> for Bare {
-    ghost use Rattle.kahn_lane.specs.Places.{spent_mark};
-
     ghost left = { λ v. v };
 
     ghost right = { λ _. spent_mark };
 }
 
 impl Join<Mark> for Bare {
-    ghost use Rattle.kahn_lane.specs.Places.{spent_mark};
-
     ghost both = { λ v _. v };
 
     ghost spent = { spent_mark };
@@ -127,8 +112,6 @@ impl Join<Mark> for Bare {
 pub struct Flushed;
 
 impl<A: Allocator> Outcome<Segment<A>, Mark> for Flushed {
-    ghost use Rattle.kahn_lane.specs.inner.LaneRule.{Flushes};
-
     ghost then = { Flushes };
 }
 
@@ -136,9 +119,6 @@ impl<A: Allocator> Outcome<Segment<A>, Mark> for Flushed {
 pub struct Stolen;
 
 impl<A: Allocator> Outcome<Segment<A>, Mark> for Stolen {
-    ghost use Rattle.std.specs.Prelude.{◌≤◌};
-    ghost use Rattle.kahn_lane.specs.inner.LaneRule.{Steals};
-
     ghost then = { Steals };
 
     ghost empty = { λ v. v.known ≤ v.stolen };
@@ -148,9 +128,6 @@ impl<A: Allocator> Outcome<Segment<A>, Mark> for Stolen {
 pub struct Emptied;
 
 impl<A: Allocator> Outcome<Segment<A>, Mark> for Emptied {
-    ghost use Rattle.std.specs.Prelude.{◌≡◌};
-    ghost use Rattle.kahn_lane.specs.inner.LaneRule.{Empties};
-
     ghost then = { Empties };
 
     ghost empty = { λ v. v.stolen ≡ v.flushed };
@@ -160,8 +137,6 @@ impl<A: Allocator> Outcome<Segment<A>, Mark> for Emptied {
 pub struct Behind;
 
 impl<A: Allocator> Lesson<Segment<A>, Mark> for Behind {
-    ghost use Rattle.std.specs.Prelude.{◌≡◌, ◌≤◌};
-
     ghost fact = { λ v _. (v.stolen ≤ v.flushed) × (v.writes_on ≡ v.reads_on) };
 }
 
