@@ -46,6 +46,7 @@ pub use Rattle.std.proofs.lemmas.Option.{same_Some, slice_get-get_or, slice_get_
 pub use Rattle.std.specs.Prelude.{slice_get, slice_set}
 pub use Rattle.std.specs.Result.{IsErr, OnErr, OnOk, is_err, result_ok}
 pub use Rattle.kahn_code.specs.inner.Copies.{FitsCopy, IsCopying, copied_core, left_for}
+pub use Rattle.kahn_code.specs.inner.Feeds.{FitsFeed, IsFeeding, fed_core}
 pub use Rattle.std.proofs.Common.{Bool, Err, IfNone, IfSome, IsSome, List, None, Ok, Option, Result, SFits, Some, [], add-one, add-zero, ap, arith, bytes_eq, drop, eq-eqb, eq-or-lt_of_le, eqb-true, false, if◌then◌else◌, inl, inr, int_lt, le_of_suc-le-suc, le_refl, le_trans, length, length-set, map, max, nat_lt, neg_ℤ, not, not-suc-le-zero, option_map, pos, refl, replicate, rules, slice_index_or, subst, suc, sym, take, to_z-of_z, true, true≢false, w64, zero, ℕ, ℤ, ◌*◌, ◌++◌, ◌+ℤ◌, ◌+◌, ◌-◌, ◌<◌, ◌==◌, ◌^◌, ◌||◌, ◌∙◌, ◌∷◌, ◌≡◌, ◌≢◌, ◌≤◌, ◌⊎◌}
 pub use Rattle.std.proofs.Math.Nat.{add-mul, le-mul_of_pos_right, mul-div-le}
 pub use Rattle.std.proofs.lemmas.List.Edits.{map_over_more}

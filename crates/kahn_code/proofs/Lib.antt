@@ -23,3 +23,4 @@ pub mod Common
 pub mod Roomy
 pub mod Reach
 pub mod Copies
+pub mod Feeds

@@ -1,4 +1,5 @@
 pub mod Copies
+pub mod Feeds
 pub mod Gone
 pub mod Tapped
 pub mod Forms

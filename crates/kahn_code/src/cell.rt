@@ -74,7 +74,8 @@ impl<A: Allocator + Copy + Drop> Cell<A> {
         ensures served { Serve P.site P.others P.which P.delivered ports.old ports.new }
         ensures ran { HasRunFor P.site P.next P.is_dry P.is_ready P.has_room quantum result ports.old ports.new steps.old steps.new self.old self.new }
     {
-        self.tap.run::<P, L, Called>(code, quantum, ports, steps)
+        self.tap
+            .run::<P, L, Called>(code, false, quantum, ports, steps)
     }
 
     /// The number of its events.

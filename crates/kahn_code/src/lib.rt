@@ -8,6 +8,7 @@ mod counted;
 mod depth;
 mod effects;
 mod emit;
+mod feed;
 mod form;
 mod forward;
 mod instruction;
@@ -31,6 +32,6 @@ pub use ports::Ports;
 pub use progress::Pause;
 
 // For the crates above.
-pub use progress::{Called, Within};
+pub use progress::{Called, Far, Within};
 pub use tap::{Tap, regrow_taps};
 pub use word::{Atom, apply, negated};

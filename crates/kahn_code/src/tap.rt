@@ -70,11 +70,13 @@ impl<A: Allocator + Copy + Drop> Tap<A> {
     }
 
     /// Runs for at most so many events. With a quantum of 0 it only says what comes next, and never allocates. A tap
-    /// whose process has ended or faulted says so again. `M` names the loop of instructions.
+    /// whose process has ended or faulted says so again. `M` names the loop of instructions; `far` says whether turns of a source may
+    /// come before it.
     #[inline(always)]
     pub fn run<P: Ports, L: Ledger, M>(
         &mut self,
         code: &Code<A>,
+        far: bool,
         quantum: u64,
         ports: &mut P,
         steps: &mut Steps<L>,
@@ -89,7 +91,19 @@ impl<A: Allocator + Copy + Drop> Tap<A> {
     {
         let process_code = code.process_code(self.progress.instance);
         let arguments = code.arguments(self.progress.instance);
-        self.progress.run::<P, L, M>(&process_code.instructions, arguments, quantum, ports, steps)
+        self.progress.run::<P, L, M>(
+            &process_code.instructions,
+            arguments,
+            far,
+            quantum,
+            ports,
+            steps,
+        )
+    }
+
+    /// Whether turns of a source may come first in its next run.
+    pub fn may_feed(&self, code: &Code<A>) -> bool {
+        code.may_feed(self.progress.instance, self.progress.place)
     }
 
     /// The number of its events.

@@ -10,7 +10,7 @@ use crate::channel::channel_read;
 use crate::looks::{LONG_TURN, Looks, sent_on};
 use crate::streams::fill;
 use crate::taps::{all_kept, all_sized, all_stood, forget_turned, named_taps};
-use crate::woken::Woken;
+use crate::woken::{Woken, wake_by};
 use kahn_code::{Code, CodeFault, Kept, Pause, Plain, Steps, Tap, compile, regrow_taps};
 use kahn_streams::{
     About, Carried, Input, MOST_BOUND, Network, NoMemory, Outcome, Side, Stream, Value,
@@ -108,11 +108,13 @@ impl<'n> Sequential<'n> {
         self.network.instances()
     }
 
-    /// Runs a process for at most `quantum` events. `M` names the loop of instructions.
+    /// Runs a process for at most `quantum` events. `M` names the loop of instructions; `far` says whether turns of a source may come
+    /// before it.
     #[inline(always)]
     pub fn run<L: Ledger, M>(
         &mut self,
         instance: usize,
+        far: bool,
         quantum: u64,
         steps: &mut Steps<L>,
     ) -> Pause
@@ -123,12 +125,21 @@ impl<'n> Sequential<'n> {
         self.queues.at(instance);
         let pause = self.taps[instance].run::<Plain<'n, Global>, L, M>(
             &self.code,
+            far,
             quantum,
             &mut self.queues,
             steps,
         );
         self.queues.counted();
         pause
+    }
+
+    /// Whether an instance may stand where turns of a source can be done.
+    pub(crate) fn may_feed(&self, instance: usize) -> bool {
+        match self.taps.get(instance) {
+            Some(tap) => tap.may_feed(&self.code),
+            None => false,
+        }
     }
 
     /// How many events an instance has done.
@@ -282,8 +293,8 @@ impl<'n> Sequential<'n> {
         woken.add(reader);
     }
 
-    // Wakes the reader of the channel of a parameter, but the instance itself, if something waits there.
-    fn wake_behind(&self, instance: usize, parameter: usize, woken: &mut Woken)
+    /// Wakes the reader of the channel of a parameter, but the instance itself, if something waits there.
+    pub(crate) fn wake_behind(&self, instance: usize, parameter: usize, woken: &mut Woken)
         requires { instance < length (sight_of self.now).network.instances }
         ensures { HasWoken (IsReadyBy self.now instance parameter) woken.old woken.new }
     {
@@ -430,16 +441,6 @@ impl<'n> Sequential<'n> {
         let mut kept = all_kept(self.taps, kept);
         fill(self.network, &mut streams, &mut kept);
         streams
-    }
-}
-
-// Wakes the readers of the channels of the first parameters of an instance, but the instance itself, where something waits.
-fn wake_by(bench: &Sequential<'_>, instance: usize, count: usize, woken: &mut Woken)
-    requires { instance < length (sight_of bench.now).network.instances }
-    ensures { HasWoken (IsReadyByFirst bench.now instance count) woken.old woken.new }
-{
-    for parameter in 0..count {
-        bench.wake_behind(instance, parameter, woken);
     }
 }
 

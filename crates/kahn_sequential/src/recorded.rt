@@ -178,7 +178,7 @@ impl<'g, L: Ledger, G: Gate> Driver<'g, L, G> {
         round.ends.clear();
         for instance in 0..count {
             bench.stood_at(instance);
-            let end = self.visit(bench, round, instance);
+            let end = self.visit(bench, round, instance, true);
             bench.stood_at(instance);
             round.ends.push_reserved(end);
             add_sent(network, bench.queues(), instance, streams)?;

@@ -11,7 +11,6 @@ ghost use Rattle.kahn_streams.specs.declared.answer.Outcome.TheVariants as outco
 ghost use Rattle.kahn_code.specs.declared.progress.Pause.TheVariants as pause;
 ghost use Rattle.std.specs.Prelude.{◌≡◌, ◌⊎◌, ◌<◌, ◌≤◌, ◌+◌, ◌-◌, ◌^◌, length, slice_set, true, vec_capacity, IfErr, IfOk, MatchResult};
 
-use crate::apart::run_apart;
 use crate::bench::Sequential;
 use kahn_code::{Pause, Steps, Within};
 use kahn_streams::{End, Gate, Outcome, Plan, Verdict};
@@ -26,9 +25,12 @@ const NOTED_ROUNDS: usize = 4;
 
 // How many brief rounds come between two looks at whether most turns did nothing; and how many such looks there are at most: a number,
 // since each loop needs an end.
-const TOGETHER: usize = 8;
+pub(crate) const TOGETHER: usize = 8;
 
 const BRIEF_ROUNDS: usize = 1_000_000;
+
+// If more events for each instance were done between two looks, turns are long.
+const BRIEF_EVENTS: usize = 512;
 
 /// What is left to do in a run on one thread, and what its last round did.
 #[derive(Drop)]
@@ -189,27 +191,8 @@ impl Round {
 }
 
 impl<'g, L: Ledger, G: Gate> Driver<'g, L, G> {
-    // Runs an instance for at most `quantum` events, as the bench does. A gate that isn't open is entered just before, if the instance
-    // may go on.
-    #[inline(always)]
-    fn run_gated(&mut self, bench: &mut Sequential<'_>, instance: usize, quantum: u64) -> Pause
-        requires here { instance < length (sight_of bench.old).network.instances }
-        requires bound { events_at (sight_of bench.old) instance + quantum < 2 ^ 48 }
-        ensures ran { HasRunCell (sight_of bench.old) (sight_of bench.new) instance quantum result }
-        ensures worked { HasWorked bench.old bench.new }
-    {
-        if self.gate.is_open() || quantum == 0 {
-            return run_apart(bench, instance, quantum, &mut self.steps);
-        }
-        let next = run_apart(bench, instance, 0, &mut self.steps);
-        if !matches!(next, Pause::Spent) {
-            return next;
-        }
-        self.gate.enter(instance);
-        run_apart(bench, instance, quantum, &mut self.steps)
-    }
-
-    // The same in a brief round: at an open gate by a loop of instructions that stands within the rounds.
+    // Runs an instance for at most `quantum` events in a brief round: at an open gate by a loop of instructions that stands within the
+    // rounds.
     #[inline(always)]
     fn run_within(&mut self, bench: &mut Sequential<'_>, instance: usize, quantum: u64) -> Pause
         requires here { instance < length (sight_of bench.old).network.instances }
@@ -218,33 +201,45 @@ impl<'g, L: Ledger, G: Gate> Driver<'g, L, G> {
         ensures worked { HasWorked bench.old bench.new }
     {
         if !self.gate.is_open() {
-            return self.run_gated(bench, instance, quantum);
+            return self.run_gated(bench, instance, false, quantum);
         }
-        bench.run::<L, Within>(instance, quantum, &mut self.steps)
+        bench.run::<L, Within>(instance, false, quantum, &mut self.steps)
     }
 
-    // The turn of an instance: runs it, and marks what was done.
+    /// The turn of an instance, which may be a long one if `far` says so: runs it, and marks what was done.
     #[inline(always)]
-    fn take_turn(&mut self, bench: &mut Sequential<'_>, round: &mut Round, instance: usize) -> Pause
+    pub(crate) fn take_turn(
+        &mut self,
+        bench: &mut Sequential<'_>,
+        round: &mut Round,
+        instance: usize,
+        far: bool,
+    ) -> Pause
         requires here { instance < length (sight_of bench.old).network.instances }
         requires may { MayRun (sight_of bench.old) round.old }
         ensures { HasTakenTurn bench.old bench.new round.old round.new instance result }
     {
         let before = bench.events(instance);
         let quantum = round.turn();
-        let stopped = self.run_gated(bench, instance, quantum);
+        let stopped = self.run_gated(bench, instance, far, quantum);
         round.mark_turn(bench, instance, before, stopped);
         stopped
     }
 
-    /// The turn of an instance, and how it stands then.
+    /// Such a turn, and how the instance stands then.
     #[inline(always)]
-    pub fn visit(&mut self, bench: &mut Sequential<'_>, round: &mut Round, instance: usize) -> End
+    pub fn visit(
+        &mut self,
+        bench: &mut Sequential<'_>,
+        round: &mut Round,
+        instance: usize,
+        far: bool,
+    ) -> End
         requires here { instance < length (sight_of bench.old).network.instances }
         requires may { MayRun (sight_of bench.old) round.old }
         ensures { HasVisited bench.old bench.new round.old round.new instance result }
     {
-        let stopped = self.take_turn(bench, round, instance);
+        let stopped = self.take_turn(bench, round, instance, far);
         end_of(bench, instance, stopped)
     }
 
@@ -280,9 +275,9 @@ impl<'g, L: Ledger, G: Gate> Driver<'g, L, G> {
         }
     }
 
-    // Some brief rounds.
+    /// Some brief rounds.
     #[inline(never)]
-    fn rounds_together(&mut self, bench: &mut Sequential<'_>, round: &mut Round)
+    pub(crate) fn rounds_together(&mut self, bench: &mut Sequential<'_>, round: &mut Round)
         requires { MayRun (sight_of bench.old) round.old }
         ensures { HasAdvanced bench.old bench.new round.old round.new }
     {
@@ -303,13 +298,13 @@ impl<'g, L: Ledger, G: Gate> Driver<'g, L, G> {
         round.idle_turns = 0;
         round.ends.clear();
         for instance in 0..count {
-            let end = self.visit(bench, round, instance);
+            let end = self.visit(bench, round, instance, true);
             round.ends.push_reserved(end);
         }
     }
 
-    // Whether there is work for several workers, to whom the run may be left.
-    fn leaves(&self, bench: &Sequential<'_>) -> bool {
+    /// Whether there is work for several workers, to whom the run may be left.
+    pub(crate) fn leaves(&self, bench: &Sequential<'_>) -> bool {
         self.may_leave && bench.wide() > 0
     }
 
@@ -328,7 +323,7 @@ impl<'g, L: Ledger, G: Gate> Driver<'g, L, G> {
                 return round;
             };
             let left = round.left;
-            let end = self.visit(bench, &mut round, instance);
+            let end = self.visit(bench, &mut round, instance, false);
             bench.note_left(instance, end.outcome, left.wrapping_sub(round.left));
         }
         round
@@ -350,8 +345,10 @@ impl<'g, L: Ledger, G: Gate> Driver<'g, L, G> {
             if is_first || round.is_over() || round.is_sparse() || self.leaves(bench) {
                 return round;
             }
+            let most = round.ends.len().saturating_mul(BRIEF_EVENTS) as u64;
+            let is_long = left.wrapping_sub(round.left) > most;
             left = round.left;
-            self.rounds_together(bench, &mut round);
+            self.next_rounds(bench, &mut round, is_long);
         }
         round
     }

@@ -52,7 +52,7 @@ impl<'g, L: Ledger, G: Gate> Driver<'g, L, G> {
         if instance >= bench.instance_count() {
             return false;
         }
-        let end = self.visit(bench, round, instance);
+        let end = self.visit(bench, round, instance, true);
         turned.add_once(instance);
         if may_go_on(end.outcome) || instance >= round.ends.len() {
             return false;

@@ -1,6 +1,6 @@
 use Rattle.kahn_sequential.proofs.Common.{arith, ◌+◌, IsReadyBy, IsReadyByFirst}
 use Rattle.kahn_sequential.proofs.Noted.{nobody_woken, ready_next, woken_on}
-use Rattle.kahn_sequential.proofs.bench.wake_by.Goals as goal
+use Rattle.kahn_sequential.proofs.woken.wake_by.Goals as goal
 
 pub loop-parameter-init : goal.loop-parameter-init
 loop-parameter-init c = nobody_woken (IsReadyByFirst c.args.bench.now c.args.instance 0) c.args.woken.now (λ p h. let l = h.1 in absurd (omega (arith, l)))
