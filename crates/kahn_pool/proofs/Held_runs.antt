@@ -1,5 +1,5 @@
 -- A held run goes on: its streams grow, and no instance has fewer events.
-use Rattle.kahn_pool.proofs.Common.{◌≡◌, ℕ, ◌+◌, ◌<◌, ◌^◌, List, length, map, refl, sym, ap, ◌∙◌, subst, Bool, Option, Some, None, Ok, Err, arith, ◌≤◌, ◌-◌, [], slice_index_or, length-map, Program, Line, IsRight, stream_lines, Source, Given, Written, Nobody, network_of, IsWellWired, Token, Channel, Print, AreInputsExtended, source, Lists, inputs_of, prefix_refl, token_value, cells_of, NoMemory, NoThread, Plan, Stopped, Work, AreStreams, IsConcluded, IsFrom, GoesOn, HasResumed, HeldRun, IsAnswerOf, IsResumed, Seen, given_so_far, seen_at, seen_of, HasStopped, AreAllGiven, AreGiven, IsHolding, held_state, run_of, told_view, Answer, Verdict, End, written_once, seen_there, settled_by}
+use Rattle.kahn_pool.proofs.Common.{◌≡◌, ℕ, ◌+◌, ◌<◌, ◌^◌, List, length, map, refl, sym, ap, ◌∙◌, subst, Bool, Option, Some, None, Ok, Err, arith, ◌≤◌, ◌-◌, [], slice_index_or, length-map, Program, Line, IsRight, stream_lines, Source, Given, Written, Nobody, network_of, IsWellWired, Token, Channel, Print, AreInputsExtended, source, Lists, inputs_of, prefix_refl, token_value, cells_of, NoMemory, NoThread, Plan, Stopped, Work, AreStreams, IsConcluded, IsFrom, GoesOn, HasResumed, HeldRun, IsAnswerOf, IsResumed, Seen, given_so_far, seen_at, seen_of, HasStopped, IsHolding, held_state, run_of, told_view, Answer, Verdict, End, written_once, seen_there, settled_by}
 use Rattle.kahn_pool.proofs.Held_jobs.{ended_alike, held_again, held_grown, same_seen}
 use Rattle.kahn_sequential.proofs.Going_on.{goes_on, grows_not, seen_grows}
 
@@ -28,21 +28,19 @@ module _ (t : Program) (lists : Lists) (plan : Plan) (ws : List Work) (verdict :
 -- ---- what a held run keeps
 
 module _ (t : Program) {compiled : Program} (lists : Lists) (plan : Plan) (ws : List Work) {budget : ℕ}
-    {ends : List End} {given : List Token} (verdict : Option Verdict) (h : IsHolding t compiled lists plan ws budget ends given verdict) where
+    {ends : List End} (verdict : Option Verdict) (h : IsHolding t compiled lists plan ws budget ends verdict) where
   abbrev held_run : ℕ → List Work → Option Verdict → HeldRun
   held_run total vs next = run_of t lists (record plan { bound = total }) vs next
 
   -- more input
   module _ (after : Lists) (grown : AreInputsExtended (inputs_of lists) (inputs_of after)) where
-    pub holding_fed : length after ≡ length lists → AreGiven (network_of t) (inputs_of after) plan.watch given → IsHolding t compiled after plan ws budget ends given None
-    holding_fed size begun = record {
+    pub holding_fed : length after ≡ length lists → IsHolding t compiled after plan ws budget ends None
+    holding_fed size = record {
       code = h.code;
       fits = size ∙ h.fits;
       few = h.few;
       held = held_grown h.held after grown;
       ended = tt;
-      begun = begun;
-      all = λ v e. absurd cc;
     }
 
     pub goes_on_fed : GoesOn (held_run plan.bound ws verdict) (run_of t after plan ws None)
@@ -72,9 +70,8 @@ module _ (t : Program) {compiled : Program} (lists : Lists) (plan : Plan) (ws : 
     pub resumed_ok : (v : Verdict) → r.outcome ≡ Ok v → IsResumed more (held_run plan.bound ws verdict) (held_run (plan.bound + more) r.idles.items (Some v)) v
     resumed_ok v e = let c = rw e at s.outcome in (resumed (Some v), refl, settled_by c.1)
 
-    pub still_holding : r.outcome ≡ Err NoMemory → {later : List Token} → AreGiven (network_of t) (inputs_of lists) plan.watch later →
-        AreAllGiven (network_of t) (inputs_of lists) plan.watch later → IsHolding t compiled lists plan r.idles.items budget ends later verdict
-    still_holding e begun all =
+    pub still_holding : r.outcome ≡ Err NoMemory → IsHolding t compiled lists plan r.idles.items budget ends verdict
+    still_holding e =
         let u = s.untouched e in
         record {
           code = h.code;
@@ -82,8 +79,6 @@ module _ (t : Program) {compiled : Program} (lists : Lists) (plan : Plan) (ws : 
           few = h.few;
           held = held_again s.held more plan.bound budget refl (sym u.0);
           ended = ended_alike r.idles.items ws u.1 t lists plan.watch plan.bound budget ends verdict h.ended;
-          begun = begun;
-          all = λ v said. all;
         }
 
     pub still_same : r.outcome ≡ Err NoMemory → held_run plan.bound r.idles.items verdict ≡ held_run plan.bound ws verdict

@@ -6,5 +6,4 @@ pub mod Over
 pub mod Kept
 pub mod Held_jobs
 pub mod Held_runs
-pub mod Held_streams
 pub mod Handing

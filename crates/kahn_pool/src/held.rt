@@ -1,9 +1,13 @@
 //! Runs that are cut into parts: between two parts a run is held, more events may be allowed and more values fed.
 
-ghost use Rattle.std.specs.Prelude.{◌≡◌, ◌↔◌, ◌+◌, Some, length, map, sum_by, IfOk, IsTrue, MatchResult};
-ghost use Rattle.kahn_pool.specs.inner.Below.{Verdict as VerdictOf, cells_of, network_of, stream_lines, token_value};
-ghost use Rattle.kahn_sequential.specs.HeldRuns.{HasFed, HasStarted, IsAnswerOf, IsLineOf, IsResumed, IsRightSoFar, IsUnfed, IsUnresumed, IsUnstarted, seen_events, so_far};
+ghost use Rattle.std.specs.Prelude.{◌≡◌, ◌↔◌, ◌+◌, Some, length, sum_by, IfOk, IsTrue, MatchResult};
+ghost use Rattle.kahn_pool.specs.inner.Below.{Verdict as VerdictOf, cells_of, network_of};
+ghost use Rattle.kahn_sequential.specs.HeldRuns.{HasFed, HasStarted, IsAnswerOf, IsResumed, IsUnfed, IsUnresumed, IsUnstarted, seen_events, HeldRun};
 ghost use Rattle.kahn_sequential.specs.inner.Workbench.{AreKeptOf};
+ghost use Rattle.kahn_streams.specs.contracts.tree.Action as action;
+ghost use Rattle.kahn_streams.specs.contracts.tree.Form as form;
+ghost use Rattle.std.specs.Coded.{codes};
+ghost use Rattle.kahn_pool.specs.inner.Holding.{IsHeldAs, planned, run_of};
 
 use crate::handover::first_jobs;
 use crate::part::{PartRoom, run_part};
@@ -11,10 +15,10 @@ use crate::plan::RunPart;
 use kahn_code::{Code, Kept, compile};
 use kahn_crew::{CrewFault, Crewing};
 use kahn_job::Idle;
-use kahn_sequential::{HeldFault, fill, give_watched, lines_of, opening_streams, plan_of};
+use kahn_sequential::{HeldFault, fill, opening_streams, plan_of};
 use kahn_streams::{
-    Answer, Carried, Config, End, FeedFault, Gate, Input, Line, MOST_BOUND, Network, NoMemory,
-    RunFault, Value, Verdict,
+    Answer, Config, End, FeedFault, Gate, Input, MOST_BOUND, Network, NoMemory, RunFault, Value,
+    Verdict,
 };
 use std::alloc::Global;
 use std::marker::Model;
@@ -38,24 +42,16 @@ pub struct Held<'n> {
     idles: Vec<Idle>,
     ends: Vec<End>,
     verdict: Option<Verdict>,
-    // The list of a watched input channel, up to the last part.
-    given: Vec<Carried>,
 }
 
 impl<'n> Model for Held<'n> {
-    ghost use Rattle.kahn_streams.specs.contracts.tree.Action as action;
-    ghost use Rattle.kahn_streams.specs.contracts.tree.Form as form;
-    ghost use Rattle.std.specs.Coded.{codes};
-    ghost use Rattle.kahn_sequential.specs.HeldRuns.{HeldRun};
-    ghost use Rattle.kahn_pool.specs.inner.Holding.{IsHeldAs, planned, run_of};
-
     ghost Value = { HeldRun };
 
     ghost coded = { Prim.hlevel (codes, action.the_row.coded, form.the_row.coded) };
 
     ghost view = { λ h. run_of h.network.now h.input (planned h.crew h.bound) h.idles.items h.verdict };
 
-    ghost invariant = { λ h. IsHeldAs h.network.now h.code.network.value h.input h.crew h.bound h.idles.items h.budget h.ends.items h.given.items h.verdict };
+    ghost invariant = { λ h. IsHeldAs h.network.now h.code.network.value h.input h.crew h.bound h.idles.items h.budget h.ends.items h.verdict };
 }
 
 // Copies of what the cell of each job kept.
@@ -99,7 +95,6 @@ impl<'n> Held<'n> {
             idles,
             ends: Vec::new(alloc),
             verdict: None,
-            given: Vec::new(alloc),
         })
     }
 
@@ -122,7 +117,6 @@ impl<'n> Held<'n> {
             return Err(HeldFault::BadMore);
         }
         let room = PartRoom::new(self.alloc, self.network.instances())?;
-        give_watched(self.network, &self.input, self.crew.watch, &mut self.given)?;
         let idles = mem::replace(&mut self.idles, Vec::new(self.alloc));
         let _program = self.network.program();
         let bound = self.bound + more;
@@ -176,58 +170,11 @@ impl<'n> Held<'n> {
         self.budget
     }
 
-    /// The verdict of the last part, if nothing changed since. Never allocates.
-    pub fn verdict(&self) -> Option<Verdict>
-        ensures { result ≡ self.now.verdict }
-    {
-        self.verdict
-    }
-
     /// Whether the last call that changed anything was a `resume` that answered. Then there is an answer.
     pub fn settled(&self) -> bool
         ensures { IsTrue result ↔ ((v : VerdictOf) × (self.now.verdict ≡ Some v)) }
     {
         self.verdict.is_some()
-    }
-
-    /// The events of all parts so far. Never allocates.
-    pub fn events(&self) -> u64
-        ensures { result ≡ sum_by seen_events self.now.cells }
-    {
-        self.bound - self.budget
-    }
-
-    /// The lines of the streams of an answer, in order. Fails only if memory was refused.
-    pub fn lines(&self) -> Result<Vec<Line>, NoMemory>
-        ensures { IfOk result (λ lines. lines.items ≡ stream_lines (network_of self.now.network) self.now.watch) }
-    {
-        lines_of(self.alloc, self.network, self.crew.watch)
-    }
-
-    /// What the stream of a line has so far, in place order. May be called only if the run is settled, and for a line of `lines`.
-    /// Never allocates.
-    pub fn stream(&self, line: Line) -> &[Carried]
-        requires settled { (v : VerdictOf) × (self.now.verdict ≡ Some v) }
-        requires line { IsLineOf self.now line }
-        ensures { map token_value result.now ≡ so_far self.now line }
-    {
-        let _program = self.network.program();
-        match line {
-            Line::Channel(channel) => match self.network.writer(channel) {
-                Some(side) => self.idles[side.instance].kept(side.parameter),
-                None => &self.given,
-            },
-            Line::Print(instance) => self.idles[instance].printed(),
-        }
-    }
-
-    /// How each instance stands, right for the input so far and the bound so far. May be called only if the run is settled.
-    /// Never allocates.
-    pub fn ends(&self) -> &[End]
-        requires { (v : VerdictOf) × (self.now.verdict ≡ Some v) }
-        ensures { (v : VerdictOf) → self.now.verdict ≡ Some v → IsRightSoFar self.now v result.now }
-    {
-        &self.ends
     }
 
     /// A copy of the answer, right for the input so far and the bound so far. May be called only if the run is settled.

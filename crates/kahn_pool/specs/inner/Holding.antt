@@ -1,7 +1,7 @@
 -- Inner. The jobs of a held run.
 use Rattle.std.specs.Prelude.{◌≡◌, ℕ, ◌+◌, ◌<◌, ◌≤◌, ◌^◌, List, [], length, map, sum_by, Option, Some, Err, Result, MatchResult, slice_get, vec_capacity}
-use Rattle.kahn_pool.specs.inner.Below.{Answer, AreIdle, AreJobsAt, CrewFault, Crewing, End, HaveGone, IsAsConfigured, IsCrew, IsLack, IsRight, Left, Lists, NoMemory, Plan, Program, Tasked, Token, CellView, Verdict, Work, cells_of, inputs_of, network_of, told_view}
-use Rattle.kahn_sequential.specs.{HeldRuns.HeldRun, HeldRuns.seen_events, HeldRuns.seen_of, inner.Bench.RunState, inner.Parts.AreEnded, inner.Parts.HaveRisen, inner.Parts.run_with, inner.Streams.AreAllGiven, inner.Streams.AreGiven, inner.Workbench.AllStandBy, inner.Workbench.Table}
+use Rattle.kahn_pool.specs.inner.Below.{Answer, AreIdle, AreJobsAt, CrewFault, Crewing, End, HaveGone, IsAsConfigured, IsCrew, IsLack, IsRight, Left, Lists, NoMemory, Plan, Program, Tasked, CellView, Verdict, Work, cells_of, inputs_of, network_of, told_view}
+use Rattle.kahn_sequential.specs.{HeldRuns.HeldRun, HeldRuns.seen_events, HeldRuns.seen_of, inner.Bench.RunState, inner.Parts.AreEnded, inner.Parts.HaveRisen, inner.Parts.run_with, inner.Workbench.AllStandBy, inner.Workbench.Table}
 use Rattle.kahn_pool.specs.{declared.part.PartRoom.PartRoom, declared.part.Stopped.Stopped, declared.plan.RunPart.RunPart, declared.workers.HandRoom.HandRoom}
 
 -- the cell without its input
@@ -31,20 +31,18 @@ planned c bound = record { watch = c.watch; workers = c.workers; quantum = c.qua
 abbrev pub run_of : Program → Lists → Plan → List Work → Option Verdict → HeldRun
 run_of t lists plan ws verdict = run_with t lists plan.watch plan (cells_of ws) verdict
 
--- all that it keeps; the tokens that are lent of a watched input channel are its whole list where there is a verdict
-pub record IsHolding (t compiled : Program) (lists : Lists) (plan : Plan) (ws : List Work) (budget : ℕ) (ends : List End) (given : List Token) (verdict : Option Verdict) : Type 0 where
+-- all that it keeps
+pub record IsHolding (t compiled : Program) (lists : Lists) (plan : Plan) (ws : List Work) (budget : ℕ) (ends : List End) (verdict : Option Verdict) : Type 0 where
   pub code : compiled ≡ t
   pub fits : length lists ≡ length (network_of t).channels
   pub few : plan.bound < 2 ^ 48
   pub held : AreHeld t lists plan.watch plan.bound ws budget
   pub ended : AreEnded (held_state t lists plan.watch ws) plan.bound budget ends verdict
-  pub begun : AreGiven (network_of t) (inputs_of lists) plan.watch given
-  pub all : (v : Verdict) → verdict ≡ Some v → AreAllGiven (network_of t) (inputs_of lists) plan.watch given
 
 -- and they are those of the configuration
-abbrev pub IsHeldAs : Program → Program → Lists → Crewing → ℕ → List Work → ℕ → List End → List Token → Option Verdict → Type 0
-IsHeldAs t compiled lists crew bound ws budget ends given verdict =
-    IsHolding t compiled lists (planned crew bound) ws budget ends given verdict × (IsCrew crew × IsAsConfigured crew)
+abbrev pub IsHeldAs : Program → Program → Lists → Crewing → ℕ → List Work → ℕ → List End → Option Verdict → Type 0
+IsHeldAs t compiled lists crew bound ws budget ends verdict =
+    IsHolding t compiled lists (planned crew bound) ws budget ends verdict × (IsCrew crew × IsAsConfigured crew)
 
 -- the jobs of a part at rest, with so much left of the bound of all
 abbrev pub AreHeldBy : RunPart → List Work → ℕ → Type 0

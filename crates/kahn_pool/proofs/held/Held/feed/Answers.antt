@@ -1,12 +1,11 @@
-use Rattle.kahn_pool.proofs.Common.{ap, refl, subst, None, err_from_is_err_and, HasFed, HeldRun, IsUnfed, network_of, inputs_of, run_of, planned}
-use Rattle.kahn_pool.proofs.{Held_runs.goes_on_fed, Held_runs.holding_fed, Held_streams.given_on}
+use Rattle.kahn_pool.proofs.Common.{ap, refl, subst, None, err_from_is_err_and, HasFed, HeldRun, IsUnfed, run_of, planned}
+use Rattle.kahn_pool.proofs.Held_runs.{goes_on_fed, holding_fed}
 use Rattle.kahn_pool.proofs.held.Held.feed.Goals as goal
 
 pub invariant_of-self-2 : goal.invariant_of-self-2
 invariant_of-self-2 c =
     let i = c.self.inside in (
-      holding_fed i.network.now i.input (planned i.crew i.bound) i.idles.items i.verdict c.self.invariant.0 c.extend.new.self c.extend.ensures.grown c.extend.ensures.size
-          (given_on (network_of i.network.now) (inputs_of i.input) (inputs_of c.extend.new.self) i.crew.watch i.given.items c.extend.ensures.grown c.self.invariant.0.begun),
+      holding_fed i.network.now i.input (planned i.crew i.bound) i.idles.items i.verdict c.self.invariant.0 c.extend.new.self c.extend.ensures.grown c.extend.ensures.size,
       c.self.invariant.1,
     )
 

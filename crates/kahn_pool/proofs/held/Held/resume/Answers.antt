@@ -14,11 +14,11 @@ run_part-stopped-requires-clause-part g c κs within =
       held = rw e (held_more h.held c.args.more refl);
     }
 
-pub invariant_of-self-in-Err-NoMemory : goal.invariant_of-self-in-Err-NoMemory
-invariant_of-self-in-Err-NoMemory g c =
+pub invariant_of-self : goal.invariant_of-self
+invariant_of-self g c =
     let i = c.self.inside in (
       still_holding i.network.now i.input (planned i.crew i.bound) i.idles.items i.verdict c.self.invariant.0 c.args.more c.run_part-stopped.ensures (search rules)
-          c.if-self-more.false (search rules) c.in_ok-give_watched.ensures.begun c.in_ok-give_watched.ensures.all,
+          c.if-self-more.false (search rules),
       c.self.invariant.1,
     )
 

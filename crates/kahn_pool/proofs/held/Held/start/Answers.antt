@@ -1,19 +1,16 @@
-use Rattle.kahn_pool.proofs.Common.{arith, rules, refl, sym, ap, subst, Crewing, IsAsConfigured, IsCrew, network_of, inputs_of, cells_of, IsWatched, begun_none, none_done}
+use Rattle.kahn_pool.proofs.Common.{arith, refl, sym, ap, subst, Crewing, IsAsConfigured, IsCrew, cells_of, IsWatched, none_done}
 use Rattle.kahn_pool.proofs.held.Held.start.Goals as goal
 
 pub invariant_of-result : goal.invariant_of-result
 invariant_of-result c =
     let p = c.in_ok-plan.ensures in
-    let a = p.allowed in
-    let I = inputs_of c.args.input in (
+    let a = p.allowed in (
       record {
         code = c.in_ok-code.ensures;
         fits = c.requires.fits;
         few = rw p.rest.1 a.4;
         held = c.in_ok-idles.ensures.held _;
         ended = tt;
-        begun = λ channel e. begun_none (network_of c.args.network.now) I channel (I channel) c.new-2.result.items (search rules);
-        all = λ v e. absurd cc;
       },
       subst (λ (k : Crewing). IsCrew k × IsAsConfigured k) (sym c.of-crew.ensures) ((a.0, omega arith, a.1, a.2), (refl, refl)),
     )
