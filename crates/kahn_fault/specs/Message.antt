@@ -14,8 +14,8 @@ use Rattle.kahn_fault.specs.{declared.work.WorkFault.WorkFault, declared.fault.F
 use Rattle.kahn_fault.specs.declared.work.WorkFault.TheVariants as work
 
 -- the line went out, or after a fault of the writer a prefix of it, by at most one write for each of its bytes
-abbrev pub WritesCounted : {X E : Type 0} → Option (List ℕ) → Option (List ℕ) → Result X E → ℕ → ℕ → List ℕ → Type 0
-WritesCounted old new result before after line = Writes old new result line × (after ≤ before + length line)
+abbrev pub WritesCounted : {W C X E : Type 0} → (W → Option (List ℕ)) → (C → ℕ) → W → W → Result X E → C → C → List ℕ → Type 0
+WritesCounted contents count old new result before after line = Writes (contents old) (contents new) result line × (count after ≤ count before + length line)
 
 -- a line of words, of what stands between, and of more words
 abbrev pub between_line : List ℕ → List ℕ → List ℕ → List ℕ

@@ -1,6 +1,6 @@
 //! What the program says of a fault: one line.
 
-ghost use Rattle.std.specs.Prelude.{◌≡◌, ◌<◌, ◌≤◌, List, ℕ, length, decimal};
+ghost use Rattle.std.specs.Prelude.{◌≡◌, ◌≤◌, List, ℕ, length, decimal};
 ghost use Rattle.kahn_streams.specs.Written.{Writes};
 ghost use Rattle.kahn_texts.specs.Flushes.{FlushesOnce};
 ghost use Rattle.kahn_fault.specs.Message.{WritesCounted, numbered_line, between_line, place_line, placed_line, what_words, syntax_span, syntax_words, check_span, check_words, entry_line, text_line, run_line, work_line, read_line, path_words, fault_text};
@@ -10,12 +10,10 @@ use crate::fault::Fault;
 use crate::work::WorkFault;
 use itoa::Buffer;
 use kahn_check::CheckFault;
-use kahn_streams::{InputFault, RunFault, Span, Steps};
+use kahn_streams::{InputFault, RunFault, Span};
 use kahn_syntax::{SyntaxFault, What};
-use kahn_texts::{ReadFault, TextFault, WriteFault, flush_counted, put_line};
+use kahn_texts::{CallCount, ReadFault, TextFault, WriteFault, flush, put_line, uncounted};
 use std::io::Write;
-use std::marker::Brand;
-use std::sync::ledger::{Blank, Ledger};
 
 /// What a line says.
 #[derive(Clone, Copy)]
@@ -29,42 +27,42 @@ enum Says<'a> {
 }
 
 /// Writes a line of words, of what stands between, and of more words.
-fn put_between<'a, W: Write, L: Ledger>(
+fn put_between<'a, W: Write, C: CallCount>(
     writer: &mut W,
     before: &'a str,
     between: &'a str,
     after: &'a str,
-    writes: &mut Steps<L>,
+    writes: &mut C,
 ) -> Result<(), WriteFault>
-    ensures { WritesCounted (W.contents writer.old) (W.contents writer.new) result writes.old writes.new (between_line before.now between.now after.now) }
+    ensures { WritesCounted W.contents C.count writer.old writer.new result writes.old writes.new (between_line before.now between.now after.now) }
 {
     let (before, between, after) = (before.as_bytes(), between.as_bytes(), after.as_bytes());
     put_line(writer, &[b"kahn: ", before, between, after, b"\n"], writes)
 }
 
 /// Writes a line with a number between its words.
-fn put_number<W: Write, L: Ledger>(
+fn put_number<W: Write, C: CallCount>(
     writer: &mut W,
     before: &str,
     number: usize,
     after: &str,
-    writes: &mut Steps<L>,
+    writes: &mut C,
 ) -> Result<(), WriteFault>
-    ensures { WritesCounted (W.contents writer.old) (W.contents writer.new) result writes.old writes.new (between_line before.now (decimal number) after.now) }
+    ensures { WritesCounted W.contents C.count writer.old writer.new result writes.old writes.new (between_line before.now (decimal number) after.now) }
 {
     let mut buffer = Buffer::new();
     put_between(writer, before, buffer.format(number), after, writes)
 }
 
 /// Writes a line with two numbers before its words.
-fn put_place<'a, W: Write, L: Ledger>(
+fn put_place<'a, W: Write, C: CallCount>(
     writer: &mut W,
     line: &'a str,
     column: &'a str,
     words: &'a str,
-    writes: &mut Steps<L>,
+    writes: &mut C,
 ) -> Result<(), WriteFault>
-    ensures { WritesCounted (W.contents writer.old) (W.contents writer.new) result writes.old writes.new (numbered_line line.now column.now words.now) }
+    ensures { WritesCounted W.contents C.count writer.old writer.new result writes.old writes.new (numbered_line line.now column.now words.now) }
 {
     let (line, column, words) = (line.as_bytes(), column.as_bytes(), words.as_bytes());
     put_line(
@@ -75,15 +73,15 @@ fn put_place<'a, W: Write, L: Ledger>(
 }
 
 /// Writes a line with the place of a byte of the program text.
-fn put_byte<W: Write, L: Ledger>(
+fn put_byte<W: Write, C: CallCount>(
     writer: &mut W,
     program: &str,
     from: usize,
     words: &str,
-    writes: &mut Steps<L>,
+    writes: &mut C,
 ) -> Result<(), WriteFault>
     requires { from ≤ length program.now }
-    ensures { WritesCounted (W.contents writer.old) (W.contents writer.new) result writes.old writes.new (place_line program.now from words.now) }
+    ensures { WritesCounted W.contents C.count writer.old writer.new result writes.old writes.new (place_line program.now from words.now) }
 {
     let (line, column) = Span { from, to: from }.place(program);
     let mut first = Buffer::new();
@@ -94,14 +92,14 @@ fn put_byte<W: Write, L: Ledger>(
 }
 
 /// Writes a line with the place of a byte, if there is one.
-fn put_placed<W: Write, L: Ledger>(
+fn put_placed<W: Write, C: CallCount>(
     writer: &mut W,
     program: &str,
     place: Option<Span>,
     words: &str,
-    writes: &mut Steps<L>,
+    writes: &mut C,
 ) -> Result<(), WriteFault>
-    ensures { WritesCounted (W.contents writer.old) (W.contents writer.new) result writes.old writes.new (placed_line program.now place words.now) }
+    ensures { WritesCounted W.contents C.count writer.old writer.new result writes.old writes.new (placed_line program.now place words.now) }
 {
     match place {
         Some(span) => put_byte(writer, program, span.from.min(program.len()), words, writes),
@@ -110,13 +108,13 @@ fn put_placed<W: Write, L: Ledger>(
 }
 
 /// Writes a line.
-fn put_said<W: Write, L: Ledger>(
+fn put_said<W: Write, C: CallCount>(
     writer: &mut W,
     program: &str,
     said: Says<'_>,
-    writes: &mut Steps<L>,
+    writes: &mut C,
 ) -> Result<(), WriteFault>
-    ensures { WritesCounted (W.contents writer.old) (W.contents writer.new) result writes.old writes.new (said_line program.now said.entry) }
+    ensures { WritesCounted W.contents C.count writer.old writer.new result writes.old writes.new (said_line program.now said.entry) }
 {
     match said {
         Says::Words(first, second) => put_between(writer, first, second, "", writes),
@@ -298,55 +296,19 @@ fn fault_said(fault: &Fault) -> Says<'_>
     }
 }
 
-/// Writes the line of a fault.
-fn put_fault<W: Write, L: Ledger>(
-    fault: &Fault,
-    program: &str,
-    writer: &mut W,
-    writes: &mut Steps<L>,
-) -> Result<(), WriteFault>
-    ensures { WritesCounted (W.contents writer.old) (W.contents writer.new) result writes.old writes.new (fault_text program.now fault.now) }
-{
-    put_said(writer, program, fault_said(fault), writes)
-}
-
 /// Writes the line of a fault as `fault_line` does, and counts its calls: at most one write for each byte of the line, and one flush.
-pub fn line_counted<W: Write, L: Ledger, M: Ledger>(
+pub fn line_counted<W: Write, C: CallCount, D: CallCount>(
     fault: &Fault,
     program: &str,
     writer: &mut W,
-    writes: &mut Steps<L>,
-    flushes: &mut Steps<M>,
+    writes: &mut C,
+    flushes: &mut D,
 ) -> Result<(), WriteFault>
-    ensures line { WritesCounted (W.contents writer.old) (W.contents writer.new) result writes.old writes.new (fault_text program.now fault.now) }
-    ensures once { FlushesOnce result flushes.old flushes.new }
+    ensures line { WritesCounted W.contents C.count writer.old writer.new result writes.old writes.new (fault_text program.now fault.now) }
+    ensures once { FlushesOnce result (D.count flushes.old) (D.count flushes.new) }
 {
-    put_fault(fault, program, writer, writes)?;
-    flush_counted(writer, flushes)
-}
-
-/// A fault, and the program text that its spans are of.
-#[derive(Clone, Copy)]
-struct PlacedFault<'a> {
-    fault: &'a Fault,
-    program: &'a str,
-}
-
-/// Opens both counts, and writes the line of a fault.
-fn line_opened<W: Write, L: Ledger, M: Ledger>(
-    writer: &mut W,
-    first: Blank,
-    second: Blank,
-    placed: &PlacedFault<'_>,
-) -> Result<(), WriteFault>
-    requires writes { (first.name ≡ L.name) × (first.parts ≡ L.parts) × (0 < first.parts) }
-    requires flushes { (second.name ≡ M.name) × (second.parts ≡ M.parts) × (0 < second.parts) }
-    ensures { Writes (W.contents writer.old) (W.contents writer.new) result (fault_text placed.now.program.now placed.now.fault.now) }
-{
-    let mut writes = Steps::<L>::open(first);
-    let mut flushes = Steps::<M>::open(second);
-    let program = placed.program;
-    line_counted(placed.fault, program, writer, &mut writes, &mut flushes)
+    put_said(writer, program, fault_said(fault), writes)?;
+    flush(writer, flushes)
 }
 
 /// Writes the line of a fault and a line feed, and flushes. A span in the fault is one of the program text; one beyond it
@@ -354,6 +316,5 @@ fn line_opened<W: Write, L: Ledger, M: Ledger>(
 pub fn fault_line<W: Write>(fault: &Fault, program: &str, writer: &mut W) -> Result<(), WriteFault>
     ensures { Writes (W.contents writer.old) (W.contents writer.new) result (fault_text program.now fault.now) }
 {
-    let placed = PlacedFault { fault, program };
-    line_opened::<W, Brand, Brand>(writer, Blank::new(1), Blank::new(1), &placed)
+    line_counted(fault, program, writer, &mut uncounted(), &mut uncounted())
 }

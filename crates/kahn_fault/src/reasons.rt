@@ -82,18 +82,7 @@ pub fn shown_path(alloc: Global, path: &str) -> Result<String, AllocError>
 
 /// Returns that, or the path itself if memory is refused for it.
 fn shown_or(alloc: Global, path: String) -> String {
-    match shown_path(alloc, path.as_str()) {
-        Ok(shown) => shown,
-        Err(_) => path,
-    }
-}
-
-/// The same for a path, if one is given.
-fn shown_if(alloc: Global, path: Option<String>) -> Option<String> {
-    match path {
-        Some(path) => Some(shown_or(alloc, path)),
-        None => None,
-    }
+    shown_path(alloc, path.as_str()).unwrap_or(path)
 }
 
 /// Returns a fault with its path as it is shown.
@@ -102,7 +91,9 @@ fn shown_fault(alloc: Global, fault: Fault) -> Fault
 {
     match fault {
         Fault::Open(path) => Fault::Open(shown_or(alloc, path)),
-        Fault::Program(path, fault) => Fault::Program(shown_if(alloc, path), fault),
+        Fault::Program(path, fault) => {
+            Fault::Program(path.map(|path| shown_or(alloc, path)), fault)
+        }
         Fault::InputText(path, fault) => Fault::InputText(shown_or(alloc, path), fault),
         Fault::Work(fault) => Fault::Work(fault),
     }

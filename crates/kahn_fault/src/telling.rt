@@ -1,6 +1,6 @@
 //! What a program reports of its run at the end.
 
-ghost use Rattle.std.specs.Prelude.{◌≡◌, true};
+ghost use Rattle.std.specs.Prelude.{◌≡◌};
 ghost use Rattle.kahn_fault.specs.{Status.status_of, Places.fault_span, Telling.explain_line, Telling.pointer_text, Telling.has_place, Telling.told_text};
 ghost use Rattle.kahn_streams.specs.Written.{Writes};
 
@@ -43,9 +43,7 @@ fn fault_span(fault: WorkFault) -> Option<Span>
     match fault {
         WorkFault::Syntax(fault) => syntax_span(fault),
         WorkFault::Check(fault) => check_span(fault),
-        WorkFault::Text(_) => None,
-        WorkFault::Run(_) => None,
-        WorkFault::Write(_) => None,
+        WorkFault::Text(_) | WorkFault::Run(_) | WorkFault::Write(_) => None,
     }
 }
 
@@ -54,21 +52,9 @@ fn has_place(fault: &Fault) -> bool
     ensures { result ≡ has_place fault.now }
 {
     match fault {
-        Fault::Open(_) => false,
-        Fault::Program(_, _) => false,
-        Fault::InputText(_, _) => false,
+        Fault::Open(_) | Fault::Program(_, _) | Fault::InputText(_, _) => false,
         Fault::Work(fault) => fault_span(*fault).is_some(),
     }
-}
-
-/// Writes which program says more.
-fn put_explain<W: Write>(path: &str, writer: &mut W) -> Result<(), WriteFault>
-    ensures { Writes (W.contents writer.old) (W.contents writer.new) result (explain_line true path.now) }
-{
-    write_line(
-        writer,
-        &[b"kahn_explain ", path.as_bytes(), b" says more\n"],
-    )
 }
 
 /// Writes which program says more of a fault.
@@ -76,7 +62,10 @@ fn put_more<W: Write>(fault: &Fault, path: &str, writer: &mut W) -> Result<(), W
     ensures { Writes (W.contents writer.old) (W.contents writer.new) result (explain_line (has_place fault.now) path.now) }
 {
     if has_place(fault) {
-        return put_explain(path, writer);
+        return write_line(
+            writer,
+            &[b"kahn_explain ", path.as_bytes(), b" says more\n"],
+        );
     }
     Ok(())
 }

@@ -36,10 +36,7 @@ pub fn program_of<R: Read>(
     ensures all { IfOk result (λ text. GivesAll (R.remaining reader.old) (R.remaining reader.new) most_program_bytes (string_bytes text)) }
     ensures fault { IfErr result (StandsForProgram path (R.remaining reader.old) (R.remaining reader.new)) }
 {
-    match read_text(alloc, reader, MOST_PROGRAM_BYTES) {
-        Ok(text) => Ok(text),
-        Err(fault) => Err(Fault::Program(path, fault)),
-    }
+    read_text(alloc, reader, MOST_PROGRAM_BYTES).map_err(|fault| Fault::Program(path, fault))
 }
 
 /// Reads an input text: all that the reader has, within the limit. A fault names the path that was given.
@@ -47,10 +44,7 @@ pub fn input_of<R: Read>(alloc: Global, reader: &mut R, path: String) -> Result<
     ensures all { IfOk result (λ text. GivesAll (R.remaining reader.old) (R.remaining reader.new) most_input_bytes (string_bytes text)) }
     ensures fault { IfErr result (StandsForInput path (R.remaining reader.old) (R.remaining reader.new)) }
 {
-    match read_text(alloc, reader, MOST_INPUT_BYTES) {
-        Ok(text) => Ok(text),
-        Err(fault) => Err(Fault::InputText(path, fault)),
-    }
+    read_text(alloc, reader, MOST_INPUT_BYTES).map_err(|fault| Fault::InputText(path, fault))
 }
 
 /// Reads the program text from the file of that path, or from standard input.

@@ -30,17 +30,6 @@ pub enum WorkFault {
     Write(WriteFault),
 }
 
-impl From<SyntaxFault> for WorkFault {
-    ghost use Rattle.std.specs.Prelude.{◌≡◌};
-    ghost use Rattle.kahn_fault.specs.declared.work.WorkFault.TheVariants.{Syntax};
-
-    ghost from_gives = { λ fault told. told ≡ Syntax fault };
-
-    fn from(fault: SyntaxFault) -> WorkFault {
-        WorkFault::Syntax(fault)
-    }
-}
-
 impl From<TextFault> for WorkFault {
     ghost use Rattle.std.specs.Prelude.{◌≡◌};
     ghost use Rattle.kahn_fault.specs.declared.work.WorkFault.TheVariants.{Text};
@@ -57,7 +46,10 @@ impl From<TextFault> for WorkFault {
 pub fn checked(alloc: Global, program: &str) -> Result<Network, WorkFault>
     ensures { MatchResult result (IsChecked program.now) (IsUnchecked program.now) }
 {
-    let tree = parse(alloc, program)?;
+    let tree = match parse(alloc, program) {
+        Ok(tree) => tree,
+        Err(fault) => return Err(WorkFault::Syntax(fault)),
+    };
     match check(alloc, tree) {
         Ok(network) => Ok(network),
         Err(fault) => Err(WorkFault::Check(fault)),

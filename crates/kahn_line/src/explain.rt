@@ -5,8 +5,8 @@ ghost use Rattle.clap.specs.Words.{app_of};
 ghost use Rattle.kahn_line.specs.{Explain.IsExplain, Explain.explain_app, Line.IsRead};
 
 use crate::line::{
-    LineFault, bare, bound_arg, config_of, copied, file_copied, flag_arg, input_arg, program_arg,
-    quantum_arg, text_arg, was_given, workers_arg,
+    LineFault, bare, bound_arg, config_of, copied, file_copied, flag_arg, input_arg, number_arg,
+    program_arg, quantum_arg, text_arg, was_given,
 };
 use clap::Command;
 use kahn_streams::Config;
@@ -144,7 +144,7 @@ fn explain_command<'a>(alloc: Global) -> Result<Command<'a>, AllocError>
     bare(alloc, "kahn_explain", USAGE, ABOUT, MORE)?
         .arg(program_arg(alloc))?
         .arg(input_arg(alloc))?
-        .arg(workers_arg(alloc, "4", WORKERS))?
+        .arg(number_arg(alloc, "workers", 1, 16, "4", WORKERS))?
         .arg(quantum_arg(alloc))?
         .arg(bound_arg(alloc))?
         .arg(flag_arg(alloc, "all", "Tells each process that hasn't ended"))?

@@ -59,9 +59,14 @@ Exit status:
   5  a file can't be read or isn't UTF-8, or the report can't be written
   6  run refused: the watched channel isn't declared, or no thread could be started";
 
-// What the help says of the input text.
+// What the help says of the options.
 static INPUT: &str =
     "File of the input text, with lines such as `A: 1 2 3` (an input channel and its values); /dev/stdin is standard input";
+
+static WORKERS: &str = "Threads at most, as many as have work, 1 to 16";
+
+static WATCH: &str =
+    "Reports one more channel besides the output channels; kahn_explain --trace shows all";
 
 /// What the command line asks for.
 #[derive(Debug, Drop)]
@@ -157,14 +162,6 @@ pub(crate) fn bound_arg<'a>(alloc: Global) -> Arg<'a>
     number_arg(alloc, "bound", 0, 281_474_976_710_655, "1000000", help)
 }
 
-/// Makes the option of the number of workers, and its default.
-pub(crate) fn workers_arg<'a>(alloc: Global, given: &'a str, help: &'a str) -> Arg<'a>
-    ensures rule { rule_of result ≡ number_rule (codes "workers") 1 16 given.entry.now }
-    ensures local { result.global ≡ false }
-{
-    number_arg(alloc, "workers", 1, 16, given, help)
-}
-
 /// Makes the option of the quantum.
 pub(crate) fn quantum_arg<'a>(alloc: Global) -> Arg<'a>
     ensures rule { rule_of result ≡ number_rule (codes "quantum") 1 1000000 (codes "1000") }
@@ -172,14 +169,6 @@ pub(crate) fn quantum_arg<'a>(alloc: Global) -> Arg<'a>
 {
     let help = "Events that a process does at a time, 1 to 1000000";
     number_arg(alloc, "quantum", 1, 1_000_000, "1000", help)
-}
-
-/// Makes the option of the watched channel.
-pub(crate) fn watch_arg<'a>(alloc: Global, help: &'a str) -> Arg<'a>
-    ensures rule { rule_of result ≡ text_rule (codes "watch") }
-    ensures local { result.global ≡ false }
-{
-    text_arg(alloc, "watch", "NAME", help)
 }
 
 /// Makes an option without a text.
@@ -230,13 +219,10 @@ fn command<'a>(alloc: Global) -> Result<Command<'a>, AllocError>
     bare(alloc, "kahn", USAGE, ABOUT, MORE)?
         .arg(program_arg(alloc))?
         .arg(input_arg(alloc))?
-        .arg(workers_arg(alloc, "4", "Threads at most, as many as have work, 1 to 16"))?
+        .arg(number_arg(alloc, "workers", 1, 16, "4", WORKERS))?
         .arg(quantum_arg(alloc))?
         .arg(bound_arg(alloc))?
-        .arg(watch_arg(
-            alloc,
-            "Reports one more channel besides the output channels; kahn_explain --trace shows all",
-        ))
+        .arg(text_arg(alloc, "watch", "NAME", WATCH))
 }
 
 /// Copies a text, if there is one.

@@ -5,8 +5,7 @@ ghost use Rattle.clap.specs.Words.{app_of, found_of, rule_of};
 ghost use Rattle.kahn_line.specs.{Line.IsRead, Live.IsLive, Live.at_end_rule, Live.live_app, Parts.found_texts, Parts.input_named, Parts.joined_words, Parts.set_line};
 
 use crate::line::{
-    LineFault, bare, config_of, file_copied, flag_arg, number_arg, quantum_arg, text_arg,
-    was_given, watch_arg,
+    LineFault, bare, config_of, file_copied, flag_arg, number_arg, quantum_arg, text_arg, was_given,
 };
 use crate::parts::{PlainNames, input_named, joined_words, plain_of, set_lines};
 use clap::{Arg, ArgAction, ArgMatches, Command};
@@ -125,7 +124,7 @@ fn live_command<'a>(alloc: Global) -> Result<Command<'a>, AllocError>
         )?
         .arg(quantum_arg(alloc))?
         .arg(number_arg(alloc, "step", 1, 281_474_976_710_655, "1000000", STEP))?
-        .arg(watch_arg(alloc, WATCH))?
+        .arg(text_arg(alloc, "watch", "NAME", WATCH))?
         .arg(flag_arg(alloc, "keep-going", KEEP_GOING))?
         .arg(flag_arg(alloc, "strict", STRICT))?
         .arg(at_end_arg(alloc))?

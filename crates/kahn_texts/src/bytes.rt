@@ -1,13 +1,11 @@
 //! Writing bytes.
 
-ghost use Rattle.std.specs.Prelude.{◌≡◌, ◌+◌, ◌<◌, ◌≤◌, IfSome, length, flat_map};
+ghost use Rattle.std.specs.Prelude.{◌≡◌, ◌+◌, ◌≤◌, IfSome, length, flat_map};
 ghost use Rattle.std.specs.Io.KnownBytes.{Keeps};
 ghost use Rattle.kahn_streams.specs.Written.{Writes};
 
-use kahn_streams::Steps;
+use crate::counts::{CallCount, uncounted};
 use std::io::Write;
-use std::marker::Brand;
-use std::sync::ledger::{Blank, Ledger};
 use thiserror::Error;
 
 /// Why a text wasn't written whole.
@@ -24,13 +22,13 @@ const ROOM: usize = 4096;
 
 /// Writes bytes, by as many writes as it takes.
 #[inline(always)]
-pub fn put<W: Write, L: Ledger>(
+pub fn put<W: Write, C: CallCount>(
     writer: &mut W,
     bytes: &[u8],
-    writes: &mut Steps<L>,
+    writes: &mut C,
 ) -> Result<(), WriteFault>
     ensures text { Writes (W.contents writer.old) (W.contents writer.new) result bytes.now }
-    ensures few { writes.new ≤ writes.old + length bytes.now }
+    ensures few { C.count writes.new ≤ C.count writes.old + length bytes.now }
 {
     let mut rest = bytes;
     while !rest.is_empty() {
@@ -46,13 +44,13 @@ pub fn put<W: Write, L: Ledger>(
 
 /// Writes pieces one after another.
 #[inline(always)]
-pub fn put_all<W: Write, L: Ledger>(
+pub fn put_all<W: Write, C: CallCount>(
     writer: &mut W,
     pieces: &[&[u8]],
-    writes: &mut Steps<L>,
+    writes: &mut C,
 ) -> Result<(), WriteFault>
     ensures text { Writes (W.contents writer.old) (W.contents writer.new) result (flat_map (λ piece. piece.now) pieces.now) }
-    ensures few { writes.new ≤ writes.old + length (flat_map (λ piece. piece.now) pieces.now) }
+    ensures few { C.count writes.new ≤ C.count writes.old + length (flat_map (λ piece. piece.now) pieces.now) }
 {
     for piece in pieces {
         put(writer, piece, writes)?;
@@ -76,13 +74,13 @@ fn joined<'a>(pieces: &[&[u8]], room: &'a mut [u8]) -> Option<&'a [u8]>
 }
 
 /// Writes the pieces of a line: by one write, if they have at most `ROOM` bytes and the writer takes them all.
-pub fn put_line<W: Write, L: Ledger>(
+pub fn put_line<W: Write, C: CallCount>(
     writer: &mut W,
     pieces: &[&[u8]],
-    writes: &mut Steps<L>,
+    writes: &mut C,
 ) -> Result<(), WriteFault>
     ensures text { Writes (W.contents writer.old) (W.contents writer.new) result (flat_map (λ piece. piece.now) pieces.now) }
-    ensures few { writes.new ≤ writes.old + length (flat_map (λ piece. piece.now) pieces.now) }
+    ensures few { C.count writes.new ≤ C.count writes.old + length (flat_map (λ piece. piece.now) pieces.now) }
 {
     let mut room = [0; ROOM];
     match joined(pieces, &mut room) {
@@ -91,43 +89,20 @@ pub fn put_line<W: Write, L: Ledger>(
     }
 }
 
-/// Flushes a writer, whose contents stay.
-pub(crate) fn flush<W: Write>(writer: &mut W) -> Result<(), WriteFault>
-    ensures { Keeps (W.contents writer.old) (W.contents writer.new) }
+/// Flushes a writer, whose contents stay, and counts it.
+pub fn flush<W: Write, C: CallCount>(writer: &mut W, flushes: &mut C) -> Result<(), WriteFault>
+    ensures kept { Keeps (W.contents writer.old) (W.contents writer.new) }
+    ensures once { C.count flushes.new ≡ C.count flushes.old + 1 }
 {
+    flushes.tick();
     writer.flush().map_err(|_| WriteFault::Failed)
 }
 
-/// The same, and counts it.
-pub fn flush_counted<W: Write, L: Ledger>(
-    writer: &mut W,
-    flushes: &mut Steps<L>,
-) -> Result<(), WriteFault>
-    ensures kept { Keeps (W.contents writer.old) (W.contents writer.new) }
-    ensures once { flushes.new ≡ flushes.old + 1 }
-{
-    flushes.tick();
-    flush(writer)
-}
-
-/// Opens a count, and writes a line.
-#[tactic(auto, using(crate::proofs::Writing::fails, crate::proofs::Writing::flushed))]
-fn write_line_opened<W: Write, L: Ledger>(
-    writer: &mut W,
-    blank: Blank,
-    pieces: &[&[u8]],
-) -> Result<(), WriteFault>
-    requires { (blank.name ≡ L.name) × (blank.parts ≡ L.parts) × (0 < blank.parts) }
-    ensures { Writes (W.contents writer.old) (W.contents writer.new) result (flat_map (λ piece. piece.now) pieces.now) }
-{
-    let mut writes = Steps::<L>::open(blank);
-    put_line(writer, pieces, &mut writes)?;
-    flush(writer)
-}
-
 /// Writes the pieces of a line, and flushes. After a fault a prefix of them went out. Never allocates.
+#[tactic(auto, using(crate::proofs::Writing::fails, crate::proofs::Writing::flushed))]
 pub fn write_line<W: Write>(writer: &mut W, pieces: &[&[u8]]) -> Result<(), WriteFault>
     ensures { Writes (W.contents writer.old) (W.contents writer.new) result (flat_map (λ piece. piece.now) pieces.now) }
 {
-    write_line_opened::<W, Brand>(writer, Blank::new(1), pieces)
+    put_line(writer, pieces, &mut uncounted())?;
+    flush(writer, &mut uncounted())
 }

@@ -5,10 +5,10 @@ ghost use Rattle.std.specs.Fmt.{signed_decimal};
 ghost use Rattle.kahn_streams.specs.{declared.value.Value.Value as ValueView, Written.value_text, Written.Writes};
 
 use crate::bytes::{WriteFault, put};
+use crate::counts::CallCount;
 use itoa::write_digits;
-use kahn_streams::{Carried, Steps, Value};
+use kahn_streams::{Carried, Value};
 use std::io::Write;
-use std::sync::ledger::Ledger;
 
 /// How many values one write has.
 const TOGETHER: usize = 32;
@@ -113,13 +113,13 @@ fn place_values<'a, F: Layout>(tokens: &[Carried], room: &'a mut [u8]) -> &'a [u
 }
 
 /// Writes the values of tokens, `TOGETHER` by one write.
-pub fn put_values<F: Layout, W: Write, L: Ledger>(
+pub fn put_values<F: Layout, W: Write, C: CallCount>(
     writer: &mut W,
     tokens: &[Carried],
-    writes: &mut Steps<L>,
+    writes: &mut C,
 ) -> Result<(), WriteFault>
     ensures text { Writes (W.contents writer.old) (W.contents writer.new) result (flat_map (λ token. F.text token.value) tokens.now) }
-    ensures few { writes.new ≤ writes.old + length (flat_map (λ token. F.text token.value) tokens.now) }
+    ensures few { C.count writes.new ≤ C.count writes.old + length (flat_map (λ token. F.text token.value) tokens.now) }
 {
     let mut room = [0; ROOM];
     for chunk in tokens.chunks(TOGETHER) {

@@ -6,7 +6,7 @@ ghost use Rattle.kahn_streams.specs.Inputs.{entry_of};
 
 use crate::heads::{head_of, is_blank};
 use crate::input::TextFault;
-use crate::values::{ValuesFault, read_values};
+use crate::values::read_values;
 use kahn_streams::Value;
 use std::alloc::{AllocError, Global};
 use thiserror::Error;
@@ -55,8 +55,7 @@ fn read_entry(alloc: Global, line: &[u8]) -> Result<(String, Vec<Value>), EntryF
     };
     let values = match read_values(alloc, head.rest) {
         Ok(values) => values,
-        Err(ValuesFault::NoValue) => return Err(EntryFault::NoValues),
-        Err(ValuesFault::NoMemory) => return Err(EntryFault::NoMemory),
+        Err(fault) => return Err(fault),
     };
     match String::from_str(alloc, head.name) {
         Ok(name) => Ok((name, values)),

@@ -1,7 +1,7 @@
 //! The name of an entry, before its colon.
 
 ghost use Rattle.std.specs.Prelude.{◌≡◌, ◌≤◌, length, ◌≢◌, ◌∷◌, ℕ, List, MatchOption, take, drop, not, IsTrue, ◌↔◌, All, true};
-ghost use Rattle.std.specs.{List.position, List.position_or_len, Str.IsUtf8};
+ghost use Rattle.std.specs.List.{position, position_or_len};
 ghost use Rattle.kahn_texts.specs.Formats.{IsHead, IsHeadless, IsName, is_blank as blank, is_word_byte as word_byte};
 
 use std::str;
@@ -95,20 +95,17 @@ fn is_name(word: &[u8]) -> bool
     }
 }
 
-/// Returns the text of a word.
-fn text_of(word: &[u8]) -> Option<&str>
-    ensures { MatchOption result (¬ IsUtf8 word.now) (λ text. text.now ≡ word.now) }
-{
-    str::from_utf8(word).ok()
-}
-
 /// Returns a word as a name, if it is one.
 #[tactic(auto, using(crate::proofs::Words::named))]
 fn name_of(word: &[u8]) -> Option<&str>
     requires { All (λ b. word_byte b ≡ true) word.now }
     ensures { MatchOption result (IsName word.now → ⊥) (λ name. IsName word.now × (name.now ≡ word.now)) }
 {
-    if is_name(word) { text_of(word) } else { None }
+    if is_name(word) {
+        str::from_utf8(word).ok()
+    } else {
+        None
+    }
 }
 
 /// Returns the name of a line and what comes after its colon.

@@ -2,6 +2,7 @@
 #![tactic(auto)]
 
 mod bytes;
+mod counts;
 mod digits;
 mod entries;
 mod heads;
@@ -15,13 +16,15 @@ mod values;
 mod write;
 
 pub use bytes::WriteFault;
+pub use counts::CallCount;
 pub use input::{TextFault, read_input};
 pub use read::{ReadFault, read_counted, read_text};
 pub use several::write_report_by;
 pub use write::{write_counted, write_report};
 
 // For the crates above.
-pub use bytes::{flush_counted, put, put_all, put_line, write_line};
+pub use bytes::{flush, put, put_all, put_line, write_line};
+pub use counts::uncounted;
 pub use digits::{Lined, Spaced, put_values};
 pub use entries::{EntryFault, MOST_BYTES, read_entries, read_line};
 pub use heads::{blanks, is_blank, word_bytes};

@@ -1,16 +1,16 @@
 //! The lines of streams, cut into pieces of about the same length.
 
-ghost use Rattle.std.specs.Prelude.{◌≡◌, ◌+◌, ◌<◌, ◌≤◌, ◌∷◌, ◌++◌, length, flat_map, All, IfOk, OnOk};
-ghost use Rattle.kahn_streams.specs.Written.{line_feed, Writes};
+ghost use Rattle.std.specs.Prelude.{◌≡◌, ◌<◌, ◌≤◌, ◌∷◌, ◌++◌, length, flat_map, All, IfOk, OnOk};
+ghost use Rattle.kahn_streams.specs.Written.{Writes};
 ghost use Rattle.kahn_texts.specs.{Formats.IsLine, Formats.line_head, Formats.stream_text, Formats.token_text, inner.Pieces.AreAdded, inner.Pieces.ArePieces, inner.Pieces.IsMovedOn, inner.Pieces.IsPiece, inner.Pieces.piece_text};
 
-use crate::bytes::{WriteFault, put};
+use crate::bytes::WriteFault;
+use crate::counts::uncounted;
 use crate::digits::{Spaced, put_values};
-use crate::write::{put_head, put_streams};
-use kahn_streams::{Carried, Line, Network, Steps, Stream};
+use crate::write::{put_closing, put_head, put_streams};
+use kahn_streams::{Carried, Line, Network, Stream};
 use std::alloc::{AllocError, Global};
 use std::io::Write;
-use std::sync::ledger::Ledger;
 
 /// A piece of the lines of streams.
 #[derive(Clone, Copy)]
@@ -27,49 +27,32 @@ pub(crate) enum Piece<'a> {
 
 /// Writes what a line begins with, and its first values.
 #[tactic(auto, using(crate::proofs::Writing::fails, crate::proofs::Writing::stops, crate::proofs::Writing::goes_on))]
-fn put_opening<W: Write, L: Ledger>(
+fn put_opening<W: Write>(
     writer: &mut W,
     network: &Network,
     line: Line,
     tokens: &[Carried],
-    writes: &mut Steps<L>,
 ) -> Result<(), WriteFault>
     requires { IsLine network.now line }
-    ensures text { Writes (W.contents writer.old) (W.contents writer.new) result (line_head network.now line ++ flat_map token_text tokens.now) }
-    ensures few { writes.new ≤ writes.old + length (line_head network.now line ++ flat_map token_text tokens.now) }
+    ensures { Writes (W.contents writer.old) (W.contents writer.new) result (line_head network.now line ++ flat_map token_text tokens.now) }
 {
-    put_head(writer, network, line, writes)?;
-    put_values::<Spaced, _, _>(writer, tokens, writes)
-}
-
-/// Writes the last values of a line, and its end.
-#[tactic(auto, using(crate::proofs::Writing::fails, crate::proofs::Writing::stops, crate::proofs::Writing::goes_on))]
-fn put_closing<W: Write, L: Ledger>(
-    writer: &mut W,
-    tokens: &[Carried],
-    writes: &mut Steps<L>,
-) -> Result<(), WriteFault>
-    ensures text { Writes (W.contents writer.old) (W.contents writer.new) result (flat_map token_text tokens.now ++ line_feed) }
-    ensures few { writes.new ≤ writes.old + length (flat_map token_text tokens.now ++ line_feed) }
-{
-    put_values::<Spaced, _, _>(writer, tokens, writes)?;
-    put(writer, b"\n", writes)
+    put_head(writer, network, line, &mut uncounted())?;
+    put_values::<Spaced, _, _>(writer, tokens, &mut uncounted())
 }
 
 /// Writes a piece.
-pub(crate) fn put_piece<W: Write, L: Ledger>(
+pub(crate) fn put_piece<W: Write>(
     writer: &mut W,
     network: &Network,
     piece: Piece<'_>,
-    writes: &mut Steps<L>,
 ) -> Result<(), WriteFault>
     requires { IsPiece network.now piece }
-    ensures text { Writes (W.contents writer.old) (W.contents writer.new) result (piece_text network.now piece.entry) }
-    ensures few { writes.new ≤ writes.old + length (piece_text network.now piece.entry) }
+    ensures { Writes (W.contents writer.old) (W.contents writer.new) result (piece_text network.now piece.entry) }
 {
+    let writes = &mut uncounted();
     match piece {
         Piece::Lines(streams) => put_streams(writer, network, streams, writes),
-        Piece::Opening(line, tokens) => put_opening(writer, network, line, tokens, writes),
+        Piece::Opening(line, tokens) => put_opening(writer, network, line, tokens),
         Piece::Middle(tokens) => put_values::<Spaced, _, _>(writer, tokens, writes),
         Piece::Closing(tokens) => put_closing(writer, tokens, writes),
     }

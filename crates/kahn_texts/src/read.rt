@@ -4,11 +4,9 @@ ghost use Rattle.std.specs.Prelude.{◌≡◌, ◌+◌, ◌<◌, ◌≤◌, Matc
 ghost use Rattle.std.specs.Str.{IsUtf8};
 ghost use Rattle.kahn_texts.specs.Reading.{IsTextRead};
 
-use kahn_streams::Steps;
+use crate::counts::{CallCount, uncounted};
 use std::alloc::Global;
 use std::io::Read;
-use std::marker::Brand;
-use std::sync::ledger::{Blank, Ledger};
 use thiserror::Error;
 
 /// Why a text wasn't read.
@@ -29,15 +27,15 @@ pub enum ReadFault {
 }
 
 /// Reads a text to its end, and counts the reads.
-pub fn read_counted<R: Read, L: Ledger>(
+pub fn read_counted<R: Read, C: CallCount>(
     alloc: Global,
     reader: &mut R,
     limit: usize,
-    reads: &mut Steps<L>,
+    reads: &mut C,
 ) -> Result<String, ReadFault>
     requires { limit < usize.MAX }
     ensures text { IsTextRead (R.remaining reader.old) (R.remaining reader.new) limit result }
-    ensures few { reads.new ≤ reads.old + limit + 2 }
+    ensures few { C.count reads.new ≤ C.count reads.old + limit + 2 }
 {
     let mut bytes = Vec::new(alloc);
     let mut chunk = [0u8; 4096];
@@ -61,25 +59,7 @@ pub fn read_counted<R: Read, L: Ledger>(
 fn text_of(bytes: Vec<u8>) -> Result<String, ReadFault>
     ensures { MatchResult result (λ text. string_bytes text ≡ bytes.items) (λ fault. (fault ≡ ReadFault.NotUtf8) × ¬ IsUtf8 bytes.items) }
 {
-    match String::from_utf8(bytes) {
-        Ok(text) => Ok(text),
-        Err(_) => Err(ReadFault::NotUtf8),
-    }
-}
-
-/// Opens a count, and reads.
-fn read_opened<R: Read, L: Ledger>(
-    alloc: Global,
-    reader: &mut R,
-    blank: Blank,
-    limit: usize,
-) -> Result<String, ReadFault>
-    requires blank { (blank.name ≡ L.name) × (blank.parts ≡ L.parts) × (0 < blank.parts) }
-    requires limit { limit < usize.MAX }
-    ensures { IsTextRead (R.remaining reader.old) (R.remaining reader.new) limit result }
-{
-    let mut reads = Steps::<L>::open(blank);
-    read_counted(alloc, reader, limit, &mut reads)
+    String::from_utf8(bytes).map_err(|_| ReadFault::NotUtf8)
 }
 
 /// Reads a text to the end of input, or until one byte more than the limit came. What was read is gone from the reader.
@@ -87,5 +67,5 @@ pub fn read_text<R: Read>(alloc: Global, reader: &mut R, limit: usize) -> Result
     requires { limit < usize.MAX }
     ensures { IsTextRead (R.remaining reader.old) (R.remaining reader.new) limit result }
 {
-    read_opened::<R, Brand>(alloc, reader, Blank::new(1), limit)
+    read_counted(alloc, reader, limit, &mut uncounted())
 }

@@ -1,19 +1,19 @@
 //! The report text, formatted by several threads.
 
-ghost use Rattle.std.specs.Prelude.{◌≡◌, ℕ, ◌+◌, ◌<◌, ◌≤◌, length, flat_map, All, IfOk, IfSome, slice_index_or};
+ghost use Rattle.std.specs.Prelude.{◌≡◌, ◌<◌, length, flat_map, All, IfOk, IfSome};
 ghost use Rattle.kahn_streams.specs.Written.{Writes};
-ghost use Rattle.kahn_texts.specs.{Flushes.FlushesOnce, Formats.HasItsLines, Formats.IsLine, Formats.report_text, Formats.stream_text, inner.Pieces.AreAllMadeTexts, inner.Pieces.AreMadeTexts, inner.Pieces.AreNoTexts, inner.Pieces.ArePieceTexts, inner.Pieces.IsMadeText, inner.Pieces.IsPiece, inner.Pieces.IsPieceText, inner.Pieces.piece_text};
+ghost use Rattle.kahn_texts.specs.{Formats.HasItsLines, Formats.IsLine, Formats.report_text, Formats.stream_text, inner.Pieces.AreAllMadeTexts, inner.Pieces.AreMadeTexts, inner.Pieces.AreNoTexts, inner.Pieces.ArePieceTexts, inner.Pieces.IsMadeText, inner.Pieces.IsPiece, inner.Pieces.IsPieceText, inner.Pieces.piece_text};
 ghost use denote.Param.Send.{IsSync};
 
 use crate::bytes::{WriteFault, put};
+use crate::counts::uncounted;
+use crate::news::write_closing;
 use crate::pieces::{Piece, part_size, pieces_of, put_piece, weight_of};
-use crate::write::{end_counted, put_streams, write_report};
-use kahn_streams::{Answer, Network, Steps, Stream};
+use crate::write::{put_streams, write_report};
+use kahn_streams::{Answer, Network, Stream};
 use std::alloc::{AllocError, Global};
 use std::io::Write;
-use std::marker::Brand;
 use std::sync::atomic::{AtomicUsize, Ordering};
-use std::sync::ledger::{Blank, Ledger};
 use std::thread;
 use std::thread::{Threads, available_parallelism};
 
@@ -103,33 +103,18 @@ fn with_one(
     Ok(by_thread)
 }
 
-/// Opens a count, and formats a piece.
-fn text_opened<L: Ledger>(
-    alloc: Global,
-    blank: Blank,
-    network: &Network,
-    piece: Piece<'_>,
-) -> Option<Vec<u8>>
-    requires blank { (blank.name ≡ L.name) × (blank.parts ≡ L.parts) × (0 < blank.parts) }
-    requires piece { IsPiece network.now piece }
-    ensures { IsPieceText network.now piece.entry result }
-{
-    let Ok(mut text) = Vec::with_capacity(alloc, ROOM) else {
-        return None;
-    };
-    let mut writes = Steps::<L>::open(blank);
-    match put_piece(&mut text, network, piece, &mut writes) {
-        Ok(()) => Some(text),
-        Err(_) => None,
-    }
-}
-
 /// Formats a piece; None if memory was refused.
 fn text_of(alloc: Global, network: &Network, piece: Piece<'_>) -> Option<Vec<u8>>
     requires { IsPiece network.now piece }
     ensures { IsPieceText network.now piece.entry result }
 {
-    text_opened::<Brand>(alloc, Blank::new(1), network, piece)
+    let Ok(mut text) = Vec::with_capacity(alloc, ROOM) else {
+        return None;
+    };
+    match put_piece(&mut text, network, piece) {
+        Ok(()) => Some(text),
+        Err(_) => None,
+    }
 }
 
 /// Formats the next piece that no thread has taken.
@@ -230,80 +215,72 @@ fn texts_of<R: Threads + Sync>(
 }
 
 /// Writes a piece, whose text may be at hand.
-fn put_text<W: Write, L: Ledger>(
+fn put_text<W: Write>(
     writer: &mut W,
     network: &Network,
     piece: Piece<'_>,
     text: Option<&Option<Vec<u8>>>,
-    writes: &mut Steps<L>,
 ) -> Result<(), WriteFault>
     requires piece { IsPiece network.now piece }
     requires text { IfSome text (λ it. IsPieceText network.now piece it.now) }
-    ensures text { Writes (W.contents writer.old) (W.contents writer.new) result (piece_text network.now piece.entry) }
-    ensures few { writes.new ≤ writes.old + length (piece_text network.now piece.entry) }
+    ensures { Writes (W.contents writer.old) (W.contents writer.new) result (piece_text network.now piece.entry) }
 {
     match text {
-        Some(Some(bytes)) => put(writer, bytes, writes),
-        _ => put_piece(writer, network, piece, writes),
+        Some(Some(bytes)) => put(writer, bytes, &mut uncounted()),
+        _ => put_piece(writer, network, piece),
     }
 }
 
 /// Writes pieces; the texts of the first ones are at hand.
-fn put_texts<W: Write, L: Ledger>(
+fn put_texts<W: Write>(
     writer: &mut W,
     network: &Network,
     pieces: &[Piece<'_>],
     texts: &[Option<Vec<u8>>],
-    writes: &mut Steps<L>,
 ) -> Result<(), WriteFault>
     requires pieces { All (IsPiece network.now) pieces.now }
     requires texts { ArePieceTexts network.now pieces.now texts.now }
-    ensures text { Writes (W.contents writer.old) (W.contents writer.new) result (flat_map (piece_text network.now) pieces.now) }
-    ensures few { writes.new ≤ writes.old + length (flat_map (piece_text network.now) pieces.now) }
+    ensures { Writes (W.contents writer.old) (W.contents writer.new) result (flat_map (piece_text network.now) pieces.now) }
 {
     for (number, piece) in pieces.iter().enumerate() {
-        put_text(writer, network, *piece, texts.get(number), writes)?;
+        put_text(writer, network, *piece, texts.get(number))?;
     }
     Ok(())
 }
 
 /// Writes pieces, formatted by `threads` threads before.
-fn put_together<R: Threads + Sync, W: Write, L: Ledger>(
+fn put_together<R: Threads + Sync, W: Write>(
     rt: &R,
     alloc: Global,
     writer: &mut W,
     network: &Network,
     pieces: &[Piece<'_>],
     threads: usize,
-    writes: &mut Steps<L>,
 ) -> Result<(), WriteFault>
     requires { All (IsPiece network.now) pieces.now }
-    ensures text { Writes (W.contents writer.old) (W.contents writer.new) result (flat_map (piece_text network.now) pieces.now) }
-    ensures few { writes.new ≤ writes.old + length (flat_map (piece_text network.now) pieces.now) }
+    ensures { Writes (W.contents writer.old) (W.contents writer.new) result (flat_map (piece_text network.now) pieces.now) }
 {
     match texts_of(rt, alloc, network, pieces, threads) {
-        Ok(texts) => put_texts(writer, network, pieces, &texts, writes),
-        Err(_) => put_texts(writer, network, pieces, &[], writes),
+        Ok(texts) => put_texts(writer, network, pieces, &texts),
+        Err(_) => put_texts(writer, network, pieces, &[]),
     }
 }
 
 /// Writes pieces, formatted by `threads` threads.
-fn put_pieces<R: Threads + Sync, W: Write, L: Ledger>(
+fn put_pieces<R: Threads + Sync, W: Write>(
     rt: &R,
     alloc: Global,
     writer: &mut W,
     network: &Network,
     pieces: &[Piece<'_>],
     threads: usize,
-    writes: &mut Steps<L>,
 ) -> Result<(), WriteFault>
     requires pieces { All (IsPiece network.now) pieces.now }
-    ensures text { Writes (W.contents writer.old) (W.contents writer.new) result (flat_map (piece_text network.now) pieces.now) }
-    ensures few { writes.new ≤ writes.old + length (flat_map (piece_text network.now) pieces.now) }
+    ensures { Writes (W.contents writer.old) (W.contents writer.new) result (flat_map (piece_text network.now) pieces.now) }
 {
     let size = part_size(pieces.len(), AT_ONCE);
     for together in pieces.chunks(size) {
-        put_together(rt, alloc, writer, network, together, threads, writes)?;
+        put_together(rt, alloc, writer, network, together, threads)?;
     }
     Ok(())
 }
@@ -317,76 +294,23 @@ fn piece_weight(weight: usize, threads: usize) -> usize
 }
 
 /// Writes the lines of streams by `threads` threads.
-fn put_streams_by<R: Threads + Sync, W: Write, L: Ledger>(
+fn put_streams_by<R: Threads + Sync, W: Write>(
     rt: &R,
     alloc: Global,
     writer: &mut W,
     network: &Network,
     streams: &[Stream],
     threads: usize,
-    writes: &mut Steps<L>,
 ) -> Result<(), WriteFault>
     requires lines { All (λ stream. IsLine network.now stream.line) streams.now }
     requires some { 0 < threads }
-    ensures text { Writes (W.contents writer.old) (W.contents writer.new) result (flat_map (stream_text network.now) streams.now) }
-    ensures few { writes.new ≤ writes.old + length (flat_map (stream_text network.now) streams.now) }
+    ensures { Writes (W.contents writer.old) (W.contents writer.new) result (flat_map (stream_text network.now) streams.now) }
 {
     let most = piece_weight(weight_of(streams), threads);
     match pieces_of(alloc, network, streams, most) {
-        Ok(pieces) => put_pieces(rt, alloc, writer, network, &pieces, threads, writes),
-        Err(_) => put_streams(writer, network, streams, writes),
+        Ok(pieces) => put_pieces(rt, alloc, writer, network, &pieces, threads),
+        Err(_) => put_streams(writer, network, streams, &mut uncounted()),
     }
-}
-
-/// Writes the report text by `threads` threads and flushes, and counts both: at most one write for each byte, and one flush.
-fn several_counted<R: Threads + Sync, W: Write, L: Ledger, M: Ledger>(
-    rt: &R,
-    alloc: Global,
-    writer: &mut W,
-    network: &Network,
-    answer: &Answer,
-    threads: usize,
-    writes: &mut Steps<L>,
-    flushes: &mut Steps<M>,
-) -> Result<(), WriteFault>
-    requires lines { HasItsLines network.now answer.now }
-    requires some { 0 < threads }
-    ensures text { Writes (W.contents writer.old) (W.contents writer.new) result (report_text network.now answer.now) }
-    ensures few { writes.new ≤ writes.old + length (report_text network.now answer.now) }
-    ensures once { FlushesOnce result flushes.old flushes.new }
-{
-    put_streams_by(rt, alloc, writer, network, &answer.streams, threads, writes)?;
-    end_counted(writer, network, answer, writes, flushes)
-}
-
-/// Opens both counts, and writes.
-fn several_opened<R: Threads + Sync, W: Write, L: Ledger, M: Ledger>(
-    rt: &R,
-    alloc: Global,
-    writer: &mut W,
-    first: Blank,
-    second: Blank,
-    network: &Network,
-    answer: &Answer,
-    threads: usize,
-) -> Result<(), WriteFault>
-    requires writes { (first.name ≡ L.name) × (first.parts ≡ L.parts) × (0 < first.parts) }
-    requires flushes { (second.name ≡ M.name) × (second.parts ≡ M.parts) × (0 < second.parts) }
-    requires lines { HasItsLines network.now answer.now }
-    requires threads { 0 < threads }
-    ensures { Writes (W.contents writer.old) (W.contents writer.new) result (report_text network.now answer.now) }
-{
-    let (mut writes, mut flushes) = (Steps::<L>::open(first), Steps::<M>::open(second));
-    several_counted(
-        rt,
-        alloc,
-        writer,
-        network,
-        answer,
-        threads,
-        &mut writes,
-        &mut flushes,
-    )
 }
 
 /// Writes what `write_report` writes, by `threads` threads, at least one: they format the values, and the caller's thread,
@@ -404,8 +328,8 @@ pub fn write_report_by<R: Threads + Sync, W: Write>(
     requires some { 0 < threads }
     ensures { Writes (W.contents writer.old) (W.contents writer.new) result (report_text network.now answer.now) }
 {
-    let (first, second) = (Blank::new(1), Blank::new(1));
-    several_opened::<R, W, Brand, Brand>(rt, alloc, writer, first, second, network, answer, threads)
+    put_streams_by(rt, alloc, writer, network, &answer.streams, threads)?;
+    write_closing(writer, network, answer.verdict, &answer.ends, answer.events)
 }
 
 /// Returns how many threads write the report of a run by `workers` workers: no more than run side by side, and one if it is

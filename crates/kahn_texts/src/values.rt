@@ -1,21 +1,13 @@
 //! The values of an entry, after its colon.
 
-ghost use Rattle.std.specs.Prelude.{◌≡◌, ℤ, MatchOption, MatchResult};
+ghost use Rattle.std.specs.Prelude.{◌≡◌, ◌⊎◌, ℤ, MatchOption, MatchResult};
 ghost use Rattle.kahn_texts.specs.Formats.{AreNoValues, AreValues, IsValue};
 ghost use Rattle.kahn_streams.specs.{declared.value.Value.Value, declared.value.Value.TheVariants.Integer};
 
+use crate::entries::EntryFault;
 use kahn_streams::Value;
 use std::alloc::Global;
 use std::str;
-
-/// Why values weren't read.
-#[derive(Clone, Copy)]
-pub(crate) enum ValuesFault {
-    /// A word that is no value.
-    NoValue,
-    /// Memory was refused.
-    NoMemory,
-}
 
 /// Returns the number that a word spells: an optional minus and digits, in the range of 64 bits.
 fn number_of(word: &str) -> Option<i64>
@@ -50,18 +42,18 @@ pub fn value_of(word: &[u8]) -> Option<Value>
     number_in(word).map(Value::Integer)
 }
 
-/// Reads the values between blanks.
-pub(crate) fn read_values(alloc: Global, text: &[u8]) -> Result<Vec<Value>, ValuesFault>
-    ensures { MatchResult result (λ values. AreValues text.now values.items) (λ fault. fault ≡ ValuesFault.NoValue → AreNoValues text.now) }
+/// Reads the values between blanks. Fails with `NoValues` or `NoMemory`.
+pub(crate) fn read_values(alloc: Global, text: &[u8]) -> Result<Vec<Value>, EntryFault>
+    ensures { MatchResult result (λ values. AreValues text.now values.items) (λ f. (f ≡ EntryFault.NoMemory) ⊎ ((f ≡ EntryFault.NoValues) × AreNoValues text.now)) }
 {
     let mut values = Vec::new(alloc);
     for word in text.split(|byte| *byte == b' ' || *byte == b'\t') {
         if !word.is_empty() {
             let Some(value) = value_of(word) else {
-                return Err(ValuesFault::NoValue);
+                return Err(EntryFault::NoValues);
             };
             if values.push(value).is_err() {
-                return Err(ValuesFault::NoMemory);
+                return Err(EntryFault::NoMemory);
             }
         }
     }

@@ -1,30 +1,28 @@
 //! The report text, written piece by piece.
 
-ghost use Rattle.std.specs.Prelude.{◌≡◌, ◌+◌, ◌<◌, ◌≤◌, length, flat_map, All};
-ghost use Rattle.kahn_streams.specs.Written.{Writes};
-ghost use Rattle.kahn_texts.specs.Flushes.{FlushesOnce, ending_text};
-ghost use Rattle.kahn_texts.specs.Formats.{report_text, line_head, tokens_text, stream_text, outcome_word, waited_name, end_words, end_text, ends_text, last_line, IsLine, HasItsLines};
+ghost use Rattle.std.specs.Prelude.{◌≡◌, ◌+◌, ◌<◌, ◌≤◌, ◌++◌, length, flat_map, All};
+ghost use Rattle.kahn_streams.specs.Written.{Writes, line_feed};
+ghost use Rattle.kahn_texts.specs.{Flushes.FlushesOnce, News.closing_text};
+ghost use Rattle.kahn_texts.specs.Formats.{report_text, line_head, token_text, tokens_text, stream_text, outcome_word, waited_name, end_words, end_text, ends_text, last_line, IsLine, HasItsLines};
 
-use crate::bytes::{WriteFault, flush_counted, put, put_all, put_line};
+use crate::bytes::{WriteFault, flush, put, put_all, put_line};
+use crate::counts::{CallCount, uncounted};
 use crate::digits::{Spaced, put_values};
 use crate::names::{channel_name, process_name};
-use crate::news::put_end_lines;
 use itoa::Buffer;
-use kahn_streams::{Answer, Carried, End, Failure, Line, Network, Outcome, Steps, Stream, Verdict};
+use kahn_streams::{Answer, Carried, End, Failure, Line, Network, Outcome, Stream, Verdict};
 use std::io::Write;
-use std::marker::Brand;
-use std::sync::ledger::{Blank, Ledger};
 
 /// Writes what a stream's line begins with.
-pub(crate) fn put_head<W: Write, L: Ledger>(
+pub(crate) fn put_head<W: Write, C: CallCount>(
     writer: &mut W,
     network: &Network,
     line: Line,
-    writes: &mut Steps<L>,
+    writes: &mut C,
 ) -> Result<(), WriteFault>
     requires { IsLine network.now line }
     ensures text { Writes (W.contents writer.old) (W.contents writer.new) result (line_head network.now line) }
-    ensures few { writes.new ≤ writes.old + length (line_head network.now line) }
+    ensures few { C.count writes.new ≤ C.count writes.old + length (line_head network.now line) }
 {
     match line {
         Line::Channel(channel) => {
@@ -40,33 +38,47 @@ pub(crate) fn put_head<W: Write, L: Ledger>(
     }
 }
 
-/// Writes the line of a stream with these tokens.
-pub(crate) fn put_tokens<W: Write, L: Ledger>(
+/// Writes the last values of a line, and its end.
+#[tactic(auto, using(crate::proofs::Writing::fails, crate::proofs::Writing::stops, crate::proofs::Writing::goes_on))]
+pub(crate) fn put_closing<W: Write, C: CallCount>(
     writer: &mut W,
-    network: &Network,
-    line: Line,
     tokens: &[Carried],
-    writes: &mut Steps<L>,
+    writes: &mut C,
 ) -> Result<(), WriteFault>
-    requires { IsLine network.now line }
-    ensures text { Writes (W.contents writer.old) (W.contents writer.new) result (tokens_text network.now line tokens.now) }
-    ensures few { writes.new ≤ writes.old + length (tokens_text network.now line tokens.now) }
+    ensures text { Writes (W.contents writer.old) (W.contents writer.new) result (flat_map token_text tokens.now ++ line_feed) }
+    ensures few { C.count writes.new ≤ C.count writes.old + length (flat_map token_text tokens.now ++ line_feed) }
 {
-    put_head(writer, network, line, writes)?;
     put_values::<Spaced, _, _>(writer, tokens, writes)?;
     put(writer, b"\n", writes)
 }
 
+/// Writes the line of a stream with these tokens.
+#[tactic(auto, using(crate::proofs::Writing::fails, crate::proofs::Writing::stops, crate::proofs::Writing::goes_on))]
+pub(crate) fn put_tokens<W: Write, C: CallCount>(
+    writer: &mut W,
+    network: &Network,
+    line: Line,
+    tokens: &[Carried],
+    writes: &mut C,
+) -> Result<(), WriteFault>
+    requires { IsLine network.now line }
+    ensures text { Writes (W.contents writer.old) (W.contents writer.new) result (tokens_text network.now line tokens.now) }
+    ensures few { C.count writes.new ≤ C.count writes.old + length (tokens_text network.now line tokens.now) }
+{
+    put_head(writer, network, line, writes)?;
+    put_closing(writer, tokens, writes)
+}
+
 /// Writes a stream's line.
-fn put_stream<W: Write, L: Ledger>(
+fn put_stream<W: Write, C: CallCount>(
     writer: &mut W,
     network: &Network,
     stream: &Stream,
-    writes: &mut Steps<L>,
+    writes: &mut C,
 ) -> Result<(), WriteFault>
     requires { IsLine network.now stream.now.line }
     ensures text { Writes (W.contents writer.old) (W.contents writer.new) result (stream_text network.now stream.now) }
-    ensures few { writes.new ≤ writes.old + length (stream_text network.now stream.now) }
+    ensures few { C.count writes.new ≤ C.count writes.old + length (stream_text network.now stream.now) }
 {
     put_tokens(writer, network, stream.line, &stream.tokens, writes)
 }
@@ -95,16 +107,16 @@ fn waited_name(network: &Network, outcome: Outcome) -> &str
 }
 
 /// Writes an instance's line.
-fn put_end<W: Write, L: Ledger>(
+fn put_end<W: Write, C: CallCount>(
     writer: &mut W,
     network: &Network,
     instance: usize,
     end: End,
-    writes: &mut Steps<L>,
+    writes: &mut C,
 ) -> Result<(), WriteFault>
     requires { instance < usize.MAX }
     ensures text { Writes (W.contents writer.old) (W.contents writer.new) result (end_text network.now instance end) }
-    ensures few { writes.new ≤ writes.old + length (end_text network.now instance end) }
+    ensures few { C.count writes.new ≤ C.count writes.old + length (end_text network.now instance end) }
 {
     let mut first = Buffer::new();
     let mut second = Buffer::new();
@@ -117,17 +129,17 @@ fn put_end<W: Write, L: Ledger>(
 }
 
 /// Writes an instance's line of its parts.
-fn put_words<'a, W: Write, L: Ledger>(
+fn put_words<'a, W: Write, C: CallCount>(
     writer: &mut W,
     number: &'a [u8],
     name: &'a [u8],
     word: &'a [u8],
     channel: &'a [u8],
     events: &'a [u8],
-    writes: &mut Steps<L>,
+    writes: &mut C,
 ) -> Result<(), WriteFault>
     ensures text { Writes (W.contents writer.old) (W.contents writer.new) result (end_words number.now name.now word.now channel.now events.now) }
-    ensures few { writes.new ≤ writes.old + length (end_words number.now name.now word.now channel.now events.now) }
+    ensures few { C.count writes.new ≤ C.count writes.old + length (end_words number.now name.now word.now channel.now events.now) }
 {
     put_line(
         writer,
@@ -139,14 +151,14 @@ fn put_words<'a, W: Write, L: Ledger>(
 }
 
 /// Writes the last line.
-pub(crate) fn put_last<W: Write, L: Ledger>(
+pub(crate) fn put_last<W: Write, C: CallCount>(
     writer: &mut W,
     verdict: Verdict,
     events: u64,
-    writes: &mut Steps<L>,
+    writes: &mut C,
 ) -> Result<(), WriteFault>
     ensures text { Writes (W.contents writer.old) (W.contents writer.new) result (last_line verdict events) }
-    ensures few { writes.new ≤ writes.old + length (last_line verdict events) }
+    ensures few { C.count writes.new ≤ C.count writes.old + length (last_line verdict events) }
 {
     let mut buffer = Buffer::new();
     let events = buffer.format(events).as_bytes();
@@ -159,15 +171,15 @@ pub(crate) fn put_last<W: Write, L: Ledger>(
 }
 
 /// Writes the lines of the streams.
-pub(crate) fn put_streams<W: Write, L: Ledger>(
+pub(crate) fn put_streams<W: Write, C: CallCount>(
     writer: &mut W,
     network: &Network,
     streams: &[Stream],
-    writes: &mut Steps<L>,
+    writes: &mut C,
 ) -> Result<(), WriteFault>
     requires { All (λ stream. IsLine network.now stream.line) streams.now }
     ensures text { Writes (W.contents writer.old) (W.contents writer.new) result (flat_map (stream_text network.now) streams.now) }
-    ensures few { writes.new ≤ writes.old + length (flat_map (stream_text network.now) streams.now) }
+    ensures few { C.count writes.new ≤ C.count writes.old + length (flat_map (stream_text network.now) streams.now) }
 {
     for stream in streams {
         put_stream(writer, network, stream, writes)?;
@@ -176,14 +188,14 @@ pub(crate) fn put_streams<W: Write, L: Ledger>(
 }
 
 /// Writes the lines of the instances.
-pub(crate) fn put_ends<W: Write, L: Ledger>(
+pub(crate) fn put_ends<W: Write, C: CallCount>(
     writer: &mut W,
     network: &Network,
     ends: &[End],
-    writes: &mut Steps<L>,
+    writes: &mut C,
 ) -> Result<(), WriteFault>
     ensures text { Writes (W.contents writer.old) (W.contents writer.new) result (ends_text network.now 0 ends.now) }
-    ensures few { writes.new ≤ writes.old + length (ends_text network.now 0 ends.now) }
+    ensures few { C.count writes.new ≤ C.count writes.old + length (ends_text network.now 0 ends.now) }
 {
     for (instance, end) in ends.iter().enumerate() {
         put_end(writer, network, instance, *end, writes)?;
@@ -191,57 +203,50 @@ pub(crate) fn put_ends<W: Write, L: Ledger>(
     Ok(())
 }
 
-/// Writes the last lines of the report of an answer and flushes, and counts both.
-pub(crate) fn end_counted<W: Write, L: Ledger, M: Ledger>(
+/// Writes the last lines of a report and flushes, and counts both.
+pub(crate) fn closing_counted<W: Write, C: CallCount, D: CallCount>(
     writer: &mut W,
     network: &Network,
-    answer: &Answer,
-    writes: &mut Steps<L>,
-    flushes: &mut Steps<M>,
+    verdict: Verdict,
+    ends: &[End],
+    events: u64,
+    writes: &mut C,
+    flushes: &mut D,
 ) -> Result<(), WriteFault>
-    ensures text { Writes (W.contents writer.old) (W.contents writer.new) result (ending_text network.now answer.now) }
-    ensures few { writes.new ≤ writes.old + length (ending_text network.now answer.now) }
-    ensures once { FlushesOnce result flushes.old flushes.new }
+    ensures text { Writes (W.contents writer.old) (W.contents writer.new) result (closing_text network.now verdict ends.now events) }
+    ensures few { C.count writes.new ≤ C.count writes.old + length (closing_text network.now verdict ends.now events) }
+    ensures once { FlushesOnce result (D.count flushes.old) (D.count flushes.new) }
 {
-    let (verdict, events) = (answer.verdict, answer.events);
-    put_end_lines(writer, network, verdict, &answer.ends, events, writes)?;
-    flush_counted(writer, flushes)
+    put_ends(writer, network, ends, writes)?;
+    put_last(writer, verdict, events, writes)?;
+    flush(writer, flushes)
 }
 
 /// Writes the report text and flushes, and counts both: at most one write for each byte, and one flush. After a fault a prefix of it
 /// went out.
-pub fn write_counted<W: Write, L: Ledger, M: Ledger>(
+pub fn write_counted<W: Write, C: CallCount, D: CallCount>(
     writer: &mut W,
     network: &Network,
     answer: &Answer,
-    writes: &mut Steps<L>,
-    flushes: &mut Steps<M>,
+    writes: &mut C,
+    flushes: &mut D,
 ) -> Result<(), WriteFault>
     requires { HasItsLines network.now answer.now }
     ensures text { Writes (W.contents writer.old) (W.contents writer.new) result (report_text network.now answer.now) }
-    ensures few { writes.new ≤ writes.old + length (report_text network.now answer.now) }
-    ensures once { FlushesOnce result flushes.old flushes.new }
+    ensures few { C.count writes.new ≤ C.count writes.old + length (report_text network.now answer.now) }
+    ensures once { FlushesOnce result (D.count flushes.old) (D.count flushes.new) }
 {
+    let (verdict, events) = (answer.verdict, answer.events);
     put_streams(writer, network, &answer.streams, writes)?;
-    end_counted(writer, network, answer, writes, flushes)
-}
-
-/// Opens both counts, and writes.
-fn write_opened<W: Write, L: Ledger, M: Ledger>(
-    writer: &mut W,
-    first: Blank,
-    second: Blank,
-    network: &Network,
-    answer: &Answer,
-) -> Result<(), WriteFault>
-    requires writes { (first.name ≡ L.name) × (first.parts ≡ L.parts) × (0 < first.parts) }
-    requires flushes { (second.name ≡ M.name) × (second.parts ≡ M.parts) × (0 < second.parts) }
-    requires lines { HasItsLines network.now answer.now }
-    ensures { Writes (W.contents writer.old) (W.contents writer.new) result (report_text network.now answer.now) }
-{
-    let mut writes = Steps::<L>::open(first);
-    let mut flushes = Steps::<M>::open(second);
-    write_counted(writer, network, answer, &mut writes, &mut flushes)
+    closing_counted(
+        writer,
+        network,
+        verdict,
+        &answer.ends,
+        events,
+        writes,
+        flushes,
+    )
 }
 
 /// Writes the report text of an answer of a network, and flushes. After a fault a prefix of it went out.
@@ -253,5 +258,5 @@ pub fn write_report<W: Write>(
     requires { HasItsLines network.now answer.now }
     ensures { Writes (W.contents writer.old) (W.contents writer.new) result (report_text network.now answer.now) }
 {
-    write_opened::<W, Brand, Brand>(writer, Blank::new(1), Blank::new(1), network, answer)
+    write_counted(writer, network, answer, &mut uncounted(), &mut uncounted())
 }

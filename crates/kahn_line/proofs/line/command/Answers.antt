@@ -5,7 +5,7 @@ pub returns : goal.returns
 returns c =
     let one = c.in_ok-arg.ensures.shape c.program_arg.ensures.local ∙ ap₂ with_rule c.in_ok-bare.ensures c.program_arg.ensures.rule in
     let two = c.in_ok-arg-2.ensures.shape c.input_arg.ensures.local ∙ ap₂ with_rule one c.input_arg.ensures.rule in
-    let three = c.in_ok-arg-3.ensures.shape c.workers_arg.ensures.local ∙ ap₂ with_rule two c.workers_arg.ensures.rule in
+    let three = c.in_ok-arg-3.ensures.shape c.number_arg.ensures.local ∙ ap₂ with_rule two c.number_arg.ensures.rule in
     let four = c.in_ok-arg-4.ensures.shape c.quantum_arg.ensures.local ∙ ap₂ with_rule three c.quantum_arg.ensures.rule in
     let five = c.in_ok-arg-5.ensures.shape c.bound_arg.ensures.local ∙ ap₂ with_rule four c.bound_arg.ensures.rule in
-    IfOk-weaker c.arg-6.result _ _ (λ r h. h.shape c.watch_arg.ensures.local ∙ ap₂ with_rule five c.watch_arg.ensures.rule) c.arg-6.ensures
+    IfOk-weaker c.arg-6.result _ _ (λ r h. h.shape c.text_arg.ensures.local ∙ ap₂ with_rule five c.text_arg.ensures.rule) c.arg-6.ensures

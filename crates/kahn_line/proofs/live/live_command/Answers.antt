@@ -11,10 +11,10 @@ returns c =
     let one = c.in_ok-arg.ensures.shape local ∙ ap₂ with_rule c.in_ok-bare.ensures rule in
     let two = c.in_ok-arg-2.ensures.shape c.quantum_arg.ensures.local ∙ ap₂ with_rule one c.quantum_arg.ensures.rule in
     let three = c.in_ok-arg-3.ensures.shape c.number_arg.ensures.local ∙ ap₂ with_rule two c.number_arg.ensures.rule in
-    let four = c.in_ok-arg-4.ensures.shape c.watch_arg.ensures.local ∙ ap₂ with_rule three c.watch_arg.ensures.rule in
+    let four = c.in_ok-arg-4.ensures.shape c.text_arg.ensures.local ∙ ap₂ with_rule three c.text_arg.ensures.rule in
     let five = c.in_ok-arg-5.ensures.shape c.flag_arg.ensures.local ∙ ap₂ with_rule four c.flag_arg.ensures.rule in
     let six = c.in_ok-arg-6.ensures.shape c.flag_arg-2.ensures.local ∙ ap₂ with_rule five c.flag_arg-2.ensures.rule in
     let seven = c.in_ok-arg-7.ensures.shape c.at_end_arg.ensures.local ∙ ap₂ with_rule six c.at_end_arg.ensures.rule in
-    let eight = c.in_ok-arg-8.ensures.shape c.text_arg.ensures.local ∙ ap₂ with_rule seven c.text_arg.ensures.rule in
-    let nine = c.in_ok-arg-9.ensures.shape c.text_arg-2.ensures.local ∙ ap₂ with_rule eight c.text_arg-2.ensures.rule in
-    IfOk-weaker c.arg-10.result _ _ (λ r h. h.shape c.text_arg-3.ensures.local ∙ ap₂ with_rule nine c.text_arg-3.ensures.rule) c.arg-10.ensures
+    let eight = c.in_ok-arg-8.ensures.shape c.text_arg-2.ensures.local ∙ ap₂ with_rule seven c.text_arg-2.ensures.rule in
+    let nine = c.in_ok-arg-9.ensures.shape c.text_arg-3.ensures.local ∙ ap₂ with_rule eight c.text_arg-3.ensures.rule in
+    IfOk-weaker c.arg-10.result _ _ (λ r h. h.shape c.text_arg-4.ensures.local ∙ ap₂ with_rule nine c.text_arg-4.ensures.rule) c.arg-10.ensures

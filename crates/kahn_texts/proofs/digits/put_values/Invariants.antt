@@ -11,4 +11,4 @@ invariant-loop-chunk g l =
     × (length l.room ≡ 672)
     × ((done : List ℕ) × (flat_map text_of l.tokens ≡ done ++ flat_map text_of (chunks_rest l.chunk-iterator))
     × Appends (g.W.Write.contents l.initial.writer) (g.W.Write.contents l.writer) done
-    × (l.writes ≤ l.initial.writes + length done))
+    × (g.C.CallCount.count l.writes ≤ g.C.CallCount.count l.initial.writes + length done))

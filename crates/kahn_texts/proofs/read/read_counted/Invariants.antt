@@ -6,7 +6,7 @@ abbrev pub invariant-loop-chunk : goal.invariant-loop-chunk
 invariant-loop-chunk g l = record {
   came : Consumes (g.R.Read.remaining l.initial.reader) (g.R.Read.remaining l.reader) l.bytes.items;
   within : vec_len l.bytes ≤ l.limit + 1;
-  few : l.reads ≤ l.initial.reads + vec_len l.bytes;
+  few : g.C.CallCount.count l.reads ≤ g.C.CallCount.count l.initial.reads + vec_len l.bytes;
 }
 
 abbrev pub decreases-loop-chunk : goal.decreases-loop-chunk

@@ -1,11 +1,11 @@
 use Rattle.kahn_texts.proofs.Common.{◌++◌, flat_map, sym, ap, subst, ◌∙◌, append_assoc, rules, flat_map-append, Appends-trans, chunks_rest, AppendsFront, IsPiece, piece_text}
-use Rattle.kahn_texts.proofs.{Cut.all_later, Writing.fails, Writing.few_on, Writing.goes_on_front, Writing.stops}
+use Rattle.kahn_texts.proofs.{Cut.all_later, Writing.fails, Writing.goes_on_front, Writing.stops}
 use Rattle.kahn_texts.proofs.several.put_pieces.Goals as goal
 
 pub loop-together-preserved : goal.loop-together-preserved
 loop-together-preserved g c =
     let text_of = piece_text c.args.network.now in
-    let (done, split, gone, few) = c.loop-together.invariant.3 in
+    let (done, split, gone) = c.loop-together.invariant.3 in
     let (size, (front, _, _)) = c.in-Some.ensures.steps in
     let chunk = c.in-Some.together.now in
     let rest = chunks_rest c.next.new.self in
@@ -17,19 +17,18 @@ loop-together-preserved g c =
       (
         done ++ text,
         split ∙ ap (λ l. done ++ l) parts ∙ sym (append_assoc done text (flat_map text_of rest)),
-        Appends-trans _ _ _ done text gone c.in_ok-put_together.ensures.text,
-        few_on _ _ _ done text few c.put_together.ensures.few,
+        Appends-trans _ _ _ done text gone c.in_ok-put_together.ensures,
       ),
     )
 
-pub returns-in_err-put_together-clause-text : goal.returns-in_err-put_together-clause-text
-returns-in_err-put_together-clause-text g c =
+pub returns-in_err-put_together : goal.returns-in_err-put_together
+returns-in_err-put_together g c =
     let text_of = piece_text c.args.network.now in
-    let (done, split, gone, few) = c.loop-together.invariant.3 in
+    let (done, split, gone) = c.loop-together.invariant.3 in
     let (size, (front, _, _)) = c.in-Some.ensures.steps in
     let chunk = c.in-Some.together.now in
     let rest = chunks_rest c.next.new.self in
     let parts = ap (flat_map text_of) front ∙ flat_map-append text_of chunk rest in
     fails _ _ _ _ c.from_residual.ensures.0
     (subst (AppendsFront _ _) (sym split) (goes_on_front _ _ _ done _ gone
-    (subst (AppendsFront _ _) (sym parts) (stops _ _ _ _ c.in_err-put_together.ensures.text))))
+    (subst (AppendsFront _ _) (sym parts) (stops _ _ _ _ c.in_err-put_together.ensures))))

@@ -1,5 +1,5 @@
--- What isn't of the pieces that are left went out, by at most as many writes.
-use Rattle.kahn_texts.proofs.Common.{◌≡◌, ℕ, ◌+◌, ◌≤◌, List, length, ◌++◌, flat_map, All, Appends, chunks_rest, IsPiece, piece_text}
+-- What isn't of the pieces that are left went out.
+use Rattle.kahn_texts.proofs.Common.{◌≡◌, ℕ, List, ◌++◌, flat_map, All, Appends, chunks_rest, IsPiece, piece_text}
 use Rattle.kahn_texts.proofs.several.put_pieces.Given as goal
 
 abbrev pub invariant-loop-together : goal.invariant-loop-together
@@ -9,5 +9,4 @@ invariant-loop-together g l =
     × All (IsPiece l.network) (chunks_rest l.together-iterator)
     × ((done : List ℕ)
     × (flat_map (piece_text l.network) l.pieces ≡ done ++ flat_map (piece_text l.network) (chunks_rest l.together-iterator))
-    × Appends (g.W.Write.contents l.initial.writer) (g.W.Write.contents l.writer) done
-    × (l.writes ≤ l.initial.writes + length done))
+    × Appends (g.W.Write.contents l.initial.writer) (g.W.Write.contents l.writer) done)

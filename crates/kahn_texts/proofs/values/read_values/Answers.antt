@@ -1,4 +1,4 @@
-use Rattle.kahn_texts.proofs.Common.{rules, tests, ◌≡◌, ◌<◌, length, [], ◌∷◌, ◌++◌, arith, nat_tests, length_push, YieldsList-from_slice_split, YieldsList-turn, YieldsList-end, slice_split, is_blank}
+use Rattle.kahn_texts.proofs.Common.{inr, refl, rules, tests, ◌≡◌, ◌<◌, length, [], ◌∷◌, ◌++◌, arith, nat_tests, length_push, YieldsList-from_slice_split, YieldsList-turn, YieldsList-end, slice_split, is_blank}
 use Rattle.kahn_texts.proofs.Parts.{from_part, all_skips, only_skips, all_more, only_more, spells_none, spells_all}
 use Rattle.kahn_texts.proofs.values.read_values.Goals as goal
 
@@ -8,7 +8,7 @@ returns-in_default c =
     c.loop-word.yielded _ c.loop-word.yielded_by _ _ c.in-Some.word c.in-Some.is c.next.ensures.steps in
     let here = from_part (slice_split is_blank c.args.text.now) (length c.loop-word.yielded) c.in-Some.word.now t in
     let some : 0 < length c.in-Some.word.now = grind (arith, nat_tests) in
-    λ _ values h. spells_none (slice_split is_blank c.args.text.now) (length c.loop-word.yielded) c.in-Some.word.now here some c.in_default.ensures c.loop-word.invariant.only values h
+    inr (refl, λ values h. spells_none (slice_split is_blank c.args.text.now) (length c.loop-word.yielded) c.in-Some.word.now here some c.in_default.ensures c.loop-word.invariant.only values h)
 
 pub loop-word-preserved-else-is_err : goal.loop-word-preserved-else-is_err
 loop-word-preserved-else-is_err c =

@@ -6,4 +6,4 @@ abbrev pub invariant-loop-instance : goal.invariant-loop-instance
 invariant-loop-instance g l = (done : List ℕ)
     × (ends_text l.network 0 l.ends ≡ done ++ ends_text l.network l.instance (drop l.instance l.ends))
     × Appends (g.W.Write.contents l.initial.writer) (g.W.Write.contents l.writer) done
-    × (l.writes ≤ l.initial.writes + length done)
+    × (g.C.CallCount.count l.writes ≤ g.C.CallCount.count l.initial.writes + length done)

@@ -1,6 +1,6 @@
 use Rattle.kahn_texts.proofs.Common.{rules, ◌≡◌, [], subst, Writes}
 use Rattle.kahn_texts.proofs.Fresh.{tokens_more}
-use Rattle.kahn_texts.proofs.news.news_opened.Goals as goal
+use Rattle.kahn_texts.proofs.news.write_news.Goals as goal
 
 pub returns : goal.returns
 returns g c =
