@@ -3,33 +3,24 @@ use Rattle.std.specs.Prelude.{◌≡◌, ◌⊎◌, ◌+◌, ◌-◌, ◌<◌, �
 use Rattle.std.specs.{List.position_or_len, List.slice_split, Char.is_ascii_alphabetic}
 use Rattle.kahn_streams.specs.{declared.span.Span.Span, declared.tree.Kind.Kind, declared.value.Value.Value, Inputs.kind_of_value}
 use Rattle.kahn_texts.specs.Formats.{IsValue, is_blank, is_word_byte, most_name_bytes}
-use Rattle.kahn_inputs.specs.{declared.fitting.ByteClass.ByteClass, declared.fitting.ByteClass.TheVariants.Blank, declared.fitting.ByteClass.TheVariants.Named, declared.fitting.ByteClass.TheVariants.Dark, declared.fitting.Lack.Lack, declared.fitting.Lack.TheVariants.Name, declared.fitting.Lack.TheVariants.ShortName, declared.fitting.Lack.TheVariants.Colon}
-
--- whether a byte is of a class, and how many at the front are
-abbrev pub is_in_class : ByteClass → ℕ → Bool
-is_in_class Blank b = is_blank b
-is_in_class Named b = is_word_byte b
-is_in_class Dark b = not (is_blank b)
-
-abbrev pub class_bytes : ByteClass → List ℕ → ℕ
-class_bytes class bytes = position_or_len (λ b. not (is_in_class class b)) bytes
+use Rattle.kahn_inputs.specs.{declared.fitting.Lack.Lack, declared.fitting.Lack.TheVariants.Name, declared.fitting.Lack.TheVariants.ShortName, declared.fitting.Lack.TheVariants.Colon}
 
 -- where the name of a line begins and ends, and where its colon stands
 abbrev pub name_from : List ℕ → ℕ
-name_from line = class_bytes Blank line
+name_from line = position_or_len (λ b. not (is_blank b)) line
 
 abbrev pub name_to : List ℕ → ℕ
-name_to line = name_from line + class_bytes Named (drop (name_from line) line)
+name_to line = name_from line + position_or_len (λ b. not (is_word_byte b)) (drop (name_from line) line)
 
 abbrev pub colon_at : List ℕ → ℕ
-colon_at line = name_to line + class_bytes Blank (drop (name_to line) line)
+colon_at line = name_to line + position_or_len (λ b. not (is_blank b)) (drop (name_to line) line)
 
 -- the name, and what stands from there on up to a blank
 abbrev pub name_span : List ℕ → Span
 name_span line = record { from = name_from line; to = name_to line }
 
 abbrev pub dark_span : List ℕ → ℕ → Span
-dark_span line at = record { from = at; to = at + class_bytes Dark (drop at line) }
+dark_span line at = record { from = at; to = at + position_or_len is_blank (drop at line) }
 
 abbrev pub part_of : List ℕ → Span → List ℕ
 part_of line span = slice_range line span.from span.to

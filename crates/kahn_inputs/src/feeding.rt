@@ -38,12 +38,6 @@ pub(crate) fn lack_words(lack: Lack) -> (&'static str, &'static str) {
 /// What is said of a word that is no value.
 const NO_VALUE: &str = "not a value: wanted a number of 64 bits, `true` or `false`";
 
-/// Whether a line stands in a text before the byte at which it begins.
-fn stands_before(text: &str, found: FoundLine<'_>) -> bool {
-    let before = text.get(..found.from).unwrap_or("");
-    before.lines().any(|line| line.as_bytes() == found.line)
-}
-
 /// What is said of a value of another kind than that of its channel, and where lines come one at a time.
 pub(crate) fn kind_words(kind: Option<Kind>) -> (&'static str, &'static str) {
     match kind {
@@ -73,7 +67,7 @@ fn part_note(
     let mut told = String::new(alloc);
     add(&mut told, words)?;
     let part = part_of(found.line, span);
-    told.push_str(strange_words(found.from + span.from, part))?;
+    told.push_str(strange_words(part))?;
     Ok(Note {
         sort: Sort::Error,
         span: moved_by(found.from, span),
@@ -96,7 +90,9 @@ fn lack_note(
 {
     let lack = lack_of(found.line);
     let span = lack_span(found.line, lack);
-    let more = head_words(line_name(found.line), part_of(found.line, span));
+    let name = line_name(found.line);
+    let kind = kind_for(network, name);
+    let more = head_words(name, kind, part_of(found.line, span));
     let words = [lack_words(lack).0, more];
     part_note(alloc, network, text, found, span, &words)
 }
@@ -134,7 +130,8 @@ fn value_note(
 {
     let span = unfit_span(None, found.line);
     let part = part_of(found.line, span);
-    let more = word_words(found.line, line_name(found.line), part);
+    let name = line_name(found.line);
+    let more = word_words(found.line, name, kind_for(network, name), part);
     let words = [NO_VALUE, more];
     part_note(alloc, network, text, found, span, &words)
 }
@@ -156,26 +153,28 @@ pub(crate) fn kind_for(network: &Network, name: &[u8]) -> Option<Kind>
 fn entry_text(
     alloc: Global,
     network: &Network,
-    text: &str,
-    found: FoundLine<'_>,
+    name: &[u8],
     kind: Option<Kind>,
     fault: InputFault,
 ) -> Result<String, AllocError> {
     let mut words = String::new(alloc);
     words.push_str(match fault {
         InputFault::UnknownName(_) => "no such channel",
-        InputFault::NotAnInput(_) => "not an input channel",
-        InputFault::GivenTwice(_) if stands_before(text, found) =>
-            "given twice; the same line stands there before: leave one of them out",
-        InputFault::GivenTwice(_) => "given twice; all values of a channel stand on one line",
+        InputFault::NotAnInput(_) =>
+            "not an input channel: give the line another name, or leave it out",
+        InputFault::GivenTwice(_) => "given twice; all values of a channel stand on one line, once",
         InputFault::WrongKind(_) => "kind does not agree",
         InputFault::TooMany(_) => "too many values; at most 1048576",
         InputFault::NoMemory => "no memory",
     })?;
-    let (program, name) = (network.program(), line_name(found.line));
     match fault {
-        InputFault::UnknownName(_) => add_unknown_input(&mut words, alloc, program, name)?,
-        InputFault::NotAnInput(_) => add_inputs(&mut words, alloc, program)?,
+        InputFault::UnknownName(_) => add_unknown_input(
+            &mut words,
+            alloc,
+            network.program(),
+            name,
+        )?,
+        InputFault::NotAnInput(_) => add_inputs(&mut words, alloc, network.program())?,
         InputFault::WrongKind(_) => words.push_str(kind_words(kind).0)?,
         _ => {}
     }
@@ -230,7 +229,7 @@ fn entry_note(
 {
     let name = line_name(found.line);
     let kind = kind_for(network, name);
-    let words = entry_text(alloc, network, text, found, kind, fault)?;
+    let words = entry_text(alloc, network, name, kind, fault)?;
     let span = entry_span(found.line, kind, fault);
     let others = given_first(alloc, text, name, fault)?;
     let mut note = part_note(alloc, network, text, found, span, &[words.as_str()])?;

@@ -1,13 +1,12 @@
 //! Where the words of a line of an input text stand, and which of them is at fault.
 
-ghost use Rattle.std.specs.Prelude.{◌≡◌, ◌↔◌, ◌+◌, ◌<◌, ◌≤◌, ℤ, IfSome, IsFalse, IsTrue, MatchOption, drop, length, not, slice_get};
-ghost use Rattle.std.specs.List.{position};
-ghost use Rattle.kahn_texts.specs.Formats.{IsValue};
-ghost use Rattle.kahn_streams.specs.{declared.value.Value.Value, declared.value.Value.TheVariants.Integer};
-ghost use Rattle.kahn_inputs.specs.Fitting.{AreAllFit, IsOfAsked, IsFitValue, IsFitPart, IsUnfitWord, IsUnfit, colon_at, dark_span, is_letter, is_in_class, lack_of, lack_span, moved_by, line_name, name_span, part_of, class_bytes};
+ghost use Rattle.std.specs.Prelude.{◌≡◌, ◌↔◌, ◌+◌, ◌<◌, ◌≤◌, IfSome, IsFalse, IsTrue, MatchOption, drop, length, slice_get};
+ghost use Rattle.std.specs.List.{position, position_or_len};
+ghost use Rattle.kahn_texts.specs.Formats.{is_blank};
+ghost use Rattle.kahn_inputs.specs.Fitting.{AreAllFit, IsOfAsked, IsFitValue, IsFitPart, IsUnfitWord, IsUnfit, colon_at, dark_span, is_letter, lack_of, lack_span, moved_by, line_name, name_span, part_of};
 
 use kahn_streams::{Kind, Span, Value};
-use std::str;
+use kahn_texts::{blanks, is_blank, value_of, word_bytes};
 
 /// The most bytes of a name.
 const MOST_NAME_BYTES: usize = 64;
@@ -23,41 +22,20 @@ pub(crate) enum Lack {
     Colon,
 }
 
-/// A class of bytes.
-#[derive(Clone, Copy)]
-pub(crate) enum ByteClass {
-    /// Spaces and tabs.
-    Blank,
-    /// Those of a name.
-    Named,
-    /// All that are no blanks.
-    Dark,
-}
-
-/// Whether a byte is of a class.
-fn is_in_class(class: ByteClass, byte: u8) -> bool
-    ensures { result ≡ is_in_class class byte }
+/// The first blank.
+fn first_blank(bytes: &[u8]) -> Option<usize>
+    ensures { result ≡ position is_blank bytes.now }
 {
-    match class {
-        ByteClass::Blank => byte == b' ' || byte == b'\t',
-        ByteClass::Named => byte.is_ascii_alphanumeric() || byte == b'_',
-        ByteClass::Dark => !(byte == b' ' || byte == b'\t'),
-    }
+    bytes.iter().position(|byte| is_blank(*byte))
 }
 
-/// The first byte that isn't of a class.
-fn first_past(class: ByteClass, bytes: &[u8]) -> Option<usize>
-    ensures { result ≡ position (λ b. not (is_in_class class b)) bytes.now }
-{
-    bytes.iter().position(|byte| !is_in_class(class, *byte))
-}
-
-/// How many bytes at the front are of a class.
-fn class_bytes(class: ByteClass, bytes: &[u8]) -> usize
+/// How many bytes stand before the first blank.
+#[tactic(auto, using(kahn_texts::proofs::Scanned::stop_of))]
+fn dark_bytes(bytes: &[u8]) -> usize
     ensures within { result ≤ length bytes.now }
-    ensures stop { result ≡ class_bytes class bytes.now }
+    ensures stop { result ≡ position_or_len is_blank bytes.now }
 {
-    first_past(class, bytes).unwrap_or(bytes.len())
+    first_blank(bytes).unwrap_or(bytes.len())
 }
 
 /// Where the name of a line stands.
@@ -66,8 +44,8 @@ pub(crate) fn name_span(line: &[u8]) -> Span
     ensures within { result.to ≤ length line.now }
     ensures span { result ≡ name_span line.now }
 {
-    let from = class_bytes(ByteClass::Blank, line);
-    let to = from + class_bytes(ByteClass::Named, &line[from..]);
+    let from = blanks(line);
+    let to = from + word_bytes(&line[from..]);
     Span { from, to }
 }
 
@@ -116,7 +94,7 @@ pub(crate) fn colon_at(line: &[u8]) -> usize
     ensures place { result ≡ colon_at line.now }
 {
     let to = name_span(line).to;
-    to + class_bytes(ByteClass::Blank, &line[to..])
+    to + blanks(&line[to..])
 }
 
 /// What stands from there on, up to a blank.
@@ -128,7 +106,7 @@ fn dark_span(line: &[u8], at: usize) -> Span
 {
     Span {
         from: at,
-        to: at + class_bytes(ByteClass::Dark, &line[at..]),
+        to: at + dark_bytes(&line[at..]),
     }
 }
 
@@ -167,39 +145,6 @@ pub(crate) fn lack_span(line: &[u8], lack: Lack) -> Span
         Lack::ShortName => name_span(line),
         Lack::Colon => dark_span(line, colon_at(line)),
     }
-}
-
-/// The number that a text spells: an optional minus and digits, in the range of 64 bits.
-fn number_of(word: &str) -> Option<i64>
-    ensures { MatchOption result ((number : ℤ) → IsValue word.now (Integer number) → ⊥) (λ number. IsValue word.now (Integer number)) }
-{
-    if word.as_bytes().first() == Some(&b'+') {
-        return None;
-    }
-    word.parse::<i64>().ok()
-}
-
-/// The number that bytes spell.
-fn number_in(word: &[u8]) -> Option<i64>
-    ensures { MatchOption result ((number : ℤ) → IsValue word.now (Integer number) → ⊥) (λ number. IsValue word.now (Integer number)) }
-{
-    match str::from_utf8(word) {
-        Ok(text) => number_of(text),
-        Err(_) => None,
-    }
-}
-
-/// The value that a word spells.
-fn value_of(word: &[u8]) -> Option<Value>
-    ensures { MatchOption result ((value : Value) → IsValue word.now value → ⊥) (λ value. IsValue word.now value) }
-{
-    if word.eq_ignore_ascii_case(b"true") {
-        return Some(Value::Logical(true));
-    }
-    if word.eq_ignore_ascii_case(b"false") {
-        return Some(Value::Logical(false));
-    }
-    number_in(word).map(Value::Integer)
 }
 
 /// Whether a value is of the kind, or any where none is asked for.

@@ -3,11 +3,11 @@
 ghost use Rattle.std.specs.Prelude.{◌≡◌, IfOk, string_bytes};
 ghost use Rattle.kahn_inputs.specs.Meant.{AreMeantLines, joined_lines};
 
-use crate::strange::{has_between, is_in_number, plain_sign};
+use crate::strange::{digits_from, marks_between, meant_word, plain_line};
 use itoa::Buffer;
 use kahn_marks::{add, is_within};
 use kahn_streams::{Kind, Network, NoMemory, Role, channel_named};
-use kahn_texts::{TextFault, read_input};
+use kahn_texts::{TextFault, read_input, value_of, word_bytes};
 use std::alloc::{AllocError, Global};
 
 /// The most bytes of a text that is read so, and the most values of a range.
@@ -15,56 +15,42 @@ const MOST_BYTES: usize = 1024;
 
 const MOST_OF_RANGE: i64 = 64;
 
-/// Words that say nothing here.
-const IDLE: &str = "integer logical input channel";
-
-/// How truth values are written.
-const TRUE: &str = "true yes on t y 1 .true.";
-
-const FALSE: &str = "false no off f n 0 .false.";
-
-/// Whether a word is one of some, in any letter case.
-fn is_one_of(words: &str, word: &str) -> bool {
-    words
-        .split_whitespace()
-        .any(|one| one.eq_ignore_ascii_case(word))
-}
-
-/// Letters behind a number that say how great it is, or how it is written.
-const SCALES: &str = "k m g x b o e";
-
-/// A number with so many zeros behind it.
-fn scaled(digits: &str, zeros: &str) -> Option<i64> {
-    let mut number = digits.parse::<i64>().ok()?;
-    let times = zeros.parse::<usize>().ok()?.min(19);
-    for _zero in 0..times {
-        number = number.checked_mul(10)?;
-    }
-    Some(number)
-}
-
-/// The number that a word spells: also behind a `+`, before a fraction of zeros, a unit or an exponent, or in hexadecimal.
+/// The number that a word spells: also behind a `+`, before a fraction of zeros, an exponent or a unit, or in hexadecimal.
 fn whole_number(word: &str) -> Option<i64> {
     let bare = word.strip_prefix("+").unwrap_or(word);
-    if let Some(digits) = bare.strip_prefix("0x") {
-        return i64::from_str_radix(digits, 16).ok();
-    }
-    if let Some((digits, power)) = bare.split_once("e").or(bare.split_once("E")) {
-        return scaled(digits, power);
-    }
     let mut bytes = bare.as_bytes().iter();
-    let unit = bytes.position(|byte| byte.is_ascii_alphabetic());
-    if let Some((digits, unit)) = unit.and_then(|at| bare.split_at_checked(at)) {
-        let mut bytes = unit.as_bytes().iter();
-        let is_unit = bytes.all(|byte| byte.is_ascii_alphabetic());
-        let number = digits.parse::<i64>().ok();
-        return number.filter(|_| is_unit && !is_one_of(SCALES, unit));
+    let end = bytes.position(|byte| !byte.is_ascii_digit() && *byte != b'-');
+    let (digits, tail) = bare.split_at_checked(end.unwrap_or(bare.len()))?;
+    let number = digits.parse::<i64>().ok()?;
+    let unit = tail.strip_prefix("\u{B0}").unwrap_or(tail);
+    let is_unit = unit.bytes().all(|byte| byte.is_ascii_alphabetic());
+    match unit {
+        "" | "." | ".0" | ".00" => {
+            Some(number).filter(|_| number == 0 || digits.strip_prefix("0").is_none())
+        }
+        "k" | "m" | "g" | "x" | "b" | "o" | "e" | "K" | "M" | "G" | "O" => None,
+        _ if bare.as_bytes().starts_with(b"0x") => i64::from_str_radix(
+            unit.strip_prefix("x")?,
+            16,
+        ).ok(),
+        _ if is_unit => Some(number),
+        _ => {
+            let power = unit.strip_prefix("e").or(unit.strip_prefix("E"))?;
+            number.checked_mul(10i64.checked_pow(power.parse::<u32>().ok()?)?)
+        }
     }
-    let (digits, fraction) = bare.split_once(".").unwrap_or((bare, ""));
-    let is_plain = digits == "0" || digits.strip_prefix("0").is_none();
-    match fraction {
-        "" | "0" | "00" if is_plain => digits.parse::<i64>().ok(),
-        _ => None,
+}
+
+/// The truth value that a word spells, or nearly.
+fn truth(word: &str) -> Option<bool> {
+    let letters = word.as_bytes();
+    let is_word = letters.iter().all(|byte| byte.is_ascii_alphabetic());
+    if word == "1" || is_word && is_within(letters, b"true", 1) {
+        Some(true)
+    } else if word == "0" || is_word && is_within(letters, b"false", 1) {
+        Some(false)
+    } else {
+        None
     }
 }
 
@@ -74,187 +60,232 @@ fn add_number(line: &mut String, number: i64) -> Result<(), AllocError> {
     add(line, &[" ", digits.format(number)])
 }
 
+/// An input channel, whether the text has its name as a word, and the line of its entry as far as it was read: nothing where its name wasn't.
+#[derive(Drop)]
+struct EntryReading<'n> {
+    name: &'n str,
+    kind: Kind,
+    is_told: bool,
+    line: String,
+}
+
 /// What was read of a text.
 #[derive(Drop)]
-struct LineReading<'n> {
+struct TextReading<'n> {
     alloc: Global,
     network: &'n Network,
-    /// The input channels, with their kinds.
-    inputs: Vec<(&'n str, Kind)>,
-    /// Those that have entries, and the lines of these.
-    given: Vec<usize>,
-    lines: Vec<String>,
-    /// The entries that the next values are for, in turn.
+    inputs: Vec<EntryReading<'n>>,
+    /// The inputs that the next values are for, in turn, and how many values were read for these; more than there are for a column of others.
     columns: Vec<usize>,
-    /// How many values were read for these.
     count: usize,
     /// Whether another name stands beside theirs, as in the first line of a table.
     is_head: bool,
-    /// The last number.
+    /// The last number, whether it is another one than the next behind the one before it, and whether numbers up to the next one are meant.
     last: i64,
-    /// Whether numbers up to the next one are meant.
+    is_stepping: bool,
     is_range: bool,
 }
 
-impl<'n> LineReading<'n> {
-    /// The input channel of these letters, or else of letters that differ in their case alone, where they are no truth value; or, where a `:`
-    /// stands behind, the one without values that is near, or the only one, if nothing was read and no channel has the name.
-    fn channel(&self, word: &str, is_head: bool) -> Option<usize> {
-        let is_channel = channel_named(self.network, word).is_some();
-        let is_value = is_one_of(TRUE, word) || is_one_of(FALSE, word);
-        let mut nears = 0_usize;
-        let mut near = None;
-        for (number, (name, _)) in self.inputs.iter().enumerate() {
-            let is_alike = !is_channel && name.eq_ignore_ascii_case(word);
-            if *name == word || is_alike && (is_head || !is_value) {
-                return Some(number);
+impl<'n> TextReading<'n> {
+    /// The input that a word names: by its letters, or else by letters that differ in their case alone; or, in the place of a name, the only
+    /// one without an entry that is near, or else that the text doesn't name. Of a table, a column of no input.
+    fn channel(&self, word: &str, is_name: bool, is_table: bool) -> Option<usize> {
+        let is_other = channel_named(self.network, word).is_some();
+        let is_word = is_plain(word);
+        for rank in 0..5 {
+            let (mut found, mut count) = (None, 0usize);
+            for (number, input) in self.inputs.iter().enumerate() {
+                let (letters, name) = (word.as_bytes(), input.name.as_bytes());
+                let is_left = is_name && input.line.is_empty();
+                let is_free = is_left && !is_other && digits_from(letters, 0) == 0;
+                let fits = match rank {
+                    0 => letters == name,
+                    1 => !is_other && (is_name || is_word) && is_within(letters, name, 0),
+                    2 => is_free && word.len() > 1 && is_within(letters, name, 1),
+                    3 => is_free && word.len() > 3 && is_word && is_within(letters, name, 2),
+                    _ => is_left && !is_table && is_word && !input.is_told,
+                };
+                if fits {
+                    count = count.saturating_add(1);
+                    found = Some(number);
+                }
             }
-            let is_long = word.len() > 3 && !self.given.contains(&number);
-            if is_long && is_within(word.as_bytes(), name.as_bytes(), 2) {
-                nears = nears.saturating_add(1);
-                near = Some(number);
+            if count > 0 {
+                return found.filter(|_| count == 1);
             }
         }
-        let is_only = self.inputs.len() == 1 && self.count == 0;
-        match near {
-            _ if is_channel || !is_head => None,
-            Some(_) if nears == 1 => near,
-            _ => Some(0).filter(|_| is_only),
-        }
+        Some(usize::MAX).filter(|_| is_table)
     }
 
-    /// Reads the name of a channel.
+    /// Reads the name of an input, or of a column of no input.
     fn name(&mut self, channel: usize) -> Result<(), AllocError> {
         if !self.is_head {
             self.columns.clear();
         }
         self.is_head = true;
         self.count = 0;
-        let known = self.given.iter().position(|known| *known == channel);
-        let number = known.unwrap_or(self.lines.len());
-        if let (None, Some((name, _))) = (known, self.inputs.get(channel)) {
-            let mut line = String::from_str(self.alloc, name)?;
-            line.push_str(":")?;
-            self.given.push(channel)?;
-            self.lines.push(line)?;
+        if let Some(input) = self.inputs.get_mut(channel) {
+            if input.line.is_empty() {
+                input.line.push_str(input.name)?;
+                input.line.push_str(":")?;
+            }
         }
-        self.columns.push(number)?;
+        self.columns.push(channel)?;
         Ok(())
     }
 
     /// Reads a value; answers whether it is one.
     fn value(&mut self, word: &str) -> Result<bool, AllocError> {
+        if self.columns.is_empty() && self.inputs.len() == 1 {
+            self.name(0)?;
+        }
         let turn = self.count.checked_rem(self.columns.len()).unwrap_or(0);
         self.count = self.count.saturating_add(1);
         self.is_head = false;
-        let column = self.columns.get(turn).copied().unwrap_or(self.lines.len());
-        let channel = self.given.get(column).copied().unwrap_or(column);
-        let (Some((_, kind)), Some(line)) = (
-            self.inputs.get(channel).copied(),
-            self.lines.get_mut(column),
-        ) else {
-            return Ok(false);
+        let column = self.columns.get(turn).copied().unwrap_or(usize::MAX);
+        let is_left_out = !self.columns.is_empty();
+        let Some(input) = self.inputs.get_mut(column) else {
+            return Ok(is_left_out);
         };
-        if let Kind::Logical = kind {
-            let is_true = is_one_of(TRUE, word) || is_within(word.as_bytes(), b"true", 1);
-            let put = if is_true { " true" } else { " false" };
-            line.push_str(put)?;
-            return Ok(is_true || is_one_of(FALSE, word) || is_within(word.as_bytes(), b"false", 1));
-        }
-        let Some(number) = whole_number(word) else {
-            return Ok(false);
+        let number = match (input.kind, truth(word), whole_number(word)) {
+            (Kind::Logical, Some(value), _) => {
+                input.line.push_str(if value { " true" } else { " false" })?;
+                return Ok(true);
+            }
+            (Kind::Integer, _, Some(number)) => number,
+            _ => return Ok(false),
         };
         if self.is_range {
             let first = self.last.saturating_add(1);
-            if number < first || MOST_OF_RANGE < number.saturating_sub(first) {
+            if number < first || self.is_stepping || MOST_OF_RANGE < number.saturating_sub(first) {
                 return Ok(false);
             }
             for between in first..number {
-                add_number(line, between)?;
+                add_number(&mut input.line, between)?;
             }
         }
+        add_number(&mut input.line, number)?;
         self.is_range = false;
+        self.is_stepping = self.count > 1 && number != self.last.saturating_add(1);
         self.last = number;
-        add_number(line, number)?;
         Ok(true)
     }
 
-    /// Reads a word, behind which a `:` stands or doesn't; answers whether it is understood.
-    fn word(&mut self, word: &str, is_head: bool) -> Result<bool, AllocError> {
-        if is_one_of(IDLE, word) {
-            return Ok(true);
+    /// Reads a word that is no name; answers whether it is understood.
+    fn other(&mut self, word: &str) -> Result<bool, AllocError> {
+        match meant_word(word) {
+            "_" => Ok(true),
+            ".." => {
+                self.is_range = self.count > 0;
+                Ok(self.is_range)
+            }
+            word if marks_between(word.as_bytes(), b'-') == 1 => {
+                let (first, last) = word.split_once("-").unwrap_or((word, ""));
+                let is_first = self.value(first)?;
+                self.is_range = true;
+                Ok(is_first && self.value(last)?)
+            }
+            word => self.value(word),
         }
-        if let Some(channel) = self.channel(word, is_head) {
-            self.name(channel)?;
-            return Ok(!self.is_range);
-        }
-        if is_head {
-            return Ok(false);
-        }
-        let mark = if has_between(word.as_bytes(), b'-') {
-            "-"
-        } else {
-            ".."
-        };
-        let word = if word == "to" { mark } else { word };
-        let Some((first, rest)) = word.split_once(mark) else {
-            return self.value(word);
-        };
-        let last = rest.strip_prefix(".").unwrap_or(rest);
-        if !first.is_empty() && !self.value(first)? {
-            return Ok(false);
-        }
-        self.is_range = self.count > 0;
-        Ok(self.is_range && (last.is_empty() || self.value(last)?))
     }
 
-    /// Reads a line without comments, in which a `:` stands apart; answers whether all of its words are understood.
-    fn line(&mut self, line: &str) -> Result<bool, AllocError> {
-        self.is_head = false;
-        let mut words = Vec::new(self.alloc);
+    /// Whether a line is the first one of a table: names alone, of which one is that of an input.
+    fn is_table(&self, line: &str) -> bool {
+        let mut has_input = false;
         for word in line.split_whitespace() {
+            if !is_plain(word) {
+                return false;
+            }
+            has_input = has_input || self.channel(word, false, false).is_some();
+        }
+        has_input
+    }
+
+    /// Reads a line, in which a `:` stands apart; answers whether all of its words are understood.
+    fn line(&mut self, line: &str) -> Result<bool, AllocError> {
+        let (head, rest) = line.split_once(" : ").unwrap_or(("", line));
+        let first = self.channel(head.trim(), true, false);
+        if first.is_none() && channel_named(self.network, head.trim()).is_some() {
+            return Ok(self.inputs.iter().all(|input| input.is_told));
+        }
+        if let Some(channel) = first {
+            self.name(channel)?;
+        }
+        self.is_head = false;
+        let rest = if first.is_some() { rest } else { line };
+        let is_table = first.is_none() && self.is_table(line);
+        let mut words = Vec::new(self.alloc);
+        for word in rest.split_whitespace() {
             words.push(word)?;
         }
         for (number, word) in words.iter().enumerate() {
             let next = words.get(number.saturating_add(1));
-            let is_head = matches!(next, Some(next) if *next == ":");
-            if *word == ":" {
+            let is_first = number == 0 && first.is_none();
+            let is_name = is_first || is_table || matches!(next, Some(next) if *next == ":");
+            if *word == ":" && self.count == 0 {
                 self.is_head = false;
-            } else if !self.word(word, is_head)? {
-                return Ok(false);
+            } else if let Some(channel) = self.channel(word, is_name, is_table) {
+                let is_open = self.count == 0 && !self.is_head && !self.columns.is_empty();
+                if self.is_range || is_open && !is_first {
+                    return Ok(false);
+                }
+                self.name(channel)?;
+            } else if !(is_first && matches!(*word, "-" | "*")) && !self.other(word)? {
+                return Ok(is_first && words.len() == 1 && meant_word(word) == "~");
             }
         }
         Ok(true)
     }
-}
 
-/// A line with signs of ASCII for those that look like them, blanks between names and values, a `:` behind names, and numbers without what
-/// stands before three digits of them; a `,` within a number is a point where blanks stand between values.
-fn plain_line(alloc: Global, line: &str) -> Result<String, AllocError> {
-    let mut plain = String::new(alloc);
-    let bytes = line.as_bytes();
-    let is_apart = has_between(bytes, b' ');
-    for (at, character) in line.char_indices() {
-        match plain_sign(character) {
-            ',' if is_apart && is_in_number(bytes, at, true) => {}
-            '_' | '\'' if is_in_number(bytes, at, true) => {}
-            ',' if is_apart && is_in_number(bytes, at, false) => plain.push_str(".")?,
-            ':' | '=' => plain.push_str(" : ")?,
-            '\t' | ',' | ';' | '|' | '"' | '\'' | '\\' => plain.push_str(" ")?,
-            '[' | ']' | '(' | ')' | '{' | '}' => plain.push_str(" ")?,
-            sign => plain.push(sign)?,
+    /// The lines of the entries, where there are values, and each input that the text doesn't name has some.
+    fn lines(&self) -> Result<Option<Vec<String>>, AllocError> {
+        let (mut lines, mut is_any) = (Vec::new(self.alloc), false);
+        for input in &self.inputs {
+            let has_values = input.line.len() > input.name.len().saturating_add(1);
+            if !input.line.is_empty() && !has_values && !input.is_told {
+                return Ok(None);
+            }
+            is_any = is_any || has_values;
+            if !input.line.is_empty() {
+                lines.push(String::from_str(self.alloc, input.line.as_str())?)?;
+            }
         }
+        if !is_any || self.is_range {
+            return Ok(None);
+        }
+        Ok(Some(lines))
     }
-    Ok(plain)
 }
 
-/// The input channels of a network, with their kinds.
-fn inputs_of(alloc: Global, network: &Network) -> Result<Vec<(&str, Kind)>, AllocError> {
+/// Whether a word is spelled as a name, and isn't read as a value or as nothing.
+fn is_plain(word: &str) -> bool {
+    let letters = word.as_bytes();
+    let is_name = !word.is_empty()
+        && word_bytes(letters) == word.len()
+        && digits_from(letters, 0) == 0;
+    is_name && meant_word(word) == word && value_of(letters).is_none()
+}
+
+/// The inputs of a network, for which nothing was read of a text.
+fn inputs_of<'n>(
+    alloc: Global,
+    network: &'n Network,
+    text: &str,
+) -> Result<Vec<EntryReading<'n>>, AllocError> {
     let mut inputs = Vec::new(alloc);
     for number in 0..network.channels() {
         let channel = network.channel(number);
+        let bytes = text.as_bytes();
+        let mut words = bytes.split(|byte| !(byte.is_ascii_alphanumeric() || *byte == b'_'));
         if let Role::Input = channel.role {
-            inputs.push((channel.name, channel.kind))?;
+            let is_told = words.any(|word| word == channel.name.as_bytes());
+            let (name, kind, line) = (channel.name, channel.kind, String::new(alloc));
+            inputs.push(EntryReading {
+                name,
+                kind,
+                is_told,
+                line,
+            })?;
         }
     }
     Ok(inputs)
@@ -266,43 +297,27 @@ fn meant_entries(
     network: &Network,
     text: &str,
 ) -> Result<Option<Vec<String>>, AllocError> {
-    let inputs = inputs_of(alloc, network)?;
-    let is_one = inputs.len() == 1;
-    let mut reading = LineReading {
+    let mut reading = TextReading {
         alloc,
         network,
-        inputs,
-        given: Vec::new(alloc),
-        lines: Vec::new(alloc),
+        inputs: inputs_of(alloc, network, text)?,
         columns: Vec::new(alloc),
         count: 0,
         is_head: false,
         last: 0,
+        is_stepping: false,
         is_range: false,
     };
-    if is_one {
-        reading.name(0)?;
-    }
     let mut seen: Vec<&str> = Vec::new(alloc);
     for line in text.lines() {
         let is_again = line.find(":").is_some() && seen.contains(&line);
         seen.push(line)?;
-        let is_idle = is_again || line.strip_prefix("comment ").is_some();
-        let line = if is_idle { "" } else { line };
-        let (line, _) = line.split_once("#").unwrap_or((line, ""));
-        let (line, _) = line.split_once("//").unwrap_or((line, ""));
-        let (line, _) = line.split_once("-- ").unwrap_or((line, ""));
-        let (line, _) = line.split_once("(*").unwrap_or((line, ""));
-        let bare = line.trim();
-        let plain = plain_line(alloc, bare.strip_prefix("- ").unwrap_or(bare))?;
-        if !reading.line(plain.as_str())? {
+        let plain = plain_line(alloc, line.trim())?;
+        if !is_again && !reading.line(plain.as_str())? {
             return Ok(None);
         }
     }
-    if reading.is_range {
-        return Ok(None);
-    }
-    Ok(Some(reading.lines))
+    reading.lines()
 }
 
 /// A text of lines.

@@ -8,7 +8,7 @@ ghost use Rattle.kahn_inputs.specs.{Fitting.line_name, Refused.IsHeadPart, Refus
 use crate::feeding::{kind_for, kind_words, lack_words, unfit_span};
 use crate::fitting::{lack_of, lack_span, line_name, part_of};
 use crate::seeking::content;
-use crate::strange::{no_comment_words, numeral_words, stands_in, words_or};
+use crate::strange::{COMMENTS, first_words, numeral_words, words_of};
 use kahn_hints::{add_inputs, add_unknown_input};
 use kahn_streams::Network;
 use std::alloc::{AllocError, Global};
@@ -24,13 +24,13 @@ pub struct RefusedPart<'a> {
 
 /// What is wanted in the place of a word that is no value.
 fn value_wanted(word: &[u8]) -> &'static str {
-    if stands_in(":", word) {
+    if word.contains(&b':') {
         return "; a name stands before the values alone, and with --plain nowhere";
     }
-    words_or(
+    first_words(&[
         numeral_words(word),
         "; values are numbers, `true` and `false`",
-    )
+    ])
 }
 
 /// Where a line doesn't begin with a name and a colon.
@@ -40,7 +40,7 @@ pub fn head_part(line: &[u8]) -> RefusedPart<'_>
     let line = content(line);
     let lack = lack_of(line);
     let word = part_of(line, lack_span(line, lack));
-    let words = words_or(no_comment_words(word), lack_words(lack).1);
+    let words = first_words(&[words_of(COMMENTS, word), lack_words(lack).1]);
     RefusedPart { word, words }
 }
 

@@ -1,212 +1,356 @@
-//! What is said of a part of an input text that is no name and no value, by the characters that stand in it.
+//! What stands in input texts and belongs to other languages: what is read in its place, and what is said of it.
 
-use crate::fitting::behind;
-use kahn_marks::is_within;
+use kahn_marks::{add, is_within};
+use kahn_streams::Kind;
+use kahn_texts::value_of;
+use std::alloc::{AllocError, Global};
+
+// A row of a table has what stands there: behind a `^` at the front of a word, behind an `=` as all of it; what is read in its place: itself
+// for an `=`, a blank for `_`, and nothing up to what stands behind a `~`, or else up to the end of the line; and what is said.
 
 /// Characters that look like blanks and other signs and are none, and the mark of byte order.
 const STRANGE: &str = "
-\u{FEFF} | ; in it stands a byte order mark (EF BB BF)
-\u{00A0} | ; in it stands a no-break space (U+00A0)
-\u{202F} | ; in it stands a narrow no-break space (U+202F)
-\u{2009} | ; in it stands a thin space (U+2009)
-\u{200B} | ; in it stands a zero width space (U+200B)
-\u{3000} | ; in it stands an ideographic space (U+3000)
-\r | ; in it stands a carriage return (U+000D)
-\u{2212} | ; in it stands a minus sign (U+2212), which is no `-`
-\u{2010} \u{2011} | ; in it stands a hyphen (U+2010), which is no `-`
-\u{2013} | ; in it stands an en dash (U+2013), which is no `-`
-\u{2014} | ; in it stands an em dash (U+2014), which is no `-`
-\u{FF0D} | ; in it stands a full-width hyphen (U+FF0D), which is no `-`
-\u{FF1A} | ; in it stands a full-width colon (U+FF1A), which is no `:`
-\u{FF0C} | ; in it stands a full-width comma (U+FF0C): blanks stand between values
+\u{FEFF} | _ | ; in it stands a byte order mark (EF BB BF)
+\u{00A0} | _ | ; in it stands a no-break space (U+00A0)
+\u{202F} | _ | ; in it stands a narrow no-break space (U+202F)
+\u{2009} | _ | ; in it stands a thin space (U+2009)
+\u{200B} | _ | ; in it stands a zero width space (U+200B)
+\u{3000} | _ | ; in it stands an ideographic space (U+3000)
+\r | _ | ; in it stands a carriage return (U+000D)
+\u{2212} | - | ; in it stands a minus sign (U+2212), which is no `-`
+\u{2010} \u{2011} | - | ; in it stands a hyphen (U+2010), which is no `-`
+\u{2013} | - | ; in it stands an en dash (U+2013), which is no `-`
+\u{2014} | - | ; in it stands an em dash (U+2014), which is no `-`
+\u{FF0D} | - | ; in it stands a full-width hyphen (U+FF0D), which is no `-`
+\u{FF10} \u{FF11} \u{FF12} \u{FF13} \u{FF14} \u{FF15} \u{FF16} \u{FF17} \u{FF18} \u{FF19} | = | ; in it stands a full-width digit
+\u{FF1A} | : | ; in it stands a full-width colon (U+FF1A), which is no `:`
+\u{FF0C} | _ | ; in it stands a full-width comma (U+FF0C): blanks stand between values
 ";
 
-/// The sign of ASCII for one that looks like it.
-pub(crate) fn plain_sign(character: char) -> char {
-    match character {
-        '\u{2212}' | '\u{2010}' | '\u{2011}' | '\u{2013}' | '\u{2014}' | '\u{FF0D}' => '-',
-        '\u{FF1A}' => ':',
-        '\u{FF0C}' => ',',
-        '\u{00A0}' | '\u{202F}' | '\u{2009}' | '\u{3000}' => ' ',
-        '\u{2018}' | '\u{2019}' | '\u{201C}' | '\u{201D}' | '\u{201E}' => '"',
-        _ => character,
-    }
-}
+/// Words that begin as comments of other languages do.
+pub(crate) const COMMENTS: &str = "
+^# ^// ^% =-- | ~ | ; an input has no comments
+^/* | ~*/ | ; an input has no comments
+^(* | ~*) | ; an input has no comments
+";
 
-/// What stands in words that are no values, or in the place of a name: behind a `^` at the front, and behind an `=` alone.
-const COMMENTS: &str = "
-^# ^// ^(* ^/* ^% =-- | ; an input has no comments";
+/// The same of whole words, which may be names.
+const REMARKS: &str = "=comment =rem | ~ | ; an input has no comments";
 
+/// Of words that are no values, where lines come one at a time too.
 const NUMERALS: &str = "
-^[ ^( ^{ ^\" ^' | ; values stand without brackets and quotation marks
-.. | ; there are no ranges: each value stands there itself
-, ; | ; blanks stand between values
-. / | ; numbers are whole
-+ | ; a number has no `+`
-0x | ; numbers are decimal
-=- | ; a `-` stands right before its digits
+^[ ^( ^{ ^\" ^' | _ | ; values stand without brackets and quotation marks
+.. | .. | ; there are no ranges: each value stands there itself
+, ; | _ | ; blanks stand between values
+. / | = | ; numbers are whole
++ | = | ; a number has no `+`
+0x | = | ; numbers are decimal
+=- | = | ; a `-` stands right before its digits
 ";
 
 /// The same where more is said.
 const OTHERS: &str = "
-=.true. =.false. =.TRUE. =.FALSE. | ; truth values are `true` and `false`
-=to =until | ; there are no ranges: each value stands there itself
-* | ; nothing is repeated or computed: each value stands there itself
-=\\ | ; all values of a channel stand on one line
-^$ ^\u{20AC} ^\u{00A3} | ; a number has no unit
-=NaN =nan =null =NULL =None =NA =N/A | ; a missing value is left out
+-> <- \u{2192} \u{2190} = : | : | ; each name stands at the front of its line, with one `:` behind
+... .. \u{2026} | .. | ; there are no ranges: each value stands there itself
+=- ^-- | = | ; a `-` stands once, right before its digits; a missing value is left out
+=\\ | _ | ; all values of a channel stand on one line
+$ \u{20AC} \u{00A3} % | _ | ; a number has no unit
+* ^ | = | ; nothing is repeated or computed: each value stands there itself
+. | = | ; numbers are whole: count tenths or hundredths, as 185 for 18.5
+| </ /> [ ] ( ) { } < > \" ' ` \\ \u{2018} \u{2019} \u{201C} \u{201D} \u{201E} | _ | ; values stand without brackets and quotation marks
 ";
 
-/// What is said of a line that begins with a name that no channel is meant to have.
+/// Of words.
+const WORDS: &str = "
+=to =until =through | .. | ; there are no ranges: each value stands there itself
+=.true. =yes =on =t =y =high | true | ; truth values are `true` and `false`
+=.false. =no =off =f =n =low | false | ; truth values are `true` and `false`
+=eof =end =stop =quit =done =finished | = | ; an input ends with its last line: no word says so
+=? =_ =nan =nil =null =none =NA =N/A =missing =undefined | = | ; a missing value is left out
+^0x ^0b ^0o | = | ; numbers are decimal
+^range ^repeat =times =step =by | = | ; nothing is repeated or computed: each value stands there itself
+=and =& =then =| | _ | ; blanks stand between values
+=data =values ^--- ^``` | _
+";
+
+/// Of the shapes of words: a `9` stands for digits, an `a` for letters, and a `*` for what is left.
+const PAST: &str = "9 -9 | = | ; it is past 64 bits";
+
+const SHAPES: &str = "
+9:9 9:9:9 | = | ; there are no ranges and times: a time is a number, as 1230 for 12:30
+9-9-9 9/9/9 | = | ; a date is a number, as 20240105 for 2024-01-05
+9-9 | = | ; there are no ranges: each value stands there itself
+9|9 9|9|9* | = | ; blanks stand between values
+9- | = | ; a `-` stands right before its digits
+a \"a\" 'a' | = | ; a number is written in digits, and a text as a number for each character
+9a* -9a* 9\u{B0}* 9_9* 9'9* a9 | = | ; a number is digits alone: no letter (as O or l), sign, unit, exponent or repetition
+";
+
+/// Of the first word of a line, which no channel has as its name.
 const HEADS: &str = "
-=integer =logical =INTEGER =LOGICAL | ; no kind stands before the name
-=end =finished =limit | ; a report is no input
-=send =print =let =var =set =put | ; an input has no statements: values stand behind the name of their channel
+=integer =logical =int =bool =boolean =channel =input =inputs | _ | ; no kind stands before the name
+=end =finished =limit =eof =stop =quit =done =. | ~ | ; an input ends with its last line, and is no report
+=begin =send =print =let =var =set =put =export =const =echo =printf | _ | ; an input has no statements: values stand behind the name of their channel
 ";
 
-/// What is said of a line that begins as a comment of the language.
-const REMARKS: &str = "=comment =COMMENT =rem =REM | ; an input has no comments";
+/// How many bytes of a word are looked at.
+const MOST_SHOWN: usize = 64;
 
-/// Whether this stands somewhere in a part.
-pub(crate) fn stands_in(text: &str, part: &[u8]) -> bool {
-    for at in 0..part.len() {
-        if behind(part, at).starts_with(text.as_bytes()) {
-            return true;
-        }
-    }
-    false
+/// A cell of a row.
+fn cell(row: &'static str, number: usize) -> &'static str {
+    row.split(" | ").nth(number).unwrap_or("")
 }
 
-/// What a table says of the first of its keys that fits a part.
-fn words_of(table: &'static str, part: &[u8]) -> &'static str {
+/// Whether nothing stands there, or a blank.
+fn is_apart(byte: Option<&u8>) -> bool {
+    byte.is_none_or(|byte| byte.is_ascii_whitespace())
+}
+
+/// How many bytes a key has that stands at a byte of a line or a word; 0 where it doesn't.
+fn key_length(key: &str, line: &[u8], at: usize) -> usize {
+    let (mark, sign) = match key.as_bytes().split_first() {
+        Some((b'^', sign)) if !sign.is_empty() => (b'^', sign),
+        Some((b'=', sign)) if !sign.is_empty() => (b'=', sign),
+        _ => (b' ', key.as_bytes()),
+    };
+    let to = at.saturating_add(sign.len());
+    let front = line.get(..at).unwrap_or(b"");
+    let part = line.get(at..to).unwrap_or(b"");
+    let is_front = mark == b' ' || is_apart(front.last());
+    let is_end = mark != b'=' || is_apart(line.get(to));
+    if is_front && is_end && part.eq_ignore_ascii_case(sign) {
+        sign.len()
+    } else {
+        0
+    }
+}
+
+/// The same of the first key of a row that stands there.
+fn row_length(row: &'static str, line: &[u8], at: usize) -> usize {
+    for key in cell(row, 0).split(" ") {
+        let length = key_length(key, line, at);
+        if length > 0 {
+            return length;
+        }
+    }
+    0
+}
+
+/// What a table says of the first of its keys that stands in a word.
+pub(crate) fn words_of(table: &'static str, word: &[u8]) -> &'static str {
+    let part = word.get(..MOST_SHOWN).unwrap_or(word);
     for row in table.lines() {
-        let (keys, words) = row.split_once(" | ").unwrap_or(("", ""));
-        for key in keys.split(" ") {
-            let fits = match key.as_bytes().split_first() {
-                Some((b'^', front)) => part.starts_with(front),
-                Some((b'=', all)) => part == all,
-                Some(_) => stands_in(key, part),
-                None => false,
-            };
-            if fits {
-                return words;
+        for at in 0..part.len() {
+            if row_length(row, part, at) > 0 && !cell(row, 2).is_empty() {
+                return cell(row, 2);
             }
         }
     }
     ""
 }
 
-/// What is said of the first strange character in a part, which begins at this byte of the text.
-pub(crate) fn strange_words(at: usize, part: &[u8]) -> &'static str {
-    if at == 0 && part.starts_with(b"\xEF\xBB\xBF") {
-        return "; a byte order mark (EF BB BF) stands before the first line";
+/// How many bytes the first key of some tables has that stands at a byte of a line, and what is read in its place.
+fn put_at(tables: &[&'static str], line: &[u8], at: usize) -> (usize, &'static str) {
+    for table in tables {
+        for row in table.lines() {
+            let length = row_length(row, line, at);
+            if length > 0 && cell(row, 1) != "=" {
+                return (length, cell(row, 1));
+            }
+        }
     }
-    words_of(STRANGE, part)
-}
-
-/// Whether it is digits, and a sign before them or none.
-pub(crate) fn is_number(part: &[u8]) -> bool {
-    let digits = part.strip_prefix(b"-").unwrap_or(part);
-    !digits.is_empty() && digits.iter().all(|byte| byte.is_ascii_digit())
-}
-
-/// What is said of a part that begins as a comment of other languages does.
-pub(crate) fn no_comment_words(part: &[u8]) -> &'static str {
-    words_of(COMMENTS, part)
-}
-
-/// Whether a letter stands at the front.
-fn is_named(part: &[u8]) -> bool {
-    matches!(part.first(), Some(byte) if byte.is_ascii_alphabetic())
-}
-
-/// What is said of a line that begins with this name, in which this part stands in the place of a name or a colon.
-pub(crate) fn head_words(name: &[u8], part: &[u8]) -> &'static str {
-    let said = words_or(words_of(REMARKS, name), words_of(HEADS, name));
-    let more = match is_named(name) {
-        true if is_named(part) && part.ends_with(b":") => "; a name has no blanks",
-        false if is_number(part) => "; all values of a channel stand on one line, behind its name",
-        false if matches!(part, b";") => no_comment_words(b"#"),
-        _ => no_comment_words(part),
-    };
-    words_or(said, more)
+    (0, "=")
 }
 
 /// How many digits stand from a byte on.
-fn digits_from(bytes: &[u8], at: usize) -> usize {
-    let rest = bytes.get(at..).unwrap_or(&[]);
-    rest.iter()
-        .position(|byte| !byte.is_ascii_digit())
-        .unwrap_or(rest.len())
+pub(crate) fn digits_from(bytes: &[u8], at: usize) -> usize {
+    let rest = bytes.get(at..).unwrap_or(b"");
+    let end = rest.iter().position(|byte| !byte.is_ascii_digit());
+    end.unwrap_or(rest.len())
 }
 
-/// Whether a digit stands before a byte of a line, and digits behind it: three where they are asked for, and no more.
-pub(crate) fn is_in_number(line: &[u8], at: usize, are_three: bool) -> bool {
+/// How many digits stand behind a byte of a line, if it is this mark and a digit stands before it.
+fn digits_behind(line: &[u8], at: usize, mark: u8) -> usize {
     let before = at.checked_sub(1).unwrap_or(at);
-    let digits = digits_from(line, at.saturating_add(1));
-    digits_from(line, before) == 1 && digits > 0 && (digits == 3 || !are_three)
-}
-
-/// Whether this mark stands between digits of a line.
-pub(crate) fn has_between(line: &[u8], mark: u8) -> bool {
-    for (at, byte) in line.iter().enumerate() {
-        if *byte == mark && is_in_number(line, at, false) {
-            return true;
-        }
-    }
-    false
-}
-
-/// Whether letters stand where no truth value is meant.
-fn is_text(part: &[u8]) -> bool {
-    let is_near = is_within(part, b"true", 2) || is_within(part, b"false", 2);
-    part.len() > 3 && !is_near && part.iter().all(|byte| byte.is_ascii_alphabetic())
-}
-
-/// What is said of a word that is no value.
-pub(crate) fn numeral_words(part: &[u8]) -> &'static str {
-    let past = if is_number(part) {
-        "; it is past 64 bits"
+    let is_mark = matches!(line.get(at), Some(byte) if *byte == mark);
+    if is_mark && digits_from(line, before) == 1 {
+        digits_from(line, at.saturating_add(1))
     } else {
-        ""
-    };
-    words_or(
-        no_comment_words(part),
-        words_or(words_of(NUMERALS, part), past),
-    )
+        0
+    }
 }
 
-/// What is said of a word of a line that is no value.
-pub(crate) fn word_words(line: &[u8], name: &[u8], part: &[u8]) -> &'static str {
-    let said = words_of(REMARKS, name);
-    if !said.is_empty() {
-        return said;
+/// How often a mark stands between digits of a line.
+pub(crate) fn marks_between(line: &[u8], mark: u8) -> usize {
+    let places = 0..line.len();
+    places
+        .filter(|at| digits_behind(line, *at, mark) > 0)
+        .count()
+}
+
+/// Whether commas stand within the numbers of a line: blanks stand between others, or a 0 and two digits behind a comma.
+fn has_commas_within(line: &[u8]) -> bool {
+    let mut is_within = marks_between(line, b' ') > 0;
+    for at in 0..line.len() {
+        let is_zero = matches!(line.get(at.saturating_add(1)), Some(b'0'));
+        is_within = is_within || is_zero && digits_behind(line, at, b',') == 3;
     }
-    if has_between(line, b' ') && has_between(part, b',') {
-        return "; a number is whole, and has no `,`";
+    is_within
+}
+
+/// What is read in place of a mark between digits of a line: nothing before three of them, and a point for a comma before others.
+fn mark_put(line: &[u8], at: usize) -> Option<&'static str> {
+    let mark = line.get(at).copied()?;
+    let is_within = match mark {
+        b'_' | b'\'' => true,
+        b'.' => marks_between(line, mark) > 1,
+        b',' => has_commas_within(line),
+        _ => false,
+    };
+    match digits_behind(line, at, mark) {
+        3 if is_within => Some(""),
+        digits if is_within && digits > 0 && mark == b',' => Some("."),
+        _ => None,
     }
-    if part.ends_with(b";") && line.trim_ascii_end().ends_with(part) {
-        return "; a line has no `;` at its end";
+}
+
+/// What is read of a line: with other signs in the place of its own, and without comments.
+pub(crate) fn plain_line(alloc: Global, line: &str) -> Result<String, AllocError> {
+    let tables = [COMMENTS, REMARKS, STRANGE, OTHERS, NUMERALS];
+    let (mut plain, mut past) = (String::new(alloc), 0usize);
+    for (at, character) in line.char_indices() {
+        let (length, put) = put_at(&tables, line.as_bytes(), at);
+        let rest = line.get(at..).unwrap_or("");
+        match mark_put(line.as_bytes(), at).unwrap_or(put) {
+            _ if at < past => {}
+            "=" => plain.push(character)?,
+            "_" => plain.push_str(" ")?,
+            "-" => plain.push_str("-")?,
+            "." => plain.push_str(".")?,
+            "" => {}
+            "~" => past = line.len(),
+            put => match put.strip_prefix("~").and_then(|end| rest.find(end)) {
+                Some(to) => past = at.saturating_add(to).saturating_add(2),
+                None => add(&mut plain, &[" ", put, " "])?,
+            },
+        }
+        past = past.max(at.saturating_add(length));
     }
-    if has_between(part, b'-') && part.iter().filter(|byte| **byte == b'-').count() == 1 {
-        return "; there are no ranges: each value stands there itself";
+    Ok(plain)
+}
+
+/// What a word is read as.
+pub(crate) fn meant_word(word: &str) -> &str {
+    let (_, put) = put_at(&[HEADS, WORDS], word.as_bytes(), 0);
+    if put == "=" { word } else { put }
+}
+
+/// What is said of the first character in a part that is strange, or isn't of ASCII.
+pub(crate) fn strange_words(part: &[u8]) -> &'static str {
+    let is_plain = part.is_ascii();
+    let other = if is_plain {
+        ""
+    } else {
+        "; in it stands a character that isn't of ASCII"
+    };
+    first_words(&[words_of(STRANGE, part), other])
+}
+
+/// What is said of a line that begins with this name, of a channel of this kind or none, in which this part stands in the place of a name or a colon.
+pub(crate) fn head_words(name: &[u8], kind: Option<Kind>, part: &[u8]) -> &'static str {
+    let first = part.first().copied().unwrap_or(b' ');
+    let is_value = value_of(name).is_some() || name.is_empty() && first.is_ascii_digit();
+    let unknown: &[u8] = if kind.is_some() { b"" } else { name };
+    first_words(&[
+        words_of(REMARKS, unknown),
+        words_of(HEADS, unknown),
+        match first {
+            _ if is_value => "; all values of a channel stand on one line, behind its name",
+            _ if !name.is_empty() && part.len() > 1 && part.ends_with(b":") =>
+                "; a name has no blanks, and no signs but `_`",
+            b';' | b'!' if name.is_empty() => words_of(COMMENTS, b"#"),
+            _ => words_of(COMMENTS, part),
+        },
+    ])
+}
+
+/// What is said of a word that is no value, where lines come one at a time too.
+pub(crate) fn numeral_words(word: &[u8]) -> &'static str {
+    let (comments, numerals) = (words_of(COMMENTS, word), words_of(NUMERALS, word));
+    first_words(&[comments, numerals, shape_words(PAST, word)])
+}
+
+/// Whether a word has a shape.
+fn has_shape(shape: &[u8], word: &[u8]) -> bool {
+    let mut at = 0usize;
+    for sign in shape {
+        let rest = word.get(at..).unwrap_or(b"");
+        let end = match *sign {
+            b'9' => rest.iter().position(|byte| !byte.is_ascii_digit()),
+            b'a' => rest.iter().position(|byte| !byte.is_ascii_alphabetic()),
+            b'*' => None,
+            _ if matches!(rest.first(), Some(byte) if byte == sign) => Some(1),
+            _ => Some(0),
+        };
+        let length = end.unwrap_or(rest.len());
+        if length == 0 && *sign != b'*' {
+            return false;
+        }
+        at = at.saturating_add(length);
     }
-    let others = words_or(no_comment_words(part), words_of(OTHERS, part));
-    let words = words_or(others, numeral_words(part));
-    let digits = part.strip_prefix(b"-").unwrap_or(part);
-    if !words.is_empty() {
-        return words;
-    }
-    if is_text(part) {
-        return "; an input has no texts: a number stands for each character";
-    }
-    if digits_from(digits, 0) > 0 && words_of(STRANGE, part).is_empty() {
-        return "; a number is digits alone, without a unit or an exponent";
+    at == word.len()
+}
+
+/// What a table says of the first of its shapes that a word has.
+fn shape_words(table: &'static str, word: &[u8]) -> &'static str {
+    for row in table.lines() {
+        let mut shapes = cell(row, 0).split(" ");
+        if shapes.any(|shape| has_shape(shape.as_bytes(), word)) {
+            return cell(row, 2);
+        }
     }
     ""
 }
 
-/// The first words, or the others where these are none.
-pub(crate) fn words_or(first: &'static str, others: &'static str) -> &'static str {
-    if first.is_empty() { others } else { first }
+/// What is said of a word of a line that is no value before all else: of its commas, a `;` behind it, or of a comment.
+fn front_words(line: &[u8], word: &[u8]) -> &'static str {
+    if marks_between(word, b',') > 0 && has_commas_within(line) {
+        return "; a number is whole, and has no `,`: 1200 for 1,200, and 185 tenths for 18,5";
+    }
+    if word.ends_with(b";") && line.trim_ascii_end().ends_with(word) {
+        return "; a line has no `;` at its end";
+    }
+    words_of(COMMENTS, word)
+}
+
+/// What is said of a word of a line that is no value, which begins with this name, of a channel of this kind or none.
+pub(crate) fn word_words(
+    line: &[u8],
+    name: &[u8],
+    kind: Option<Kind>,
+    word: &[u8],
+) -> &'static str {
+    let is_logical = matches!(kind, Some(Kind::Logical));
+    let is_near = is_within(word, b"true", 2) || is_within(word, b"false", 2);
+    let shapes = if is_near || is_logical { "" } else { SHAPES };
+    let truths = if is_logical { "yes" } else { "" };
+    first_words(&[
+        words_of(REMARKS, name),
+        front_words(line, word),
+        words_of(WORDS, word),
+        shape_words(shapes, word),
+        words_of(OTHERS, word),
+        numeral_words(word),
+        words_of(WORDS, truths.as_bytes()),
+    ])
+}
+
+/// The first words that are some.
+pub(crate) fn first_words(all: &[&'static str]) -> &'static str {
+    for words in all {
+        if !words.is_empty() {
+            return *words;
+        }
+    }
+    ""
 }

@@ -1,4 +1,4 @@
-use Rattle.kahn_inputs.proofs.Common.{◌∙◌, ◌++◌, List, ℕ, ap, ap₂, string_bytes, line_name}
+use Rattle.kahn_inputs.proofs.Common.{◌∙◌, ◌++◌, ap, ap₂, line_name}
 use Rattle.kahn_hints.specs.Inputs.{input_names, unknown_input}
 use Rattle.kahn_inputs.proofs.refused.unknown_words.Goals as goal
 

@@ -1,7 +1,0 @@
-use Rattle.std.proofs.Common.{◌∙◌, ap, length}
-use Rattle.std.specs.Option.{unwrap_or}
-use Rattle.kahn_texts.proofs.Scanned.{stop_of}
-use Rattle.kahn_inputs.proofs.fitting.class_bytes.Goals as goal
-
-pub returns-clause-stop : goal.returns-clause-stop
-returns-clause-stop c = c.unwrap_or.ensures ∙ ap (λ o. unwrap_or o (length c.args.bytes.now)) c.first_past.ensures ∙ stop_of _ c.args.bytes.now
