@@ -2,69 +2,111 @@
 
 use crate::heads::{end_of, head_before};
 use crate::lost::{longer_of, spans_of};
-use crate::names::{NameKind, names_asked, names_seen};
+use crate::names::{NameKind, names_asked, names_seen, taken_by};
 use crate::near::nearest;
-use crate::place::{NetworkPlace, called_first, is_called, side_of, word_at};
-use crate::said::Added;
-use crate::trial::{Edit, EditKind, Trial, Tried, is_of_sides};
-use kahn_marks::{add, add_spot};
-use kahn_streams::{CheckFault, Declaration, Name, NoMemory, Span};
+use crate::place::{NetworkPlace, called_first, is_called, is_in, side_of, word_at};
+use crate::trial::{Edit, EditKind, Trial, Tried, faults_behind, is_of_sides, statement_at};
+use kahn_marks::{add, is_within};
+use kahn_streams::{CheckFault, Declaration, Name, NoMemory, Process, Span};
 use kahn_syntax::{Class, Keyword, Sign};
 use std::alloc::AllocError;
 
+/// What is written for truth values.
+const VALUES: [(&str, &str); 4] = [
+    ("true", "true"),
+    ("false", "false"),
+    ("yes", "true"),
+    ("off", "false"),
+];
+
+/// In a longer statement no names are interchanged.
+const MOST_BYTES: usize = 256;
+
 impl<'p> Trial<'p> {
-    /// All those for a fault.
-    fn with_fault(&mut self, fault: CheckFault) -> Tried {
+    /// All those for the fault.
+    fn with_fault(&mut self) -> Tried {
         let place = self.place;
-        match fault {
+        match self.fault {
             CheckFault::Unknown(_) => return self.with_unknown(),
             CheckFault::DeclaredTwice(_) => return self.with_twice(),
-            CheckFault::WrongCount(_) => return self.with_counts(),
-            CheckFault::NoWriter(_) => return self.with_role(fault, "input"),
-            CheckFault::NoReader(_) => return self.with_role(fault, "output"),
+            CheckFault::WrongCount(_) => {
+                return match place.called() {
+                    Some(process) => self.with_arranged(process, place.handed_at(place.at.from)),
+                    None => Ok(()),
+                };
+            }
+            CheckFault::NoWriter(_) => return self.with_role("input"),
+            CheckFault::NoReader(_) => return self.with_role("output"),
             CheckFault::TooMany(_) | CheckFault::NoMemory => return Ok(()),
-            CheckFault::WrongDirection(_) => {
-                if let Some(name) = nearest(place.word(), &names_asked(place)?) {
-                    self.put_one(EditKind::Near, place.at, name.text.as_str())?;
-                }
-            }
-            CheckFault::ChannelExpected(_) => {
-                let wait = place.beyond(Sign::Open, -1);
-                if let (Some(wait), Some(close)) = (wait, place.span(1)) {
-                    self.put(EditKind::Bare, (wait, close), &[place.part(place.at)])?;
-                }
-            }
-            CheckFault::ValueExpected(_) => {
-                self.with_taken()?;
-                let pieces = ["wait(", place.part(place.at), ")"];
-                self.put(EditKind::Waited, (place.at, place.at), &pieces)?;
-            }
+            CheckFault::WrongDirection(_) => self.with_names(place.at, true)?,
+            CheckFault::ChannelExpected(_) => self.with_bare()?,
+            CheckFault::ValueExpected(_) => self.with_waited()?,
             _ => match place.part(place.at) {
                 "0" => self.put_one(EditKind::Near, place.at, "false")?,
                 "1" => self.put_one(EditKind::Near, place.at, "true")?,
                 _ => {}
             },
         }
-        self.with_targets()?;
-        self.with_others(fault)
+        if place.process.is_some() {
+            self.with_statement()?;
+        }
+        self.with_others()
     }
 
-    /// The variables that are assigned what was taken from the channel at the place.
-    fn with_taken(&mut self) -> Tried {
+    /// The name at the place without its `wait`; first, where that is all that is assigned, a channel in its place.
+    fn with_bare(&mut self) -> Tried {
         let place = self.place;
+        let wait = place.beyond(Sign::Open, -1);
+        if let (Some(wait), Some(close)) = (wait, place.span(1)) {
+            let is_all = place.class(-3) == Some(Class::Sign(Sign::Becomes)) && place.is_last(2);
+            if is_all && place.own_parameter().is_none() {
+                self.with_names(place.at, true)?;
+            }
+            self.put(EditKind::Bare, (wait, close), &[place.part(place.at)])?;
+        }
+        Ok(())
+    }
+
+    /// The variable that was assigned last before the place what was taken from the channel there, unless that is all that is assigned; and the
+    /// next value of the channel; or, where it is assigned, the name that is waited on.
+    fn with_waited(&mut self) -> Tried {
+        let place = self.place;
+        let is_all = place.class(-1) == Some(Class::Sign(Sign::Becomes)) && place.is_last(1);
+        let mut taken = None;
         for lexeme in place.seen() {
-            if place.part(lexeme.span) == place.part(place.at) {
+            if !is_all && place.part(lexeme.span) == place.part(place.at) {
                 let its = place.moved_to(lexeme.span);
                 let is_assigned = its.class(-3) == Some(Class::Sign(Sign::Becomes));
-                match its.span(-4) {
-                    Some(name) if is_assigned && its.asked() == NameKind::Source => {
-                        self.put_one(EditKind::Near, place.at, place.part(name))?;
-                    }
-                    _ => {}
+                let is_before = lexeme.span.from < place.at.from || taken.is_none();
+                if is_before && is_assigned && its.asked() == NameKind::Source {
+                    taken = its.span(-4);
                 }
             }
         }
-        Ok(())
+        if let Some(name) = taken {
+            self.put_one(EditKind::Near, place.at, place.part(name))?;
+        }
+        self.with_send()?;
+        let pieces = ["wait(", place.part(place.at), ")"];
+        self.put(EditKind::Waited, (place.at, place.at), &pieces)
+    }
+
+    /// Where the name at the place is assigned: the value sent on it.
+    fn with_send(&mut self) -> Tried {
+        let (place, from) = (self.place, self.place.at.from);
+        let Some((statement, _)) = statement_at(place.lexemes, from) else {
+            return Ok(());
+        };
+        let to = statement.to;
+        let whole = place.part(Span { from, to }).trim();
+        let to = from.saturating_add(whole.len());
+        match whole.split_once(":=") {
+            Some((name, value)) => {
+                let pieces = ["send ", value.trim(), " on ", name.trim()];
+                self.put(EditKind::Flip, (place.at, Span { from: to, to }), &pieces)
+            }
+            None => Ok(()),
+        }
     }
 
     /// Those for a name that is declared twice: one that isn't declared in its place, or one of the two left out.
@@ -80,7 +122,9 @@ impl<'p> Trial<'p> {
         }
         for fault in self.faults {
             if let CheckFault::Unknown(span) = fault {
-                self.put_one(EditKind::Near, place.at, place.part(*span))?;
+                if place.process.is_none() && place.moved_to(*span).process.is_none() {
+                    self.put_one(EditKind::Near, place.at, place.part(*span))?;
+                }
             }
         }
         self.without_name(place.at)?;
@@ -90,74 +134,73 @@ impl<'p> Trial<'p> {
         }
     }
 
-    /// The name at the place and the one behind its `on` interchanged, where a bracket may stand between; or the channels of the first
-    /// send that ends behind the place and of another one, or of all of them.
-    fn with_targets(&mut self) -> Tried {
+    /// A name in the statement at the place interchanged with what stands there; if it is of a channel, another one that nothing uses.
+    fn with_name(&mut self, name: Span) -> Tried {
         let place = self.place;
-        let is_closed = place.class(1) == Some(Class::Sign(Sign::Close));
-        let behind = if is_closed { 2 } else { 1 };
-        let on = place.class(behind);
-        if let (Some(Class::Word(Keyword::On)), Some(target)) = (
-            on,
-            place.span(behind.saturating_add(1)),
-        ) {
-            self.with_swap(EditKind::Swap, place.at, target)?;
-        }
-        let all = place.seen();
-        let mut targets: Vec<Span> = Vec::new(place.alloc);
-        for (on, target) in all.iter().zip(all.iter().skip(1)) {
-            if on.what == Class::Word(Keyword::On) && on.span.from >= place.at.from {
-                targets.push(target.span)?;
-            }
-        }
-        let Some((first, rest)) = targets.split_first() else {
-            return Ok(());
+        let is_before = name.to <= place.at.from;
+        let (first, last) = if is_before {
+            (name, place.at)
+        } else {
+            (place.at, name)
         };
-        for other in rest {
-            self.with_swap(EditKind::Swap, *first, *other)?;
+        self.with_swap(EditKind::Swap, first, last)?;
+        match place.moved_to(name).asked() {
+            NameKind::Value => Ok(()),
+            _ => self.with_names(name, false),
         }
-        self.with_pairs(*first, &targets)
     }
 
-    /// The channels of neighbouring sends interchanged, two by two.
-    fn with_pairs(&mut self, first: Span, targets: &[Span]) -> Tried {
-        let place = self.place;
-        let mut put = String::new(place.alloc);
-        let (mut from, mut last) = (first.from, first);
-        for (number, target) in targets.iter().enumerate() {
-            let beside = match number % 2 {
-                0 => number.saturating_add(1),
-                _ => number.saturating_sub(1),
-            };
-            let other = targets.get(beside).copied().unwrap_or(*target);
-            let to = target.from;
-            add(
-                &mut put,
-                &[place.part(Span { from, to }), place.part(other)],
-            )?;
-            from = target.to;
-            last = *target;
+    /// In the statement at the place its other names interchanged with what stands there, and other channels that nothing uses; or the channels
+    /// of the first send that ends behind the place and of another one.
+    fn with_statement(&mut self) -> Tried {
+        let (place, all) = (self.place, self.place.seen());
+        match statement_at(place.lexemes, place.at.from) {
+            Some((statement, _)) if statement.to.saturating_sub(statement.from) < MOST_BYTES => {
+                for lexeme in all {
+                    if lexeme.what == Class::Name && is_in(statement, lexeme.span) {
+                        self.with_name(lexeme.span)?;
+                    }
+                }
+            }
+            _ => {}
         }
-        if targets.len() > 3 {
-            self.put(EditKind::Flip, (first, last), &[put.as_str()])?;
+        let mut first = None;
+        for (on, target) in all.iter().zip(all.iter().skip(1)) {
+            if on.what == Class::Word(Keyword::On) && on.span.from >= place.at.from {
+                match first {
+                    Some(first) => self.with_swap(EditKind::Swap, first, target.span)?,
+                    None => first = Some(target.span),
+                }
+            }
         }
         Ok(())
     }
 
-    /// An instance of a process that has none and could have the side; or else a role in the declaration of the channel at the place, and one
-    /// instance more of any process.
-    fn with_role(&mut self, fault: CheckFault, role: &str) -> Tried {
+    /// The declaration left out of a channel that nothing uses; an instance of a process that has none and could have the side; or else a role
+    /// in the declaration of the channel at the place, and one instance more of any process: first of one that has several and takes one channel.
+    fn with_role(&mut self, role: &str) -> Tried {
         let place = self.place;
-        if let Some(process) = place.idle(side_of(fault)) {
+        let word = place.word();
+        if [NameKind::Source, NameKind::Target]
+            .iter()
+            .all(|side| place.passed(*side, word).is_none())
+        {
+            self.without_name(place.at)?;
+        }
+        if let Some(process) = place.idle(side_of(self.fault)) {
             return self.with_instance(process);
         }
-        if let Some(kind) = head_before(place).first() {
-            self.with_word(place.at, end_of(kind.span), role, true)?;
-            self.with_word(place.at, end_of(kind.span), role, false)?;
-        }
-        for declaration in &place.program.declarations {
-            if let Declaration::Process(process) = declaration {
-                self.with_instance(process)?;
+        for are_many in [true, false] {
+            for declaration in &place.program.declarations {
+                if let Declaration::Process(process) = declaration {
+                    if is_many(place, process) == are_many {
+                        self.with_instance(process)?;
+                    }
+                }
+            }
+            if let (true, Some(kind)) = (are_many, head_before(place).first()) {
+                self.with_word(place.at, end_of(kind.span), role, true)?;
+                self.with_word(place.at, end_of(kind.span), role, false)?;
             }
         }
         Ok(())
@@ -167,23 +210,27 @@ impl<'p> Trial<'p> {
     /// uses, there or declared so; or a declaration.
     fn with_unknown(&mut self) -> Tried {
         let place = self.place;
-        if let Some((process, _)) = longer_of(place) {
-            return self.with_parameter(process);
-        }
         let names = names_asked(place)?;
         let near = nearest(place.word(), &names);
+        if near.is_none() && longer_of(place).is_some() {
+            return Ok(());
+        }
         match place.parameter_for() {
             Some(name) if !matches!(near, Some(near) if near.span == name.span) => {
                 self.put_one(EditKind::Handed, place.at, name.text.as_str())?;
             }
             _ => {}
         }
-        if let Some(name) = near {
-            self.put_one(EditKind::Near, place.at, name.text.as_str())?;
+        let is_short = place.asked() != NameKind::Value || place.word().len() < 3;
+        let is_one = names.len() == 1 && is_short && place.channel().is_none();
+        self.with_names(place.at, is_one && place.process.is_some())?;
+        for (word, value) in VALUES {
+            if place.asked() == NameKind::Value && is_within(place.word(), word.as_bytes(), 1) {
+                self.put_one(EditKind::Near, place.at, value)?;
+            }
         }
         for name in &names {
             if !is_called(place.word(), name) && !is_used(place, name) {
-                self.put_one(EditKind::Unused, place.at, name.text.as_str())?;
                 self.put_one(EditKind::Renamed, name.span, place.part(place.at))?;
             }
         }
@@ -191,7 +238,7 @@ impl<'p> Trial<'p> {
         match place.made() {
             Some(process) if near.is_none() && place.process.is_none() => {
                 self.with_arranged(process, place.handed_at(place.at.from))?;
-                self.with_names(NameKind::Value)
+                self.with_names(place.at, true)
             }
             _ => Ok(()),
         }
@@ -205,64 +252,88 @@ impl<'p> Trial<'p> {
         let (Some(begin), Some(names)) = (begin, undeclared(place)?) else {
             return Ok(());
         };
-        for form in forms_in(place) {
-            let pieces = [*form, names.as_str(), ";"];
+        for kind in ["integer ", "logical "] {
+            let pieces = [kind, role_for(place), names.as_str(), ";"];
             self.put(EditKind::Declared, (begin.span, begin.span), &pieces)?;
         }
         Ok(())
     }
 
-    /// The other names in sight, put in the place of the one at the place: of channels those that don't have this side.
-    fn with_names(&mut self, side: NameKind) -> Tried {
-        let place = self.place;
+    /// The other names that may stand at a part of the text, put there: the nearest, those that nothing uses, or all; of channels of the
+    /// program, those that don't have this side, and aren't handed over by the same instance.
+    fn with_names(&mut self, at: Span, are_used: bool) -> Tried {
+        let place = self.place.moved_to(at);
+        let side = side_of(self.fault);
+        let handed = place.handed_at(at.from);
+        let mut names = Vec::new(place.alloc);
         for name in &names_asked(place)? {
             let word = name.text.as_bytes();
-            let is_free = !is_called(place.word(), name) && place.passed(side, word).is_none();
-            if self.tries > 0 && is_free {
-                let way = match is_used(place, name) {
-                    true => EditKind::Used,
-                    false => EditKind::Unused,
-                };
-                self.put_one(way, place.at, name.text.as_str())?;
+            let is_looped = side != NameKind::Channel
+                && handed.iter().any(|one| one.is_channel(word));
+            let is_free = !is_looped && place.passed(side, word).is_none();
+            if is_free && !is_called(place.word(), name) {
+                names.push(*name)?;
+            }
+        }
+        let near = nearest(place.word(), &names);
+        for name in &names {
+            let way = match near {
+                Some(near) if near.span == name.span => EditKind::Near,
+                _ if is_used(place, name) => EditKind::Used,
+                _ => EditKind::Unused,
+            };
+            if self.tries > 0 && (are_used || !matches!(way, EditKind::Used)) {
+                self.put_one(way, at, name.text.as_str())?;
             }
         }
         Ok(())
     }
 
-    /// Those that don't put a near name in.
-    fn with_others(&mut self, fault: CheckFault) -> Tried {
+    /// Those of several names, of heads, and of other names.
+    fn with_others(&mut self) -> Tried {
         let place = self.place;
         let Some(process) = place.process.or(place.made()) else {
             return Ok(());
         };
         let handed = place.handed_at(place.at.from);
         self.with_swaps(EditKind::Swap, &spans_of(place.alloc, handed)?)?;
-        if let Some(first) = place.passed_before(side_of(fault)) {
-            let others = spans_of(place.alloc, place.handed_at(first.from))?;
-            self.with_swaps(EditKind::Swap, &others)?;
-        }
         self.with_arranged(process, handed)?;
-        self.with_heads(fault)?;
+        self.with_heads(self.fault)?;
         self.with_directions(process.name.text.as_bytes())?;
-        if is_of_names(place, fault) {
-            self.with_names(side_of(fault))?;
+        if is_of_names(place, self.fault) {
+            self.with_names(place.at, true)?;
         }
-        Ok(())
+        match place.passed_before(side_of(self.fault)) {
+            Some(first) => self.with_names(first, true),
+            None => Ok(()),
+        }
     }
 }
 
-/// How the names that a place sees are declared.
-fn forms_in(place: NetworkPlace) -> &'static [&'static str] {
-    match place.process {
-        Some(_) => &["integer ", "logical "],
-        None => &[
-            "integer channel ",
-            "logical channel ",
-            "integer input channel ",
-            "logical input channel ",
-            "integer output channel ",
-            "logical output channel ",
-        ],
+/// Whether a process takes one channel and has several instances.
+fn is_many(place: NetworkPlace, process: &Process) -> bool {
+    let channels = process
+        .parameters
+        .iter()
+        .filter(|one| taken_by(one).0 != NameKind::Value);
+    let name = process.name.text.as_bytes();
+    let all = place
+        .program
+        .instances
+        .iter()
+        .filter(|one| is_called(name, &one.process));
+    channels.count() == 1 && all.count() > 1
+}
+
+/// The role that a channel has that isn't declared, by the sides for which instances hand it over.
+fn role_for(place: NetworkPlace) -> &'static str {
+    let is_read = place.passed(NameKind::Source, place.word()).is_some();
+    let is_written = place.passed(NameKind::Target, place.word()).is_some();
+    match (place.process, is_read, is_written) {
+        (Some(_), _, _) => "",
+        (None, true, false) => "input channel ",
+        (None, false, true) => "output channel ",
+        _ => "channel ",
     }
 }
 
@@ -277,10 +348,9 @@ fn is_used(place: NetworkPlace, name: &Name) -> bool {
 /// Whether any other name may be meant.
 fn is_of_names(place: NetworkPlace, fault: CheckFault) -> bool {
     let is_asked = match fault {
-        CheckFault::TwoWriters(_)
-        | CheckFault::TwoReaders(_)
-        | CheckFault::WrongDirection(_)
-        | CheckFault::ChannelExpected(_) => true,
+        CheckFault::TwoWriters(_) | CheckFault::TwoReaders(_) | CheckFault::ChannelExpected(_) => {
+            true
+        }
         CheckFault::WrongKind(_) => place.process.is_none(),
         _ => false,
     };
@@ -337,70 +407,34 @@ fn undeclared(place: NetworkPlace) -> Result<Option<String>, AllocError> {
 }
 
 /// The change that leaves the fewest faults of all, and fewer than there are, of those that may be tried yet.
-pub(crate) fn change_for(
-    place: NetworkPlace,
-    faults: &[CheckFault],
+pub(crate) fn change_for<'p>(
+    place: NetworkPlace<'p>,
+    faults: &'p [CheckFault],
     tries: &mut usize,
     fault: CheckFault,
 ) -> Result<Option<Edit>, NoMemory> {
     if *tries == 0 {
         return Ok(None);
     }
-    let (tried, best) = (*tries, None);
+    let (behind, tried, best) = (faults_behind(place)?, *tries, None);
     let mut trial = Trial {
         place,
+        fault,
         faults,
+        behind,
         tries: tried,
         best,
     };
-    trial.with_fault(fault)?;
+    trial.with_fault()?;
     *tries = trial.tries;
-    match trial.best {
+    match trial.best.take() {
         Some(change) if change.is_one_of => Ok(None),
-        Some(change) if is_unsure(place, fault, &change) => Ok(None),
+        Some(change) if is_unsure(fault, &change) => Ok(None),
         found => Ok(found),
     }
 }
 
-/// Whether a change declares a channel, or mends a side, and leaves a fault: as long as there is one, nothing is known of sides.
-fn is_unsure(place: NetworkPlace, fault: CheckFault, change: &Edit) -> bool {
-    let is_declared = matches!(change.way, EditKind::Declared) || is_of_sides(fault);
-    is_declared && place.process.is_none() && change.left > 0
-}
-
-/// Whether a change is told apart from the words of a fault at a place: it is made elsewhere.
-pub(crate) fn is_elsewhere(change: &Edit, at: Span) -> bool {
-    match change.way {
-        EditKind::Unused | EditKind::Used => change.fix.span.from != at.from,
-        EditKind::Near | EditKind::Swap => false,
-        _ => true,
-    }
-}
-
-/// Adds a change to the words of a fault, unless it is made elsewhere.
-pub(crate) fn add_change(words: &mut String, place: NetworkPlace, change: &Edit) -> Added {
-    let (first, last) = (place.part(change.parts.0), place.part(change.parts.1));
-    let put = change.fix.put.as_str();
-    match change.way {
-        EditKind::Renamed => add(words, &["; nothing uses `", first, "`"]),
-        EditKind::Swap => {
-            add(words, &["; are `", first, "` and `", last])?;
-            words.push_str("` interchanged?")
-        }
-        EditKind::Waited => add(words, &["; its next value is `", put, "`"]),
-        EditKind::Handed => add(words, &["; `", place.name(), "` has it as `", put, "`"]),
-        _ if is_elsewhere(change, place.at) => Ok(()),
-        _ => add(words, &["; did you mean `", put, "`?"]),
-    }
-}
-
-/// Adds a change that is made elsewhere, and may leave a fault that wasn't looked for.
-pub(crate) fn add_unsure(words: &mut String, place: NetworkPlace, change: &Edit) -> Added {
-    let (old, put) = (place.part(change.fix.span), change.fix.put.as_str());
-    if old.is_empty() {
-        add(words, &["; insert `", put, "`"])?;
-    } else {
-        add(words, &["; replace `", old, "` with `", put, "`"])?;
-    }
-    add_spot(words, " at ", place.text, change.fix.span.from)
+/// Whether a change mends a side, and leaves a fault: as long as there is one, nothing is known of sides.
+fn is_unsure(fault: CheckFault, change: &Edit) -> bool {
+    is_of_sides(fault) && change.left > 0
 }

@@ -4,7 +4,7 @@ use crate::names::{NameKind, names_seen};
 use crate::place::{NetworkPlace, called_first, is_called};
 use crate::trial::{EditKind, Trial, Tried};
 use kahn_marks::add;
-use kahn_streams::{Argument, CheckFault, Name, Process, Span};
+use kahn_streams::{Argument, CheckFault, Name, Span};
 use kahn_syntax::{Class, Keyword, Lexeme, Sign};
 use std::alloc::AllocError;
 
@@ -133,7 +133,7 @@ impl<'p> Trial<'p> {
                 let is_meant = if is_whole {
                     is_first
                 } else {
-                    is_of_kinds || is_called(place.word(), name) && place.process.is_some()
+                    is_of_kinds || is_called(place.word(), name)
                 };
                 if is_meant && self.tries > 0 {
                     self.with_words(name.span, is_of_kinds, is_whole)?;
@@ -154,26 +154,9 @@ impl<'p> Trial<'p> {
             first => (first.map(|first| first.span), place.span(1)),
         };
         match (from, to) {
-            (Some(from), Some(to)) => self.put(EditKind::Flip, (from, to), &[""]),
+            (Some(from), Some(to)) => self.put(EditKind::Without, (from, to), &[""]),
             _ => Ok(()),
         }
-    }
-
-    /// One parameter more, which has the name at the place, where an instance hands over more arguments.
-    pub(crate) fn with_parameter(&mut self, process: &Process) -> Tried {
-        let place = self.place;
-        let way = match place.asked() {
-            NameKind::Source => "in ",
-            NameKind::Target => "out ",
-            _ => "",
-        };
-        for parameter in &process.parameters {
-            for kind in ["; integer ", "; logical "] {
-                let at = (parameter.name.span, parameter.name.span);
-                self.put(EditKind::Role, at, &[kind, way, place.part(place.at)])?;
-            }
-        }
-        Ok(())
     }
 
     /// Neighbouring directions of the parameters of a process interchanged.

@@ -1,8 +1,9 @@
 //! Which faults of a network are held back: those that seem to follow from another one.
 
 use crate::mending::{is_same_fault, letters_at};
-use crate::place::{NetworkPlace, instance_at, text_of};
+use crate::place::{NetworkPlace, instance_at, side_of, text_of};
 use kahn_fault::check_span;
+use kahn_marks::MOST_NOTES;
 use kahn_streams::{CheckFault, Span};
 
 /// Whether a fault is that a channel has a second reader or writer.
@@ -21,15 +22,33 @@ pub(crate) fn limit_of(faults: &[CheckFault]) -> usize {
 
 /// Whether a fault follows from another one: an instance's from one of its process, one of sides from any that isn't, and that a name isn't
 /// declared from one that has it as declared twice.
-fn follows(text: &str, body: Option<Span>, fault: CheckFault, other: CheckFault) -> bool {
+fn follows(
+    text: &str,
+    process: &[u8],
+    body: Option<Span>,
+    fault: CheckFault,
+    other: CheckFault,
+) -> bool {
     let is_unknown = matches!(fault, CheckFault::Unknown(_));
-    let is_twice = matches!(other, CheckFault::DeclaredTwice(_));
-    let is_same = is_unknown && is_twice && letters_at(text, other) == letters_at(text, fault);
+    let is_same = matches!(other, CheckFault::DeclaredTwice(_))
+        && (letters_at(text, other) == process
+            || is_unknown && letters_at(text, other) == letters_at(text, fault));
     let is_within = match (body, check_span(other)) {
         (Some(body), Some(span)) => body.from < span.from && span.from < body.to,
         _ => false,
     };
     is_within || is_same || is_side(fault) && !is_side(other)
+}
+
+/// Where a process is named that could have the side that a fault is about, and has no instance.
+fn idle_for(place: NetworkPlace, fault: CheckFault) -> usize {
+    match (fault, check_span(fault)) {
+        (CheckFault::NoWriter(_) | CheckFault::NoReader(_), Some(span)) => {
+            let idle = place.moved_to(span).idle(side_of(fault));
+            idle.map_or(0, |process| process.name.span.from)
+        }
+        _ => 0,
+    }
 }
 
 /// Whether a fault of a text is held back, where others were told: of an instance one that follows from another one, and nothing twice.
@@ -42,12 +61,18 @@ pub(crate) fn is_held(
     let (text, tree) = (place.text, place.program);
     let from = check_span(fault).map_or(0, |span| span.from);
     let Some(instance) = instance_at(&tree.instances, from) else {
-        return false;
+        if faults.len() > MOST_NOTES {
+            return false;
+        }
+        let idle = idle_for(place, fault);
+        let is_same = told.iter().any(|other| idle_for(place, *other) == idle);
+        return is_same && idle > 0;
     };
-    let body = text_of(tree, instance.process.text.as_bytes());
+    let process = instance.process.text.as_bytes();
+    let body = text_of(tree, process);
     told.iter()
         .any(|other| is_same_fault(text, *other, text, fault))
         || faults
             .iter()
-            .any(|other| follows(text, body, fault, *other))
+            .any(|other| follows(text, process, body, fault, *other))
 }

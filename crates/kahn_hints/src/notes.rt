@@ -4,11 +4,13 @@ ghost use Rattle.std.specs.Prelude.{◌≡◌, [], All, Contains, IfOk, IfSome};
 ghost use Rattle.kahn_fault.specs.Message.{check_span};
 ghost use Rattle.kahn_hints.specs.Hints.{LessensFaults, TellsFault, TellsMore, TellsOne};
 
-use crate::changes::{add_change, add_unsure, change_for, is_elsewhere};
+use crate::changes::change_for;
 use crate::kept::{is_held, limit_of};
 use crate::mending::{found_kind, is_mended};
 use crate::place::{NetworkPlace, beginning, handed_in};
-use crate::said::{add_advice, add_found, facts_of, others_of};
+use crate::said::{
+    add_advice, add_change, add_found, add_unsure, facts_of, is_elsewhere, others_of,
+};
 use crate::trial::{Edit, is_of_sides, tries_of};
 use kahn_fault::{check_span, check_words};
 use kahn_marks::{Fix, MOST_NOTES, Note, Other, Sort};
@@ -61,7 +63,7 @@ fn told_of(
         Some(change) if !is_of_sides(fault) => {
             add_change(&mut words, place, change)?;
             let is_sure = is_mended(place.alloc, place.text, faults, &change.fix)?;
-            if is_elsewhere(change, place.at) && !is_sure {
+            if change.fix.span.from != place.at.from && is_elsewhere(change, place.at) && !is_sure {
                 add_unsure(&mut words, place, change)?;
             }
         }

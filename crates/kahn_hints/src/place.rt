@@ -4,6 +4,7 @@ ghost use Rattle.std.specs.Prelude.{◌≡◌};
 ghost use Rattle.kahn_hints.specs.Hints.{word_at};
 
 use crate::names::{NameKind, taken_by};
+use crate::trial::is_edge;
 use kahn_marks::part_of;
 use kahn_streams::{
     Argument, CheckFault, Declaration, Instance, Kind, Name, Parameter, Process, Program, Role,
@@ -191,6 +192,22 @@ impl<'p> NetworkPlace<'p> {
         }
     }
 
+    /// Where the process or the instance begins in which a byte stands; there where it stands in none.
+    pub(crate) fn begin_of(&self, from: usize) -> usize {
+        match process_at(self.program, from) {
+            Some(process) => process.name.span.from,
+            None => match instance_at(&self.program.instances, from) {
+                Some(instance) => instance.process.span.from,
+                None => from,
+            },
+        }
+    }
+
+    /// The same of the place.
+    pub(crate) fn begin(&self) -> usize {
+        self.begin_of(self.at.from)
+    }
+
     /// The letters there.
     pub(crate) fn word(&self) -> &'p [u8] {
         word_at(self.text, self.at)
@@ -214,6 +231,11 @@ impl<'p> NetworkPlace<'p> {
     /// What it is.
     pub(crate) fn class(&self, behind: isize) -> Option<Class> {
         Some(self.lexeme(behind)?.what)
+    }
+
+    /// Whether the lexeme so many behind the place stands between statements.
+    pub(crate) fn is_last(&self, behind: isize) -> bool {
+        self.lexeme(behind).is_some_and(is_edge)
     }
 
     /// Where the second lexeme behind the place stands, or before it, if the first one is this sign.
@@ -285,6 +307,12 @@ impl<'p> NetworkPlace<'p> {
         let mut all = self.handed.iter();
         let one = all.find(|one| one.span.from == self.at.from)?;
         Some(&one.parameter?.name)
+    }
+
+    /// The parameter of its process that has its letters.
+    pub(crate) fn own_parameter(&self) -> Option<&'p Parameter> {
+        let mut all = self.process?.parameters.iter();
+        all.find(|parameter| is_called(self.word(), &parameter.name))
     }
 
     /// The first parameter of its process for which an instance hands over the channel of its letters.

@@ -1,10 +1,11 @@
 //! The words behind those of a fault, by what is known of its place: what is wanted, what is found, and what to do; and another place.
 
-use crate::lost::{longer_of, lost_in};
+use crate::lost::{arranged, longer_of};
 use crate::names::{NameKind, names_asked, names_seen, taken_by};
 use crate::near::nearest;
-use crate::place::{NetworkPlace, called_first, is_called, side_of};
+use crate::place::{NetworkPlace, called_first, is_called, is_in, side_of};
 use crate::sight::{add_meant, add_names, first_once};
+use crate::trial::{Edit, EditKind};
 use itoa::Buffer;
 use kahn_fault::check_words;
 use kahn_marks::{Other, add, add_spot};
@@ -36,8 +37,10 @@ limit is exceeded | - | ; a program has at most 1024 channels and 256 instances
 
 /// What to do: `#` is what stands at the place, `@` a process.
 const ADVICE: &str = "
-kind does not agree | integer body | ; `# <> 0` is a truth value of `#`
-kind does not agree | logical body | ; `(if # then 1 else 0)` is a number of `#`
+kind does not agree | body conditional | 
+kind does not agree | integer body | ; compare it, as in `# <> 0` or `# = 0`
+kind does not agree | logical body compared | ; a comparison gives a truth value
+kind does not agree | logical body | ; truth values have `and`, `or`, `not`, `=` and `<>`
 kind does not agree | named outside | 
 kind does not agree | integer | ; hand over `true` or `false` there
 kind does not agree | logical | ; hand over a number there
@@ -73,7 +76,8 @@ channel has two writers | passed | handed over here first, to be written
 channel has two readers | passed | handed over here first, to be read
 channel has two writers | - | declared here as an input, which is written from outside: without `input` a process writes it
 channel has two readers | - | declared here as an output, which is read from outside: without `output` a process reads it, and --watch shows it
-a channel is expected | literal | its parameter is declared here
+a channel is expected | named | declared here
+a channel is expected | - | its parameter is declared here
 ";
 
 /// A fact that always holds.
@@ -92,11 +96,20 @@ fn sentence_of(table: &'static str, fault: CheckFault, facts: &[&str]) -> Option
     None
 }
 
-/// The parameter of its process that has the letters at a place.
-fn parameter_there(place: NetworkPlace) -> Option<NameKind> {
-    let mut all = place.process?.parameters.iter();
-    let parameter = all.find(|parameter| is_called(place.word(), &parameter.name))?;
-    Some(taken_by(parameter).0)
+/// Whether a sign of a comparison stands in the part at a place.
+fn is_compared(place: NetworkPlace) -> bool {
+    place.seen().iter().any(|lexeme| is_in(place.at, lexeme.span)
+        && matches!(
+            lexeme.what,
+            Class::Sign(
+                Sign::Equal
+                    | Sign::Unequal
+                    | Sign::Less
+                    | Sign::AtMost
+                    | Sign::Greater
+                    | Sign::AtLeast
+            )
+        ))
 }
 
 /// What is known of the place of a fault; of one of kinds, which was found.
@@ -105,7 +118,8 @@ pub(crate) fn facts_of(
     fault: CheckFault,
     kind: Option<Kind>,
 ) -> Result<Vec<&'static str>, AllocError> {
-    let (channel, parameter) = (place.channel(), parameter_there(place));
+    let parameter = place.own_parameter().map(|parameter| taken_by(parameter).0);
+    let channel = place.channel();
     let kind = kind.or(channel.map(|channel| channel.0));
     let (asked, side, word) = (place.asked(), side_of(fault), place.word());
     let mut facts = Vec::new(place.alloc);
@@ -117,7 +131,6 @@ pub(crate) fn facts_of(
         (matches!(channel, Some((_, Role::Inner))), "inner"),
         (place.called().is_some(), "is-process"),
         (place.class(0) == Some(Class::Name), "named"),
-        (place.class(0) != Some(Class::Name), "literal"),
         (kind == Some(Kind::Integer), "integer"),
         (kind == Some(Kind::Logical), "logical"),
         (asked == NameKind::Process, "wants-process"),
@@ -129,6 +142,11 @@ pub(crate) fn facts_of(
             "assigned",
         ),
         (word.len() > 1, "long"),
+        (
+            place.class(0) == Some(Class::Word(Keyword::If)),
+            "conditional",
+        ),
+        (is_compared(place), "compared"),
         (parameter == Some(NameKind::Source), "from-channel"),
         (parameter == Some(NameKind::Target), "to-channel"),
         (place.idle(side).is_some(), "idle"),
@@ -162,17 +180,21 @@ fn add_counts(words: &mut String, place: NetworkPlace) -> Added {
     };
     let arguments = instance.arguments.len();
     add_numbers(words, ": wanted ", process, ", found ", arguments)?;
-    let lost = lost_in(place, process)?;
-    let (Some((first, one)), Some((last, other))) = (lost.first(), lost.last()) else {
+    let handed = place.handed_at(place.at.from);
+    let parameters = &process.parameters;
+    let given = arranged(place, parameters, handed, true)?;
+    if arguments >= parameters.len() {
         return Ok(());
-    };
-    if let (Some(one), Some(other)) = (one, other) {
-        if one.span == other.span {
-            return add(words, &["; is `", one.text.as_str(), "` missing?"]);
+    }
+    for word in &given {
+        if !handed.iter().any(|one| place.part(one.span) == *word) {
+            return add(words, &["; is `", word, "` missing?"]);
         }
     }
-    match process.parameters.get(*first) {
-        Some(it) if first == last => add(words, &["; `", it.name.text.as_str(), "` is missing"]),
+    match parameters.get(given.len()) {
+        Some(one) if taken_by(one).0 == NameKind::Value => {
+            add(words, &["; `", one.name.text.as_str(), "` is missing"])
+        }
         _ => Ok(()),
     }
 }
@@ -313,4 +335,43 @@ pub(crate) fn others_of(
         others.push(Other { span, words })?;
     }
     Ok(others)
+}
+
+/// Whether a change is told apart from the words of a fault at a place: it is made elsewhere.
+pub(crate) fn is_elsewhere(change: &Edit, at: Span) -> bool {
+    match change.way {
+        EditKind::Near | EditKind::Unused | EditKind::Used => change.fix.span.from != at.from,
+        EditKind::Swap => false,
+        _ => true,
+    }
+}
+
+/// Adds a change to the words of a fault, unless it is made elsewhere.
+pub(crate) fn add_change(words: &mut String, place: NetworkPlace, change: &Edit) -> Added {
+    let (first, last) = (place.part(change.parts.0), place.part(change.parts.1));
+    let put = change.fix.put.as_str();
+    match change.way {
+        EditKind::Renamed => add(words, &["; nothing uses `", first, "`"]),
+        EditKind::Swap => {
+            add(words, &["; are `", first, "` and `", last])?;
+            words.push_str("` interchanged?")
+        }
+        EditKind::Waited => add(words, &["; its next value is `", put, "`"]),
+        EditKind::Handed => add(words, &["; `", place.name(), "` has it as `", put, "`"]),
+        _ if is_elsewhere(change, place.at) => Ok(()),
+        _ => add(words, &["; did you mean `", put, "`?"]),
+    }
+}
+
+/// Adds a change that is made elsewhere, and may leave a fault that wasn't looked for.
+pub(crate) fn add_unsure(words: &mut String, place: NetworkPlace, change: &Edit) -> Added {
+    let (old, put) = (place.part(change.fix.span), change.fix.put.as_str());
+    if put.is_empty() {
+        add(words, &["; remove `", old, "`"])?;
+    } else if old.is_empty() {
+        add(words, &["; insert `", put, "`"])?;
+    } else {
+        add(words, &["; replace `", old, "` with `", put, "`"])?;
+    }
+    add_spot(words, " at ", place.text, change.fix.span.from)
 }

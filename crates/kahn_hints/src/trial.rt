@@ -1,11 +1,11 @@
 //! Changes that are tried one after another, and the one that leaves the fewest faults.
 
-use crate::mending::{are_fewer, faults_in, is_known};
+use crate::mending::{faults_in, is_known, is_same_fault};
 use crate::place::NetworkPlace;
 use kahn_fault::check_span;
 use kahn_marks::{Fix, add, applied};
 use kahn_streams::{CheckFault, NoMemory, Span};
-use kahn_syntax::Lexeme;
+use kahn_syntax::{Class, Keyword, Lexeme, Sign};
 
 /// Whether memory was there for trying a change.
 pub(crate) type Tried = Result<(), NoMemory>;
@@ -17,6 +17,12 @@ const MOST_LEXEMES: usize = 8192;
 const MOST_TRIES: usize = 256;
 
 const MOST_READ: usize = 4_000_000;
+
+/// The most channels, of which each has one fault of its sides at most.
+const MOST_SIDES: usize = 1025;
+
+/// So many faults of a process are looked for behind its first.
+const MOST_BEHIND: usize = 6;
 
 /// Which change it is.
 #[derive(Clone, Copy)]
@@ -43,6 +49,8 @@ pub(crate) enum EditKind {
     Waited,
     /// The parameter for which the channel of the name is handed over.
     Handed,
+    /// A declaration of a name is left out.
+    Without,
 }
 
 /// A change that leaves fewer faults.
@@ -54,6 +62,8 @@ pub(crate) struct Edit {
     pub(crate) parts: (Span, Span),
     /// How many faults it leaves.
     pub(crate) left: usize,
+    /// The less of it, the better.
+    cost: usize,
     /// Whether another name leaves as few.
     pub(crate) is_one_of: bool,
 }
@@ -67,14 +77,14 @@ pub(crate) fn tries_of(text: &str, lexemes: &[Lexeme]) -> usize {
     tries.min(MOST_TRIES)
 }
 
-/// The better of two changes: the one that leaves fewer faults, or else the first, but for a name that nothing uses.
+/// The better of two changes: the one that costs less, or else the first, but for a name that nothing uses.
 fn better(best: Option<Edit>, change: Edit) -> Edit {
     let Some(mut best) = best else {
         return change;
     };
     let is_better = match (change.way, best.way) {
-        _ if change.left != best.left => change.left < best.left,
-        (EditKind::Declared, _) => best.is_one_of,
+        _ if change.cost != best.cost => change.cost < best.cost,
+        (EditKind::Declared | EditKind::Bare, _) => best.is_one_of,
         (EditKind::Unused, EditKind::Used | EditKind::Bare) => true,
         _ => false,
     };
@@ -88,7 +98,7 @@ fn better(best: Option<Edit>, change: Edit) -> Edit {
         }
         _ => false,
     };
-    best.is_one_of = best.is_one_of || is_another && change.left == best.left;
+    best.is_one_of = best.is_one_of || is_another && change.cost == best.cost;
     best
 }
 
@@ -97,12 +107,91 @@ pub(crate) fn is_of_sides(fault: CheckFault) -> bool {
     matches!(fault, CheckFault::NoWriter(_) | CheckFault::NoReader(_))
 }
 
+/// Whether a lexeme stands between statements, or before the test of one.
+pub(crate) fn is_edge(lexeme: &Lexeme) -> bool {
+    match lexeme.what {
+        Class::Sign(Sign::Semicolon) => true,
+        Class::Word(Keyword::Begin | Keyword::End | Keyword::Repeat) => true,
+        Class::Word(Keyword::If | Keyword::While | Keyword::Then | Keyword::Else | Keyword::Do) =>
+            true,
+        _ => false,
+    }
+}
+
+/// The statement or the test in which a byte stands, and what may stand in its place.
+pub(crate) fn statement_at(lexemes: &[Lexeme], from: usize) -> Option<(Span, &'static str)> {
+    let number = lexemes.partition_point(|lexeme| lexeme.span.from < from);
+    let (front, rest) = lexemes.split_at_checked(number)?;
+    let first = front.iter().rev().find(|lexeme| is_edge(lexeme))?;
+    let last = rest.iter().find(|lexeme| is_edge(lexeme))?;
+    let (from, to) = (first.span.to, last.span.from);
+    let put = match first.what {
+        Class::Word(Keyword::If | Keyword::While) => " true ",
+        _ => " ",
+    };
+    Some((Span { from, to }, put))
+}
+
+/// Where the process at a place is at fault behind the fault there: in its text without the statements that are at fault, one after another.
+pub(crate) fn faults_behind(place: NetworkPlace) -> Result<Vec<usize>, NoMemory> {
+    let (mut behind, mut front) = (Vec::new(place.alloc), String::new(place.alloc));
+    let (mut done, mut at) = (0, place.at.from);
+    let turns = if place.process.is_some() {
+        MOST_BEHIND
+    } else {
+        0
+    };
+    for _turn in 0..turns {
+        let Some((span, put)) = statement_at(place.lexemes, at) else {
+            return Ok(behind);
+        };
+        let (from, to) = (done, span.from);
+        front.push_str(place.part(Span { from, to }))?;
+        front.push_str(put)?;
+        done = span.to;
+        let (from, to) = (done, place.text.len());
+        let mut other = String::from_str(place.alloc, front.as_str())?;
+        other.push_str(place.part(Span { from, to }))?;
+        let mut next = None;
+        let Some(faults) = faults_in(place.alloc, other.as_str())? else {
+            return Ok(behind);
+        };
+        for fault in &faults {
+            let from = origin_of(place.text, other.as_str(), done, *fault);
+            if next.is_none() && from >= done && place.begin_of(from) == place.begin() {
+                next = Some(from);
+            }
+        }
+        let Some(next) = next else {
+            return Ok(behind);
+        };
+        behind.push(next)?;
+        at = next;
+    }
+    Ok(behind)
+}
+
+/// Where a fault of another text stands in a text that differs from it before a byte.
+fn origin_of(text: &str, other: &str, same: usize, fault: CheckFault) -> usize {
+    let from = check_span(fault).map_or(0, |span| span.from);
+    let rest = other.len().saturating_sub(from);
+    if rest <= text.len().saturating_sub(same) {
+        text.len().saturating_sub(rest)
+    } else {
+        from
+    }
+}
+
 /// The changes that are tried for a fault, one after another.
 #[derive(Drop)]
 pub(crate) struct Trial<'p> {
     pub(crate) place: NetworkPlace<'p>,
+    /// The fault there.
+    pub(crate) fault: CheckFault,
     /// All faults of the text.
     pub(crate) faults: &'p [CheckFault],
+    /// Where its process is at fault behind it.
+    pub(crate) behind: Vec<usize>,
     /// How many may be tried yet.
     pub(crate) tries: usize,
     /// The best so far.
@@ -110,44 +199,57 @@ pub(crate) struct Trial<'p> {
 }
 
 impl<'p> Trial<'p> {
-    /// Whether a fault of a changed text wasn't looked for before: one of sides, or one at or behind another fault of the same part.
-    fn is_hidden(&self, other: &str, fix: &Fix, found: CheckFault) -> bool {
-        let Some(span) = check_span(found) else {
-            return false;
-        };
-        let rest = other.len().saturating_sub(span.from);
-        let from = match span.from > fix.span.from {
-            true => self.place.text.len().saturating_sub(rest),
-            false => span.from,
-        };
-        let its = self.place.moved_to(Span { from, to: from });
-        let begin = match (its.process, its.instance()) {
-            (Some(process), _) => process.name.span.from,
-            (None, Some(instance)) => instance.process.span.from,
-            (None, None) => from,
-        };
-        let (faults, of_sides) = (self.faults, is_of_sides(found));
-        if of_sides && !faults.iter().any(|fault| is_of_sides(*fault)) {
-            return true;
+    /// Whether a fault in the part at the place, which stands there in the text as it is, was there before behind the one at the place.
+    fn is_behind(&self, fix: &Fix, found: CheckFault, from: usize) -> bool {
+        if self.place.process.is_some() {
+            return self.behind.contains(&from);
         }
-        faults.iter().any(|fault| match check_span(*fault) {
-            Some(span) => begin <= span.from && span.from <= from,
-            None => false,
-        })
+        let is_within = fix.span.from <= from && from <= fix.span.to;
+        !is_within
+            && match found {
+                CheckFault::Unknown(_) => true,
+                CheckFault::TwoWriters(_) | CheckFault::TwoReaders(_) => false,
+                _ => fix.span.from >= self.place.begin(),
+            }
     }
 
-    /// How many faults a changed text has, if it has fewer of those that are looked for, and none that wasn't there or was hidden.
-    fn left_of(&self, other: &str, fix: &Fix, left: &[CheckFault]) -> Option<usize> {
-        let (text, faults) = (self.place.text, self.faults);
-        let sides = left.iter().filter(|found| is_of_sides(**found));
-        let count = left.len().saturating_sub(sides.count());
-        let mut all = left.iter();
-        let is_left = are_fewer(text, faults, other, left)
-            || count < faults.len()
-                && !fix.put.is_empty()
-                && all.all(|found| is_known(text, faults, other, *found)
-                    || self.is_hidden(other, fix, *found));
-        if is_left { Some(left.len()) } else { None }
+    /// What a change costs that leaves these faults in another text: by their number, then that of sides that weren't looked for. Nothing where
+    /// the fault is there yet, or one is new that wasn't hidden.
+    fn cost_of(&self, other: &str, way: EditKind, fix: &Fix, left: &[CheckFault]) -> Option<usize> {
+        let (place, text, faults) = (self.place, self.place.text, self.faults);
+        let are_sides = faults.iter().any(|fault| is_of_sides(*fault));
+        let (own, mut count, mut sides) = (place.begin(), 0_usize, 0_usize);
+        let (mut are_known, mut are_behind) = (true, true);
+        for found in left {
+            let from = origin_of(text, other, fix.span.to, *found);
+            if is_of_sides(*found) && !are_sides {
+                sides = sides.saturating_add(1);
+                are_known = false;
+            } else if is_known(text, faults, other, *found) {
+                count = count.saturating_add(1);
+                let is_same = is_same_fault(text, self.fault, other, *found);
+                if is_same && place.begin_of(from) == own {
+                    return None;
+                }
+            } else {
+                count = count.saturating_add(1);
+                let begin = place.begin_of(from);
+                let is_hidden = faults.iter().any(|fault| match check_span(*fault) {
+                    Some(span) => begin <= span.from && span.from <= from,
+                    None => false,
+                });
+                if !is_hidden {
+                    return None;
+                }
+                are_known = false;
+                are_behind = are_behind && begin == own && self.is_behind(fix, *found, from);
+            }
+        }
+        let is_fewer = count < faults.len() || count == faults.len() && are_behind;
+        let is_less = are_known && left.len() < faults.len()
+            || !matches!(way, EditKind::Without) && is_fewer;
+        let cost = count.saturating_mul(MOST_SIDES).saturating_add(sides);
+        if is_less { Some(cost) } else { None }
     }
 
     /// Tries these pieces in the place of what stands from the first part to the second, or behind that, if some change may be tried yet.
@@ -169,16 +271,17 @@ impl<'p> Trial<'p> {
         let Some(other) = applied(alloc, self.place.text, &fix)? else {
             return Ok(());
         };
-        let Some(left) = faults_in(alloc, other.as_str())? else {
+        let Some(faults) = faults_in(alloc, other.as_str())? else {
             return Ok(());
         };
-        if let Some(left) = self.left_of(other.as_str(), &fix, &left) {
-            let is_one_of = false;
+        if let Some(cost) = self.cost_of(other.as_str(), way, &fix, &faults) {
+            let (left, is_one_of) = (faults.len(), false);
             let change = Edit {
                 way,
                 fix,
                 parts,
                 left,
+                cost,
                 is_one_of,
             };
             self.best = Some(better(self.best.take(), change));
@@ -196,6 +299,9 @@ impl<'p> Trial<'p> {
         let (place, from, to) = (self.place, first.to, last.from);
         let between = place.part(Span { from, to });
         let pieces = [place.part(last), between, place.part(first)];
+        if from > to || place.part(first) == place.part(last) {
+            return Ok(());
+        }
         self.put(way, (first, last), &pieces)
     }
 
