@@ -14,7 +14,7 @@ any | if process repeat while send print wait in out input output channel | twic
 any | any | always | shifted
 any | any | always | parted
 any | any | always | blurred
-any | , | >integer_logical | instead | ;
+, | integer logical | -number | group
 any | any | always | words
 any | any | always | slip
 any | any | always | remark
@@ -26,6 +26,8 @@ any | name | unknown near !>;_end_else_nothing | instead | send process if while
 any | name | unknown near >begin | instead | repeat
 begin ; do then else | name | unknown near whole !>;_end_else_nothing | out
 any | any | named near | a keyword is no name, in any letter case: take another one
+any | end | whole near | instead | send
+any | in or | whole near | instead | on
 any | any | always | blocks
 - | > | joined | there is no arrow: `send E on C` sends, `X := wait(C)` takes, and `;` stands between statements
 < > | < > | joined | there is no shift: `X * 16`, `X div 16`
@@ -43,17 +45,12 @@ any | := | here | instead | =
 any | , | near | instead | ; par on
 any | , | ending | instead | ;
 any | ; | near | instead | , par on
-) | and or | always | instead | par
-any | then | always | instead | do
-any | do | always | instead | then
 any | input | always | instead | in
 any | output | always | instead | out
 any | in | always | instead | input
 any | out | always | instead | output
 any | ; , | >else_do_then_par_on_) | out
 ; | par | always | out
-( | , | whole | out
-any | par | whole near >end_else_nothing | out
 any | begin | whole here | out
 any | any | always | put | ;
 any | any | !joined | put | ,
@@ -67,7 +64,8 @@ number ) | name | declared -then -do | put | *
 number ) | ( | always | put | *
 in out input output | any | always | put | channel
 any | any | !>begin | exchange
-any | any | whole | put | send if process while
+any | any | whole | put | send if while
+any | any | always | put | process
 name | - | joined -) | a name has letters, digits and `_`
 then begin do else ; repeat | wait | always | `wait(C)` is a value: a statement takes one by `X := wait(C)`
 begin do else ; repeat | ( - | always | a statement begins with a name or a keyword; a comment goes from `comment` to `;`
@@ -81,7 +79,6 @@ any | on | +operator +end | `on` stands behind the value of a `send`: `send E on
 any | in out input output channel integer logical wait not if ( | +true | an instance hands over channels and literals, by their places: `P(A, -1, true)`
 any | process | +statement | no process stands in the body of another one: all of them stand side by side
 any | send print | +value | `send` and `print` are statements, and give no value: `X := wait(C)` takes one
-send | on | always | `on` and a channel stand behind the value: `send E on C`
 any | in out | +channel | an input is `integer input channel C`, an output `integer output channel C`
 any | channel | always | outside of processes `integer channel C` declares one; a process gets it by `integer in U` or `integer out W`
 nothing | name | always | a program has no name: it goes from `begin` to `end`
@@ -106,7 +103,6 @@ any | par | -( | `par` stands between instances: `p(A) par q(B)`
 any | ; | +:= | a statement that begins with a name assigns to it, `X := E`; names of one kind stand with commas, `integer I, J`
 any | ; end else par | +( | brackets stand behind the name of a process, also where they are empty: `p()`
 any | ; end else par on do then ) , | +else -end | an `if` among values has its `else`: `if E then E else E`
-any | + | +value | no `+` stands before a value: leave it out
 any | = := + - * < > <> <= >= and div mod or | +, +) -; | an argument is no expression: an instance hands over channels and literals, by their places: `P(A, -1, true)`
 any | + - * < > <> <= >= and div mod or = | -, +arithmetic | a comparison has two sides: `0 < X and X < 3`
 any | + - * < > <> <= >= and div mod or | -, +:= | a statement that begins with a name assigns to it, `X := E`; `send E on C` sends a value
@@ -115,7 +111,6 @@ any | = := | +, -arithmetic | a variable begins as 0 or `false`; a statement ass
 any | , | +:= | a statement assigns to one name: `X := E; Y := F`
 any | , | +; +operator | a statement has one value: `print E; print F`
 name | , | +; | a value goes on one channel: `send E on C; send E on D`
-name | name number | +( known | an instance is `P(A, B)`: brackets stand round what it hands over
 name | ( | +:= | a body calls nothing and starts nothing: `send E on C` sends a value, and instances stand behind all processes
 name | ( | +operator | a body calls nothing: there are no functions, `wait(C)` takes a value, and nothing tells whether one is there
 any | name print | line +; here | insist | ;
@@ -124,7 +119,7 @@ any | and begin channel div do else end false if in input integer logical mod no
 any | number ; | whole here | out
 end | name | whole here | out
 any | else | +end | an `else` stands behind `if E then S`, where S is one statement; `begin` and `end` make one of several
-any | any | whole near | instead | ) ( , := on then do begin end par ;
+any | any | near | instead | ) ( , := on then do begin end par ;
 any | number | whole near | instead | * ( )
 any | , | +on | `send` sends one value: `send E on C; send F on C`
 nothing | any | always | a program is like `begin integer output channel B; process p(integer out W); begin send 1 on W end; p(B) end`
@@ -134,9 +129,9 @@ par | any | always | `par` stands between instances: `p(A) par q(B)`
 any | any | +declaration | here stand channels, `integer channel C;`, and processes, `process P(integer in U; integer out W); begin .. end;`; then instances, `P(A, B)`
 any | any | +statement | a statement is like `X := wait(C)`, `send X on C`, `print X`, `if X > 0 then S`, `while X > 0 do S`, `repeat S` or `begin S; T end`
 any | any | +value | a value is like `X`, `12`, `wait(C)`, `-X`, `(X + 1)` or `if X > 0 then 1 else 0`
+any | name number ( wait , | +operator | a value goes on with `+`, `-`, `*`, `div`, `mod`, `=`, `<>`, `<`, `<=`, `>`, `>=`, `and` or `or`; a statement behind another one stands behind `;`
 any | any | +do | a loop is like `while X > 0 do S`, or `repeat S`, where S is one statement
 any | any | +then | a choice is like `if X > 0 then S else T`, where S and T are one statement each
 any | any | +on | a value is sent as by `send X + 1 on C`
-any | any | +operator | a value goes on with `+`, `-`, `*`, `div`, `mod`, `=`, `<>`, `<`, `<=`, `>`, `>=`, `and` or `or`; a statement behind another one stands behind `;`
 any | any | +integer | parameters are like `integer in U; integer out W; integer N`
 ";

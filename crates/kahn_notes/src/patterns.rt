@@ -10,8 +10,6 @@ B := wait(A) | V ( A , B ) | A ? B | V ( A ) : = B
 wait(A) | V [|{ A ]|} | V ) A ( | V on|for|from|of A | V A | A . V ( )
 send E on O | S ( E , O ) | S ( O , E ) | S E D O | S E - > O | S O , E | S O : = E | S O < - E | S O E | O . S ( E ) | O ! E | O < - E
 send E on A | on A S E | S on A E
-send A on O | A on O
-A := B + E | A < - B + E
 A := wait(U) | A < - U
 A := E | A < - E
 B := wait(U) | U - > B | U > > B
@@ -34,7 +32,6 @@ div 2; | / / 2 ;
 (if E < F then E else F) | min ( E , F )
 (if E < 0 then -(E) else E) | abs ( E )
 else if | elif|elsif|elseif
-else begin | else if begin
 -A | negate A
 and | and then | andalso
 or | or else | orelse
@@ -79,7 +76,6 @@ integer D A | D channel A
 ; K D A) | ) - > K D A
 ; K D A | - > K D A
 K A, B; | K A ; B ;
-R channel A | channel R A
 integer R channel A | R channel A | R A
 K channel A | A : = make ( chan K ) | channel|chan of K A | channel < K > A | chan|channel K A | A = channel ( K ) | var A : channel of K
 K channel A, B; | K channel A ; B ;
@@ -87,10 +83,8 @@ K channel L; | chan|channel of K L :
 K R channel A, B; | K R channel A ; B ;
 integer channel A | channel A | var A = channel ( ) | A = channel ( )
 A(T | process A ( T
-process A(K D L | A ( K D L
 process A( | process A [ | process A = (
 process A(K | int A ( K
-A(E) | A [ E ]
 (E) | [ E ]
 process A(); begin | process A begin
 process B( | process A = B (

@@ -12,6 +12,7 @@ use crate::said::{Saying, filled, fix_of, put_behind, sentence, told};
 use crate::spaced::{blurred, decimal, parted, shifted};
 use crate::table::{cell, finds, fits, has_word};
 use kahn_marks::part_of;
+use kahn_syntax::{Class, Sign};
 use kahn_wanted::Change;
 
 /// How many lexemes before a place a change may stand.
@@ -106,6 +107,12 @@ fn said_by(row: &'static str, place: Place) -> Saying {
         "shifted" => told(place, shifted(place)?),
         "parted" => told(place, parted(place, cell(row, 4) == "likely")?),
         "blurred" => told(place, blurred(place)?),
+        "group" => {
+            let (at, out) = (place.number.wrapping_sub(1), 1);
+            let (put, then) = (Some(Class::Sign(Sign::Semicolon)), None);
+            let change = Change { at, out, put, then };
+            told_change(place, Some(change))
+        }
         "insist" => {
             let last = near(place, -1).map_or(place.span, |last| last.span);
             told(place, Some(put_behind(alloc, text, last, cell(row, 4))?))

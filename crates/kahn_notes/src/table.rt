@@ -85,7 +85,6 @@ fn is_so(test: &str, place: Place) -> bool {
         "called" => finds("(", near(place, 0)) && !may_stand(":=", place.wanted),
         "named" => is_word(place) && offered(place, 1, "name").is_some(),
         "opens" => best.any(|one| one.put.is_some_and(|class| class_word(class) == "(")),
-        "known" => is_known(place, -1),
         "declared" => is_known(place, 0),
         "unknown" => name_at(place, 0).is_some() && !is_known(place, 0),
         "assigned" => may_be_given(place),
