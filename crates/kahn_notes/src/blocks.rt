@@ -2,16 +2,16 @@
 
 ghost use Rattle.std.specs.Prelude.{Contains, IfSome};
 
-use crate::changes::is_late_else;
+use crate::changes::offered;
 use crate::foreign::closing_word;
 use crate::mending::mending;
-use crate::place::{Place, front, near};
+use crate::place::{Place, before, front, near};
 use crate::said::{Saying, Words, line_of, put_at, put_behind, sentence, spot_words};
 use crate::table::{finds, has_word, may_stand};
 use crate::words::class_word;
 use kahn_marks::part_of;
 use kahn_syntax::{Lexeme, Span};
-use kahn_wanted::{Spot, open_behind};
+use kahn_wanted::open_behind;
 use std::alloc::AllocError;
 
 /// How many lexemes before an `end` are looked at.
@@ -141,15 +141,12 @@ fn surplus_at(place: Place, seats: &[LineLexeme]) -> Result<Option<usize>, Alloc
             "end" => {
                 let (begin, guard) = (open.pop(), guard_of(seats, at, *seat));
                 let is_far = begin.is_some_and(|begin| begin.line != seat.line);
-                if seat.first && begin.is_some_and(|begin| begin.deep < seat.deep) {
-                    return Ok(Some(at));
-                }
-                if open.is_empty() || (is_far && !seat.first && guard.is_some()) {
+                let is_deep = seat.first && begin.is_some_and(|begin| begin.deep < seat.deep);
+                if is_deep || open.is_empty() || (is_far && !seat.first && guard.is_some()) {
                     return Ok(doubt.or(Some(at)));
                 }
-                let leader = guard.and_then(|guard| seats.get(guard));
-                let is_repeat = leader.is_some_and(|leader| leader.word == "repeat");
-                if (is_far && !seat.first) || (!is_far && doubt.is_none() && is_repeat) {
+                let is_several = guard_before(seats, at).is_some();
+                if (is_far && !seat.first) || (!is_far && doubt.is_none() && is_several) {
                     doubt = Some(at);
                 }
             }
@@ -254,9 +251,10 @@ fn surplus(place: Place, seats: &[LineLexeme]) -> Saying {
 pub(crate) fn closer_said(place: Place) -> Saying {
     let (alloc, text) = (place.alloc, place.text);
     let is_else = finds("else", near(place, 0)) && may_stand("end", place.wanted);
+    let is_late = finds(";", near(place, -1)) && offered(before(place, 1), 1, "nothing").is_some();
     let number = match closing_word(place) {
-        Some(Spot::Before) => place.number.saturating_sub(1),
-        None if !is_else || is_late_else(place) => return Ok(None),
+        Some(-1) => place.number.saturating_sub(1),
+        None if !is_else || is_late => return Ok(None),
         _ => place.number,
     };
     let all = seats(place)?;

@@ -1,12 +1,12 @@
 //! Which change of one lexeme is told: of those that mend a place, what is most often meant.
 
 use crate::foreign::row_of_foreign;
-use crate::place::{Place, front, is_declared, name_at, near};
+use crate::place::{Place, before, is_declared, name_at, near};
 use crate::table::finds;
 use crate::words::class_word;
 use kahn_marks::{is_within, part_of};
 use kahn_syntax::Class;
-use kahn_wanted::{Change, Reach, Spot};
+use kahn_wanted::{Change, Reach};
 use std::alloc::{AllocError, Global};
 
 /// The changes that are offered at a place.
@@ -39,20 +39,20 @@ pub(crate) fn are_twice(place: Place, first: isize, second: isize) -> bool {
     let (Some(one), Some(other)) = (near(place, first), near(place, second)) else {
         return false;
     };
-    !finds("number + -", Some(one))
+    let is_bracket = one.span.to == other.span.from && finds(")", Some(one));
+    !is_bracket
+        && !finds("number + -", Some(one))
         && part_of(place.text, one.span) == part_of(place.text, other.span)
 }
 
-/// How what a change puts there is written in the tables.
-fn put_word(change: Change) -> &'static str {
-    change.put.map_or("nothing", |class| class_word(class))
-}
-
-/// The change that is offered there, and puts the first of some words that one does.
-pub(crate) fn offered(place: Place, spot: Spot, puts: &str) -> Option<Change> {
-    for put in puts.split_whitespace() {
+/// The change that is offered at a place, leaves out so many lexemes and puts the first of some words that one does.
+pub(crate) fn offered(place: Place, out: usize, puts: &str) -> Option<Change> {
+    for word in puts.split_whitespace() {
         let mut best = place.offers.best.iter();
-        let found = best.find(|one| one.spot == spot && put_word(**one) == put);
+        let found = best.find(|one| {
+            let put = one.put.map_or("nothing", |class| class_word(class));
+            one.at == place.number && one.out == out && put == word && one.then.is_none()
+        });
         if found.is_some() {
             return found.copied();
         }
@@ -60,20 +60,25 @@ pub(crate) fn offered(place: Place, spot: Spot, puts: &str) -> Option<Change> {
     None
 }
 
-/// Whether a name there is a slip away from a word, and may be one: the text doesn't declare it, and if it has one letter it stands once.
-pub(crate) fn is_slip(place: Place, spot: Spot, word: &str) -> bool {
-    let Some(name) = name_at(place, spot) else {
+/// The change that interchanges the lexemes at a place and behind it.
+pub(crate) fn exchanged(place: Place) -> Option<Change> {
+    let mut best = place.offers.best.iter();
+    let found = best.find(|one| one.at == place.number && one.then.is_some());
+    found.copied()
+}
+
+/// Whether a name so many behind a place is a slip away from a word, and may be one: the text doesn't declare it, and one of up to three
+/// letters stands once.
+pub(crate) fn is_slip(place: Place, count: isize, word: &str) -> bool {
+    let Some(name) = name_at(place, count) else {
         return false;
     };
-    let mut lexemes = place.lexemes.iter();
-    let may_slip = if name.len() < 2 {
-        place.offers.whole
-            && lexemes
-                .filter(|one| part_of(place.text, one.span) == name)
-                .count()
-                == 1
-    } else {
-        place.offers.whole || row_of_foreign(name).is_none()
+    let lexemes = place.lexemes.iter();
+    let same = lexemes.filter(|one| part_of(place.text, one.span) == name);
+    let may_slip = match name.len() {
+        0 | 1 => place.offers.whole && same.count() == 1,
+        2 | 3 => same.count() == 1,
+        _ => place.offers.whole || row_of_foreign(name).is_none(),
     };
     is_within(name.as_bytes(), word.as_bytes(), 1)
         && !is_declared(place, name)
@@ -82,40 +87,16 @@ pub(crate) fn is_slip(place: Place, spot: Spot, word: &str) -> bool {
 }
 
 /// The change that puts a keyword in the place of a name one slip away from it, at a place or before it: with which the text is a program,
-/// or else the one that goes farthest, if two lexemes behind the place stand with it.
+/// or else the one that goes farthest.
 pub(crate) fn slip(place: Place) -> Option<Change> {
     let whole = place.offers.whole;
-    let far = place.number.saturating_add(1);
     let all = place.offers.all.iter();
-    let slips = all
-        .filter(|one| one.whole == whole && (whole || far < one.to))
-        .filter(|one| {
-            let (spot, put) = (one.change.spot, one.change.put);
-            matches!(put, Some(Class::Word(word)) if is_slip(place, spot, word.letters()))
-        });
+    let slips = all.filter(|one| one.whole == whole).filter(|one| {
+        let (change, back) = (one.change, place.number.saturating_sub(one.change.at));
+        change.out == 1
+            && back < 2
+            && matches!(change.put, Some(Class::Word(word)) if is_slip(before(place, back), 0, word.letters()))
+    });
     let best = slips.min_by_key(|one| usize::MAX.saturating_sub(one.to))?;
     Some(best.change)
-}
-
-/// How many `;` stand behind the last `then` before a place, in its list of statements.
-fn parts_behind_then(place: Place) -> Option<usize> {
-    let (mut depth, mut parts) = (0usize, 0usize);
-    for lexeme in front(place.lexemes, place.number).iter().rev() {
-        match (class_word(lexeme.what), depth) {
-            ("end", _) => depth = depth.saturating_add(1),
-            ("begin", 0) => return None,
-            ("begin", _) => depth = depth.saturating_sub(1),
-            ("then", 0) => return Some(parts),
-            (";", 0) => parts = parts.saturating_add(1),
-            (_, _) => {}
-        }
-    }
-    None
-}
-
-/// Whether one statement and a `;` stand between `then` and the `else` at a place.
-pub(crate) fn is_late_else(place: Place) -> bool {
-    finds("else", near(place, 0))
-        && finds(";", near(place, -1))
-        && parts_behind_then(place) == Some(1)
 }

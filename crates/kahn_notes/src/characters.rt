@@ -7,10 +7,12 @@ use crate::foreign::line_help;
 use crate::mending::{Fixed, mending};
 use crate::rewriting::{KINDS, rewritten};
 use crate::said::put_at;
+use crate::spaced::nearest;
 use crate::table::{cell, has_word, row_of};
-use kahn_marks::Fix;
-use kahn_syntax::{Span, SyntaxFault};
-use std::alloc::Global;
+use kahn_marks::{Fix, is_within, part_of};
+use kahn_syntax::{Span, SyntaxFault, lex};
+use kahn_wanted::is_of_word;
+use std::alloc::{AllocError, Global};
 
 /// In a text of more bytes no change is preferred with which the text goes on past the next lexeme.
 const MOST_READ_TWICE: usize = 131_072;
@@ -33,12 +35,13 @@ _ |  | ; a name begins with a letter
 # | <> | ; a comment goes from `comment` to `;`
 \" \u{2018} \u{2019} \u{201C} \u{201D} |  | ; there are no texts
 ' | ; | ; there are no texts, and a name has letters, digits and `_`
+] | ) | ; brackets are `(` and `)`
 [ |  | ; brackets are `(` and `)`, and there are no arrays; a channel that one process writes and reads is a queue
 { | begin | ; a block goes from `begin` to `end`, a comment from `comment` to `;`
 } | end | ; a block goes from `begin` to `end`, a comment from `comment` to `;`
 : |  | ; a choice among values is `if X = 0 then S else if X = 1 then T` | label
 & |  | ; a remainder is `X mod 8`, and `and` is of logicals | number
-&& | and | ; it is the word `and`, and between instances `par`
+&& | and par | ; it is the word `and`, and between instances `par`
 & | and par nothing | ; `and` is a word, and of logicals; between instances stands `par`
 ^ |  | ; there is no power and no exclusive or: of logicals it is `<>`
 || | or par | ; it is the word `or`, and between instances `par`
@@ -48,7 +51,7 @@ _ |  | ; a name begins with a letter
 ? |  | ; a value is taken by `X := wait(C)`, and a choice is `if .. then .. else ..`
 : |  | ; a kind stands before its names | kind
 : | then do | ; behind a test stands `then` or `do` | test
-: | := ; | ; `:` stands before `=` alone
+: | := ; nothing | ; `:` stands before `=` alone
 \u{FF1A} | : := | ; a colon is `:`
 \u{FF1B} | ; | ; a semicolon is `;`
 \u{FF0C} | , | ; a comma is `,`
@@ -58,18 +61,12 @@ _ |  | ; a name begins with a letter
 $ @ | nothing | ; a name begins with a letter, and has letters, digits and `_`
 ``` |  | ; the lines of a fence are no part of a program
 ` | nothing | ; names and operators stand without such marks
-\u{A0} |  | ; a no-break space (U+00A0) isn't a blank here
+\u{A0} \u{2002} \u{2003} \u{2009} \u{200A} \u{200B} \u{202F} |  | ; this isn't the blank that the space bar makes
 \u{D7} | * | ; a product is `*`
 \u{F7} | div | ; a quotient is `div`
 \u{2190} \u{2254} | := | ; a statement assigns by `:=`
 \u{2192} |  | ; there is no arrow: `send E on C` sends, `X := wait(C)` takes
-\u{2002} |  | ; an en space (U+2002) isn't a blank here
-\u{2003} |  | ; an em space (U+2003) isn't a blank here
-\u{2009} |  | ; a thin space (U+2009) isn't a blank here
-\u{200A} |  | ; a hair space (U+200A) isn't a blank here
-\u{200B} |  | ; a zero width space (U+200B) isn't a blank here
 \u{2011} \u{2013} \u{2014} \u{2212} | - | ; minus is `-`
-\u{202F} |  | ; a narrow no-break space (U+202F) isn't a blank here
 \u{2264} | <= | ; at most is `<=`
 \u{2265} | >= | ; at least is `>=`
 \u{FEFF} |  | ; a byte order mark (U+FEFF) isn't a blank here: save the text without one
@@ -79,7 +76,10 @@ $ @ | nothing | ; a name begins with a letter, and has letters, digits and `_`
 fn holds(test: &str, line: &str, behind: &str) -> bool {
     let mut words = line.split_whitespace();
     match test {
-        "digit" => line.ends_with(|last: char| last.is_ascii_digit()),
+        "digit" => {
+            line.ends_with(|last: char| last.is_ascii_digit())
+                && behind.starts_with(|first: char| first.is_ascii_digit())
+        }
         "label" => line.trim().parse::<i64>().is_ok(),
         "number" => behind
             .trim_start()
@@ -127,8 +127,78 @@ fn place_help(text: &str, at: usize) -> &'static str {
     }
     match (row_at(text, at), text.as_bytes().get(at)) {
         (Some((row, _)), _) => cell(row, 2),
-        (None, None | Some(0..=0x7F | 0xC2 | 0xE2 | 0xEF)) => "",
+        (None, None | Some(0..=0x7F)) => "",
         (None, _) => "; a name has ASCII letters, digits and `_`",
+    }
+}
+
+/// What is put in the place of any other character: nothing beside a letter, a digit or `_`, and for one that isn't ASCII only behind a sign.
+fn puts_for(text: &str, span: Span) -> &'static str {
+    let bytes = text.as_bytes();
+    let before = span.from.checked_sub(1).and_then(|at| bytes.get(at));
+    let behind = bytes.get(span.to);
+    if before.is_some_and(|byte| is_of_word(*byte))
+        || behind.is_some_and(|byte| is_of_word(*byte))
+    {
+        return "";
+    }
+    match (bytes.get(span.from), before) {
+        (Some(byte), _) if is_of_word(*byte) => "",
+        (Some(byte), _) if byte.is_ascii() => "nothing ; ) ,",
+        (_, Some(before)) if before.is_ascii_punctuation() => "; ) ,",
+        (_, _) => "",
+    }
+}
+
+/// `comment` in the place of a word that is a slip away from it, with which the line of a byte begins.
+pub(crate) fn remark_before(
+    alloc: Global,
+    text: &str,
+    at: usize,
+) -> Result<Option<Fix>, AllocError> {
+    let before = text.get(..at).unwrap_or("").trim_end();
+    let word = before
+        .rsplit(|one: char| !one.is_ascii_alphabetic())
+        .next()
+        .unwrap_or("");
+    if !is_within(word.as_bytes(), b"comment", 1) {
+        return Ok(None);
+    }
+    let (from, to) = (before.len().saturating_sub(word.len()), before.len());
+    let span = Span { from, to };
+    Ok(Some(put_at(alloc, text, span, span, "comment")?))
+}
+
+/// The word round a character, or before the blank before it.
+fn word_round(text: &str, span: Span) -> Span {
+    let (before, behind) = (
+        text.get(..span.from).unwrap_or(""),
+        text.get(span.to..).unwrap_or(""),
+    );
+    let is_of = |one: char| one.is_ascii_alphanumeric() || one == '_';
+    let front = before.strip_suffix(" ").unwrap_or(before);
+    let (from, to) = (
+        front.trim_end_matches(is_of).len(),
+        behind.trim_start_matches(is_of).len(),
+    );
+    let to = text.len().saturating_sub(to);
+    Span { from, to }
+}
+
+/// The keyword or the name of the text from which the word round a character is one slip away, and that word in its place.
+fn blurred_word(alloc: Global, text: &str, plain: &str, span: Span) -> Fixed {
+    let word = word_round(text, span);
+    match lex(alloc, plain) {
+        Ok(lexemes) => {
+            let name = nearest(plain, &lexemes, part_of(text, word));
+            let put = name.map_or("", |name| name);
+            Ok(if put.is_empty() {
+                None
+            } else {
+                Some(put_at(alloc, text, word, word, put)?)
+            })
+        }
+        Err(_fault) => Ok(None),
     }
 }
 
@@ -137,12 +207,20 @@ fn place_help(text: &str, at: usize) -> &'static str {
 pub(crate) fn character_fix(alloc: Global, text: &str, plain: &str, span: Span) -> Fixed
     ensures { IfOk result (λ fix. IfSome fix (Mends text.now span)) }
 {
-    let fix = mending(alloc, text, span, rewritten(alloc, text, plain, span.from)?)?;
-    if fix.is_some() {
-        return Ok(fix);
+    for fix in [
+        remark_before(alloc, text, span.from)?,
+        blurred_word(alloc, text, plain, span)?,
+        rewritten(alloc, text, plain, span.from)?,
+    ] {
+        let fix = mending(alloc, text, span, fix)?;
+        if fix.is_some() {
+            return Ok(fix);
+        }
     }
-    let Some((row, key)) = row_at(text, span.from) else {
-        return Ok(None);
+    let found = row_at(text, span.from);
+    let (puts, key) = match found {
+        Some((row, key)) => (cell(row, 1), key),
+        None => (puts_for(text, span), part_of(text, span)),
     };
     let to = span.from.saturating_add(key.len());
     let part = Span { to, ..span };
@@ -153,7 +231,7 @@ pub(crate) fn character_fix(alloc: Global, text: &str, plain: &str, span: Span) 
         span.from
     };
     for from in [next, span.from] {
-        for put in cell(row, 1).split_whitespace() {
+        for put in puts.split_whitespace() {
             let put = if put == "nothing" { "" } else { put };
             let fix = put_at(alloc, text, part, part, put)?;
             let fix = mending(alloc, plain, Span { from, to: from }, Some(fix))?;

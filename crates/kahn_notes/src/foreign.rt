@@ -2,7 +2,7 @@
 
 use crate::place::{Place, is_declared, name_at, near};
 use crate::table::{cell, finds, has_word, holds};
-use kahn_wanted::{Spot, is_of_word};
+use kahn_wanted::is_of_word;
 
 /// Words of other languages, the keyword in their place if the text goes on with it, what is said of them, and where that is, if it isn't
 /// everywhere: where a statement begins, or a value may stand.
@@ -10,15 +10,11 @@ const FOREIGN: &str = "
 until | none | ; `repeat S` goes on for ever, and a loop with a test is `while not E do S`
 for foreach | none | ; a loop that counts is `while I < N do begin S; I := I + 1 end`, and one without an end `repeat S`
 goto | none | ; a loop is `while E do S`, or `repeat S`, which has no end
-loop forever | repeat | ; a loop is `while E do S`, or `repeat S`, which has no end
 break exit continue stop halt | none | ; a loop ends where the test of its `while` is false
 return yield | none | ; a process has no result: `send E on C` gives a value to another one
-elif elsif elseif | none | ; it is two words: `else if`
-otherwise | else | ; behind `if E then S` stands `else`
 int ints long short unsigned | integer | ; the kinds are `integer` and `logical`; one stands before its names
 bool boolean booleans | logical | ; the kinds are `integer` and `logical`; one stands before its names
 real float string char array | none | ; the kinds are `integer` and `logical`; one stands before its names
-chan chans | channel | ; a channel is `integer channel C`
 inputs | input in | ; an input is `integer input channel C`, an output `integer output channel C`
 outputs | output out | ; an input is `integer input channel C`, an output `integer output channel C`
 var let local declare | none | ; a kind declares variables, right behind the `begin` of a process: `integer X`
@@ -27,11 +23,8 @@ endif endwhile endfor endprocess endproc fi od done tel | end | ; an `if`, a `wh
 const constant | none | ; there are no constants: an instance hands a number over, `P(A, 10)`
 xor | none | ; there is no exclusive or: of logicals it is `<>`
 shl shr | none | ; there is no shift: `X * 16`, `X div 16`
-try except catch finally raise throw | none | ; there are no exceptions: a fault ends its process
-seq | none | ; statements stand one behind another, with `;` between: `begin S; T end`
 pre fby | none | ; a variable keeps what came before: `J := I; I := wait(C)`
 inout | none | ; one process reads a channel, and another one writes it: `in U`, `out W`
-to into | on | ; a value is sent by `send E on C` | +on
 go call spawn start run cobegin parbegin doco closeco coend parend | none | ; nothing starts an instance: it is `p(A, B)`, and `par` stands between two
 select alt | none | ; there is no choice among channels, since timing can't matter: a process waits on one at a time | +:=
 case switch match | none | ; a choice is `if E then S else if F then T else ..` | +:=
@@ -48,7 +41,7 @@ eof empty isempty len length size count has_next hasnext ready available | none 
 const MOST_OF_LINE: usize = 256;
 
 /// A word of another language, at a place or before it, with its row.
-pub(crate) type Foreign = (Spot, &'static str);
+pub(crate) type Foreign = (isize, &'static str);
 
 /// The row of a word of another language, but of one that is told of as a value alone.
 pub(crate) fn row_of_foreign(word: &str) -> Option<&'static str> {
@@ -76,32 +69,28 @@ pub(crate) fn line_help(text: &str, at: usize) -> Option<&'static str> {
 }
 
 /// One of these words there, if the text doesn't declare it; not one that has a value given to it, nor the name of a process.
-fn foreign_at(place: Place, spot: Spot) -> Option<Foreign> {
-    let name = name_at(place, spot)?;
-    let is_before = spot == Spot::Before;
-    let is_head = finds(
-        "process channel",
-        near(place, if is_before { -2 } else { -1 }),
-    );
-    let is_given = is_before && finds("= :=", near(place, 0));
+fn foreign_at(place: Place, count: isize) -> Option<Foreign> {
+    let name = name_at(place, count)?;
+    let is_head = finds("process channel", near(place, count.saturating_sub(1)));
+    let is_given = count < 0 && finds("= :=", near(place, 0));
     if is_given || is_head || is_declared(place, name) {
         return None;
     }
     let mut rows = FOREIGN.lines();
     let row = rows.find(|row| has_word(cell(row, 0), name) && holds(cell(row, 3), place))?;
-    Some((spot, row))
+    Some((count, row))
 }
 
 /// A word of another language before a place, or at it.
 pub(crate) fn foreign_word(place: Place) -> Option<Foreign> {
-    foreign_at(place, Spot::Before).or(foreign_at(place, Spot::Here))
+    foreign_at(place, -1).or(foreign_at(place, 0))
 }
 
 /// Where a word of another language stands that ends a block.
-pub(crate) fn closing_word(place: Place) -> Option<Spot> {
-    let (spot, row) = foreign_word(place)?;
+pub(crate) fn closing_word(place: Place) -> Option<isize> {
+    let (count, row) = foreign_word(place)?;
     if cell(row, 1) == "end" {
-        Some(spot)
+        Some(count)
     } else {
         None
     }

@@ -14,6 +14,7 @@ mod place;
 mod rewriting;
 mod rules;
 mod said;
+mod spaced;
 mod table;
 mod unexpected;
 mod words;

@@ -9,9 +9,7 @@ A := wait(B) | A = receive|recv|read|get|take|await ( B ) | A = < - B | A : = < 
 B := wait(A) | V ( A , B ) | A ? B | V ( A ) : = B
 wait(A) | V [|{ A ]|} | V ) A ( | V on|for|from|of A | V A | A . V ( )
 send E on O | S ( E , O ) | S ( O , E ) | S E D O | S E - > O | S O , E | S O : = E | S O < - E | S O E | O . S ( E ) | O ! E | O < - E
-send E on A | on A S E
-send A on O | A on O
-A := B + E | A < - B + E
+send E on A | on A S E | S on A E
 A := wait(U) | A < - U
 A := E | A < - E
 B := wait(U) | U - > B | U > > B
@@ -27,27 +25,26 @@ A := A + 1 | inc ( A ) | + + A | A + +
 A := A - 1 | dec ( A ) | A - -
 A := A - 1; | - - A ;
 A := A - 1 end | - - A end
-mod | ` mod ` | rem
+mod | ` mod ` | rem|modulo
 div | ` div `
 div 2; | / / 2 ;
 (if E > F then E else F) | max ( E , F )
 (if E < F then E else F) | min ( E , F )
 (if E < 0 then -(E) else E) | abs ( E )
 else if | elif|elsif|elseif
-else begin | else if begin
 -A | negate A
 and | and then | andalso
 or | or else | orelse
-<> | not = | is not | > < | = ! | < >
+<> | not = | is not | > < | = ! | < > | = / = | ! = = | - ne
 (E) mod (F) | mod ( E , F )
 (E) div (F) | div ( E , F )
 := | : = = | : =|-|+ | = : | ; =
-= | is | = = = | = =
+= | is|equals|equal|eq | = = = | = =
 * | x | times
 + | plus
 - | minus
 on A | on ( A )
-A := E | let mut A = E | let A : = E | let|set A = E
+A := E | let mut A = E | let mut A : = E | let A : = E | let|set A = E | set A to E
 A := A + E | A + = E | add E to A | inc ( A , E )
 A := A - E | A - = E | dec ( A , E )
 A := A * (E) | A * = E
@@ -55,7 +52,7 @@ A := B + 1 | A : = B + +
 A := E | A = = E
 repeat | repeat - > | repeat forever
 <= | = < | < =
->= | = > | > =
+>= | = > | > = | > +
 ; K out A | , A chan < - K
 ; K in A | , A < - chan K
 K out A | A chan < - K | K output channel A | output K A
@@ -79,7 +76,6 @@ integer D A | D channel A
 ; K D A) | ) - > K D A
 ; K D A | - > K D A
 K A, B; | K A ; B ;
-R channel A | channel R A
 integer R channel A | R channel A | R A
 K channel A | A : = make ( chan K ) | channel|chan of K A | channel < K > A | chan|channel K A | A = channel ( K ) | var A : channel of K
 K channel A, B; | K channel A ; B ;
@@ -87,10 +83,8 @@ K channel L; | chan|channel of K L :
 K R channel A, B; | K R channel A ; B ;
 integer channel A | channel A | var A = channel ( ) | A = channel ( )
 A(T | process A ( T
-process A(K D L | A ( K D L
 process A( | process A [ | process A = (
 process A(K | int A ( K
-A(E) | A [ E ]
 (E) | [ E ]
 process A(); begin | process A begin
 process B( | process A = B (
@@ -103,6 +97,7 @@ A( | P A (
 integer D A | D A
 (B | ( A = B | ( A : B | ( A = > B
 , B | , A = B | , A : B | , A = > B
+comment N; | { N }
 begin | A main ( ) { | begin {
 if E then begin | if E {
 while E do begin | while E { | while E loop
@@ -117,14 +112,12 @@ A := -1; while A < F - 1 do begin A := A + 1; | for ( A = 0 ; B < F ; C + + ) {|
 repeat begin A := wait(B); | for A : = range B { | for A in B :
 repeat begin | for|loop {
  | import|package|program|use|uses|unit A ; | import|package|use A | import|program|module A | # define T
-then | then :
-else | else :
-do | do :
+W | W :
+repeat begin | repeat :
 end | end program|process|procedure|function | end process|procedure|function A
 ; comment T; | ; % T
 end comment T; | end % T
 comment T; | / / T | comment T | / * T * / | ( * T * ) | - - T | # T
-comment N; | { N }
 do begin | seq
 begin | seq
 div | / /";

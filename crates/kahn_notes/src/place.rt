@@ -1,11 +1,10 @@
 //! The place where a text goes wrong, with the lexemes round it.
 
 use crate::changes::Offers;
-use crate::said::{Words, filled};
 use crate::table::has_word;
 use kahn_marks::part_of;
 use kahn_syntax::{Class, Keyword, Lexeme, Span};
-use kahn_wanted::{Spot, Wanted, is_of_word};
+use kahn_wanted::{Wanted, is_of_word};
 use std::alloc::{AllocError, Global};
 
 /// The place where a text goes wrong.
@@ -19,6 +18,8 @@ pub(crate) struct Place<'p> {
     pub(crate) lexemes: &'p [Lexeme],
     /// How many of them stand before the place.
     pub(crate) number: usize,
+    /// How many lexemes before the place that is told these are.
+    pub(crate) back: usize,
     /// The bytes of what stands there.
     pub(crate) span: Span,
     /// What may stand there.
@@ -29,6 +30,8 @@ pub(crate) struct Place<'p> {
     pub(crate) earlier: &'p [Span],
     /// The names that these declare.
     pub(crate) declared: &'p [&'p str],
+    /// Those of processes.
+    pub(crate) processes: &'p [&'p str],
 }
 
 /// The lexeme so many behind the one at a place, or before it.
@@ -37,12 +40,13 @@ pub(crate) fn near(place: Place, count: isize) -> Option<Lexeme> {
     place.lexemes.get(number).copied()
 }
 
-/// The lexeme in the place of which a change puts another one.
-pub(crate) fn lexeme_at(place: Place, spot: Spot) -> Option<Lexeme> {
-    match spot {
-        Spot::Between => None,
-        Spot::Here => near(place, 0),
-        Spot::Before => near(place, -1),
+/// The same place, as far as its lexemes go, so many of them before it.
+pub(crate) fn before(place: Place, back: usize) -> Place {
+    let number = place.number.wrapping_sub(back);
+    Place {
+        number,
+        back,
+        ..place
     }
 }
 
@@ -51,9 +55,9 @@ pub(crate) fn front<T>(items: &[T], count: usize) -> &[T] {
     items.get(..count).unwrap_or(items)
 }
 
-/// The name there, if it is one.
-pub(crate) fn name_at<'p>(place: Place<'p>, spot: Spot) -> Option<&'p str> {
-    match lexeme_at(place, spot) {
+/// The name so many behind a place, if one stands there.
+pub(crate) fn name_at<'p>(place: Place<'p>, count: isize) -> Option<&'p str> {
+    match near(place, count) {
         Some(lexeme) if lexeme.what == Class::Name => Some(part_of(place.text, lexeme.span)),
         _ => None,
     }
@@ -91,25 +95,4 @@ pub(crate) fn names_behind<'t>(
         naming = has_word(words, word) || (naming && (word == "," || is_name(word)));
     }
     Ok(names)
-}
-
-/// The last name before a place that stands behind one of these words, or else a letter.
-fn own_name<'p>(
-    place: Place<'p>,
-    words: &str,
-    letter: &'static str,
-) -> Result<&'p str, AllocError> {
-    let names = names_behind(place.alloc, place.text, place.earlier, words)?;
-    Ok(names.last().copied().unwrap_or(letter))
-}
-
-/// A sentence with names of the text: for `@` that of a number or a truth value, for `#` one of a channel that is read, and for `%` one of a
-/// channel that is written.
-pub(crate) fn exemplified(place: Place, sentence: &'static str) -> Words {
-    let names = [
-        (b'@', own_name(place, "integer logical", "X")?),
-        (b'#', own_name(place, "in", "U")?),
-        (b'%', own_name(place, "out", "W")?),
-    ];
-    filled(place.alloc, sentence, false, &names)
 }

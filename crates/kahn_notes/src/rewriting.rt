@@ -29,6 +29,7 @@ V | wait receive recv read get take await
 S | send put emit write push give output
 P | go call spawn start run launch new exec doco
 D | in out
+W | then else do begin in out
 R | input output
 K | int integer i32 i64 logical bool boolean
 ";

@@ -1,12 +1,13 @@
 //! What is said of a place where a text goes wrong, beside what was expected there, and the changes that are told.
 
 use crate::mending::mending;
-use crate::place::{Place, is_name, near};
+use crate::place::{Place, is_name};
+use crate::table::has_word;
 use crate::words::class_word;
-use kahn_marks::{Fix, add_spot, part_of};
+use kahn_marks::{Fix, add, add_spot, part_of};
 use kahn_streams::NoMemory;
 use kahn_syntax::{Class, Keyword, Span};
-use kahn_wanted::{Change, Spot};
+use kahn_wanted::Change;
 use std::alloc::{AllocError, Global};
 
 /// Where a heading stands and what it says, where that isn't what was expected at the place.
@@ -80,25 +81,69 @@ pub(crate) fn put_behind(alloc: Global, text: &str, part: Span, put: &str) -> Fi
     put_at(alloc, text, Span { from, to: from }, part, put)
 }
 
-/// A change as it is made in the text; none where a name or a number is put there, of which there are many.
-pub(crate) fn fix_of(place: Place, change: Change) -> Result<Option<Fix>, AllocError> {
-    let put = match change.put {
-        Some(Class::Name | Class::Number(_)) => return Ok(None),
-        Some(class) => class_word(class),
-        None => "",
-    };
-    let (alloc, text) = (place.alloc, place.text);
-    let fix = match (change.spot, near(place, -1), near(place, 0)) {
-        (Spot::Between, Some(one), _) => put_behind(alloc, text, one.span, put)?,
-        (Spot::Between, None, Some(one)) => {
-            let (span, to) = (one.span, one.span.from);
-            put_at(alloc, text, Span { to, ..span }, span, put)?
+/// Two lexemes in the other order; not those of two lines, nor a number and a word right behind it.
+fn interchanged(
+    alloc: Global,
+    text: &str,
+    one: Span,
+    other: Span,
+) -> Result<Option<String>, AllocError> {
+    let (from, to) = (one.to, other.from);
+    let between = part_of(text, Span { from, to });
+    let (first, second) = (part_of(text, one), part_of(text, other));
+    let is_number = first.starts_with(|first: char| first.is_ascii_digit());
+    if between.contains('\n') || (is_number && between.is_empty() && is_name(second)) {
+        return Ok(None);
+    }
+    let mut put = String::from_str(alloc, second)?;
+    add(&mut put, &[between, first])?;
+    Ok(Some(put))
+}
+
+/// What a change puts in the text; none where this is a name or a number, of which there are many.
+fn put_of(place: Place, change: Change) -> Result<Option<String>, AllocError> {
+    let end = change.at.saturating_add(change.out);
+    let put = match (change.put, place.lexemes.get(change.at..end)) {
+        (Some(_), Some([one, other])) => {
+            return interchanged(place.alloc, place.text, one.span, other.span);
         }
-        (Spot::Before, Some(one), _) => put_at(alloc, text, one.span, one.span, put)?,
-        (Spot::Here, _, Some(one)) => put_at(alloc, text, one.span, one.span, put)?,
+        (Some(Class::Name | Class::Number(_)), _) => return Ok(None),
+        (Some(class), _) => class_word(class),
+        (None, _) => "",
+    };
+    let put = filled(place.alloc, put, is_capital(place.text), &[])?;
+    Ok(Some(put))
+}
+
+/// A change as it is made in the text.
+pub(crate) fn fix_of(place: Place, change: Change) -> Result<Option<Fix>, AllocError> {
+    let end = change.at.saturating_add(change.out);
+    let lexemes = place.lexemes;
+    let one = change
+        .at
+        .checked_sub(1)
+        .and_then(|number| lexemes.get(number));
+    let begins = |class| has_word("send if process while", class_word(class));
+    let is_first = change.put.is_some_and(begins);
+    let (beside, span) = match (lexemes.get(change.at..end), one, lexemes.get(change.at)) {
+        (Some([first, .., last]), _, _) => {
+            let to = last.span.to;
+            let span = Span { to, ..first.span };
+            (span, span)
+        }
+        (Some([only]), _, _) => (only.span, only.span),
+        (_, Some(one), _) if !is_first => {
+            let from = one.span.to;
+            (one.span, Span { from, to: from })
+        }
+        (_, _, Some(next)) => {
+            let to = next.span.from;
+            (next.span, Span { to, ..next.span })
+        }
         (_, _, _) => return Ok(None),
     };
-    Ok(Some(fix))
+    let put = put_of(place, change)?;
+    Ok(put.map(|put| Fix { span, put, beside }))
 }
 
 /// What is said of a part of a text that a change replaces or leaves out.

@@ -1,10 +1,11 @@
 //! Tables of words, a row a line, with cells between bars; and what stands at a place, by such words.
 
-use crate::changes::{are_twice, is_late_else};
+use crate::changes::{are_twice, offered};
 use crate::place::{Place, is_declared, name_at, near};
 use crate::words::class_word;
-use kahn_syntax::Lexeme;
-use kahn_wanted::{LexemeGroup, Spot, Wanted};
+use kahn_marks::part_of;
+use kahn_syntax::{Class, Lexeme, Span};
+use kahn_wanted::{LexemeGroup, Wanted};
 
 /// A cell of a row; nothing where there is none.
 pub(crate) fn cell(row: &'static str, number: usize) -> &'static str {
@@ -44,41 +45,67 @@ pub(crate) fn may_stand(word: &str, wanted: &Wanted) -> bool {
     wanted.groups.iter().any(|group| groups.contains(group))
 }
 
-/// Whether no byte stands between the lexemes before a place and at it.
-pub(crate) fn are_joined(place: Place) -> bool {
-    matches!((near(place, -1), near(place, 0)), (Some(one), Some(other)) if one.span.to == other.span.from)
+/// What stands behind the lexeme so many behind a place, and before the next; nothing where there are no two.
+fn between<'p>(place: Place<'p>, count: isize) -> Option<&'p str> {
+    let (one, other) = (near(place, count)?, near(place, count.saturating_add(1))?);
+    let (from, to) = (one.span.to, other.span.from);
+    Some(part_of(place.text, Span { from, to }))
 }
 
-/// Whether a test holds of a place: behind `+` stands what may stand there, behind `-` what may not.
+/// Whether one of some classes, with `_` between, stands behind the lexeme at a place.
+fn leads_to(words: &str, place: Place) -> bool {
+    let next = near(place, 1).map_or("nothing", |lexeme| class_word(lexeme.what));
+    words.split("_").any(|word| word == next)
+}
+
+/// Whether the name so many behind a place is one that the lexemes before it declare.
+fn is_known(place: Place, count: isize) -> bool {
+    name_at(place, count).is_some_and(|name| is_declared(place, name))
+}
+
+/// Whether a value may be given to what stands before a place: no bracket follows, or it isn't the name of a process.
+fn may_be_given(place: Place) -> bool {
+    let is_process = name_at(place, -1).is_some_and(|name| place.processes.contains(&name));
+    !finds("(", near(place, 0)) || (is_known(place, -1) && !is_process)
+}
+
+/// Whether a test in a word holds of a place.
+fn is_so(test: &str, place: Place) -> bool {
+    let mut best = place.offers.best.iter();
+    match test {
+        "joined" => between(place, -1).is_some_and(|between| between.is_empty()),
+        "line" => between(place, -1).is_none_or(|between| between.contains('\n')),
+        "ending" => between(place, 0).is_some_and(|between| between.contains('\n')),
+        "here" => place.back == 0,
+        "near" => place.back < 2,
+        "whole" => place.offers.whole,
+        "twice" => are_twice(place, -1, 0),
+        "chained" => finds(":=", near(place, -2)) && finds("name", near(place, -3)),
+        "waiting" => finds("wait", near(place, -3)),
+        "called" => finds("(", near(place, 0)) && !may_stand(":=", place.wanted),
+        "named" => is_word(place) && offered(place, 1, "name").is_some(),
+        "opens" => best.any(|one| one.put.is_some_and(|class| class_word(class) == "(")),
+        "declared" => is_known(place, 0),
+        "unknown" => name_at(place, 0).is_some() && !is_known(place, 0),
+        "assigned" => may_be_given(place),
+        _ => true,
+    }
+}
+
+/// Whether a keyword stands at a place.
+fn is_word(place: Place) -> bool {
+    near(place, 0).is_some_and(|lexeme| matches!(lexeme.what, Class::Word(_)))
+}
+
+/// Whether a test holds of a place: behind `!` stands one that doesn't, behind `+` what may stand there, behind `-` what may not, and behind
+/// `>` what stands behind the lexeme there.
 pub(crate) fn holds(test: &str, place: Place) -> bool {
-    match (test.strip_prefix("+"), test.strip_prefix("-")) {
-        (Some(word), _) => may_stand(word, place.wanted),
-        (_, Some(word)) => !may_stand(word, place.wanted),
-        (_, _) => match test {
-            "joined" => are_joined(place),
-            "apart" => !are_joined(place),
-            "twice" => are_twice(place, -1, 0),
-            "twins" => are_twice(place, -2, -1),
-            "role" => finds("in out input output", near(place, 1)),
-            "leading" => finds("else do then", near(place, 1)),
-            "late" => is_late_else(place),
-            "whole" => place.offers.whole,
-            "declared" => name_at(place, Spot::Here).is_some_and(|name| is_declared(place, name)),
-            "assigned" => {
-                let name = name_at(place, Spot::Before);
-                !finds("(", near(place, 0)) || name.is_none_or(|name| is_declared(place, name))
-            }
-            "bodiless" => {
-                !finds("if while repeat", near(place, 0)) || !finds("begin", near(place, 1))
-            }
-            "called" => finds("(", near(place, 0)) && !may_stand(":=", place.wanted),
-            "typed" => finds("integer logical", near(place, 1)),
-            "bare" => !finds("integer logical", near(place, 1)),
-            "known" => name_at(place, Spot::Before).is_some_and(|name| is_declared(place, name)),
-            "first" =>
-                matches!(place.text.get(..place.span.from), Some(text) if text.is_empty() || text.ends_with("\n")),
-            _ => true,
-        },
+    match test.split_at_checked(1).unwrap_or(("", "")) {
+        ("!", test) => !holds(test, place),
+        ("+", word) => may_stand(word, place.wanted),
+        ("-", word) => !may_stand(word, place.wanted),
+        (">", words) => leads_to(words, place),
+        (_, _) => is_so(test, place),
     }
 }
 

@@ -9,7 +9,8 @@ use crate::changes::offers_of;
 use crate::commented::{comment_words, unended_said};
 use crate::mending::mending;
 use crate::place::{Place, front, names_behind};
-use crate::rules::grammar_said;
+use crate::rewriting::rewritten;
+use crate::rules::{FAR, grammar_said};
 use crate::said::{Heading, Saying, Words, sentence};
 use crate::words::add_wanted;
 use kahn_marks::{Fix, Note, Other, Sort, add, part_of};
@@ -50,7 +51,7 @@ fn said_of(
     comment: Option<Span>,
 ) -> Saying {
     let all = if at.lexemes.len() <= MOST {
-        reaches(alloc, &at.lexemes, at.number)?
+        reaches(alloc, &at.lexemes, at.number, FAR)?
     } else {
         Vec::new(alloc)
     };
@@ -59,8 +60,11 @@ fn said_of(
         if let Some(said) = unended_said(alloc, text, span, it)? {
             return Ok(Some(said));
         }
-        let is_first = at.number == 0 && !offers.whole;
-        if is_first || swallows(text.as_bytes(), it.from, it.to.min(text.len()), true) {
+        if at.number == 0 && !offers.whole {
+            let fix = mending(alloc, text, span, rewritten(alloc, text, text, span.from)?)?;
+            return Ok(fix.map(|fix| (None, Some(fix), None)));
+        }
+        if swallows(text.as_bytes(), it.from, it.to.min(text.len()), true) {
             return Ok(None);
         }
     }
@@ -70,16 +74,19 @@ fn said_of(
         .collect::<Vec<Span>>(alloc)?;
     let declaring = "integer logical in out channel process";
     let declared = names_behind(alloc, text, &earlier, declaring)?;
+    let processes = names_behind(alloc, text, &earlier, "process")?;
     grammar_said(Place {
         alloc,
         text,
         lexemes: &at.lexemes,
         number: at.number,
+        back: 0,
         span,
         wanted: &at.unexpected.wanted,
         offers: &offers,
         earlier: &earlier,
         declared: &declared,
+        processes: &processes,
     })
 }
 

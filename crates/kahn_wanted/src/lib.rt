@@ -17,7 +17,7 @@ pub use blocks::open_behind;
 pub use comments::{comment_before, comments_of};
 pub use found::{FaultPlace, Unexpected, place_at};
 pub use groups::{LexemeGroup, Wanted};
-pub use reached::{Change, Reach, Spot, reaches};
+pub use reached::{Change, Reach, reaches};
 pub use swallowing::swallows;
 
 // For the crates above.

@@ -1,4 +1,4 @@
-//! How far the lexemes of a text go with a change of one of them beside a place.
+//! How far the lexemes of a text go with a change of one of them near a place, or with two interchanged.
 
 use crate::asked::CLASSES;
 use crate::awaited::Awaited;
@@ -7,24 +7,17 @@ use crate::walk::{awaited_behind, pass};
 use kahn_syntax::{Class, Lexeme};
 use std::alloc::{AllocError, Global};
 
-/// Where a lexeme is put in or left out, beside a place of a list.
-#[derive(Clone, Copy, PartialEq)]
-pub enum Spot {
-    /// Before the lexeme at the place; none is left out.
-    Between,
-    /// In the place of that lexeme.
-    Here,
-    /// In the place of the one before it.
-    Before,
-}
-
-/// A change of one lexeme.
+/// A change of a list of lexemes: some are left out, and others put there.
 #[derive(Clone, Copy, PartialEq)]
 pub struct Change {
-    /// Where it is.
-    pub spot: Spot,
-    /// The class of the lexeme that is put there; where there is none, one is left out. The number 0 stands for all numbers.
+    /// How many lexemes stand before it.
+    pub at: usize,
+    /// How many are left out.
+    pub out: usize,
+    /// The class of the lexeme that is put there, if one is; the number 0 stands for all numbers.
     pub put: Option<Class>,
+    /// The class of one more behind that, if one is put there.
+    pub then: Option<Class>,
 }
 
 /// How far a text goes with a change.
@@ -38,6 +31,16 @@ pub struct Reach {
     pub to: usize,
 }
 
+/// What is open before a lexeme of a list.
+#[derive(Clone, Copy)]
+struct Front<'l> {
+    alloc: Global,
+    open: &'l [Awaited],
+    lexemes: &'l [Lexeme],
+    /// The lexeme past which a change has to reach.
+    past: usize,
+}
+
 /// How many lexemes may stand, one behind another, where this is open, and whether they make a program.
 fn going(stack: &mut Vec<Awaited>, lexemes: &[Lexeme]) -> Result<(usize, bool), AllocError> {
     for (number, lexeme) in lexemes.iter().enumerate() {
@@ -49,52 +52,56 @@ fn going(stack: &mut Vec<Awaited>, lexemes: &[Lexeme]) -> Result<(usize, bool), 
     Ok((lexemes.len(), whole))
 }
 
-/// Adds how far a text goes with a change, if it can stand where this is open, before lexemes from a number on.
-fn add_reach(
-    all: &mut Vec<Reach>,
-    alloc: Global,
-    open: &[Awaited],
-    rest: &[Lexeme],
-    from: usize,
-    change: Change,
-) -> Result<(), AllocError> {
-    let mut stack = Vec::new(alloc);
-    stack.extend_from_slice(open)?;
-    if let Some(class) = change.put {
-        if !pass(&mut stack, class)? {
+/// Adds how far a text goes with a change, if that is far enough.
+fn add_reach(all: &mut Vec<Reach>, front: Front, change: Change) -> Result<(), AllocError> {
+    let from = change.at.saturating_add(change.out);
+    let Some(rest) = front.lexemes.get(from..) else {
+        return Ok(());
+    };
+    let mut stack = Vec::new(front.alloc);
+    stack.extend_from_slice(front.open)?;
+    for class in change.put.iter().chain(change.then.iter()) {
+        if !pass(&mut stack, *class)? {
             return Ok(());
         }
     }
     let (count, whole) = going(&mut stack, rest)?;
     let to = from.saturating_add(count);
-    Ok(all.push(Reach { change, whole, to })?)
+    if whole || front.past < to {
+        all.push(Reach { change, whole, to })?;
+    }
+    Ok(())
 }
 
-/// How far a text goes with each change of one lexeme beside the one with a number, of those that can stand there.
-pub fn reaches(alloc: Global, lexemes: &[Lexeme], number: usize) -> Result<Vec<Reach>, AllocError> {
+/// How far a text goes with each change of one lexeme at one with a number or before it, by so many at most, and with two interchanged there;
+/// of those changes with which it goes past the lexeme behind that one.
+pub fn reaches(
+    alloc: Global,
+    lexemes: &[Lexeme],
+    number: usize,
+    most: usize,
+) -> Result<Vec<Reach>, AllocError> {
     let mut all = Vec::new(alloc);
-    for spot in [Spot::Between, Spot::Here, Spot::Before] {
-        // Before the first lexeme none stands: the list has no such front.
-        let (kept, from) = match spot {
-            Spot::Between => (number, number),
-            Spot::Here => (number, number.saturating_add(1)),
-            Spot::Before => (number.wrapping_sub(1), number),
+    for back in 0..most.min(number).saturating_add(1) {
+        let at = number.saturating_sub(back);
+        let open = awaited_behind(alloc, lexemes.get(..at).unwrap_or(&[]))?;
+        let front = Front {
+            alloc,
+            open: &open,
+            lexemes,
+            past: number.saturating_add(1),
         };
-        if let (Some(before), Some(rest)) = (lexemes.get(..kept), lexemes.get(from..)) {
-            let open = awaited_behind(alloc, before)?;
-            if spot != Spot::Between {
-                add_reach(
-                    &mut all,
-                    alloc,
-                    &open,
-                    rest,
-                    from,
-                    Change { spot, put: None },
-                )?;
-            }
-            for class in &CLASSES {
-                let put = Some(*class);
-                add_reach(&mut all, alloc, &open, rest, from, Change { spot, put })?;
+        let (put, then) = (None, None);
+        let out = 1;
+        add_reach(&mut all, front, Change { at, out, put, then })?;
+        if let Some([one, other, ..]) = lexemes.get(at..) {
+            let (out, put, then) = (2, Some(other.what), Some(one.what));
+            add_reach(&mut all, front, Change { at, out, put, then })?;
+        }
+        for class in &CLASSES {
+            for out in [0, 1] {
+                let (put, then) = (Some(*class), None);
+                add_reach(&mut all, front, Change { at, out, put, then })?;
             }
         }
     }
