@@ -97,15 +97,22 @@ fn is_word(place: Place) -> bool {
     near(place, 0).is_some_and(|lexeme| matches!(lexeme.what, Class::Word(_)))
 }
 
-/// Whether a test holds of a place: behind `!` stands one that doesn't, behind `+` what may stand there, behind `-` what may not, and behind
-/// `>` what stands behind the lexeme there.
-pub(crate) fn holds(test: &str, place: Place) -> bool {
+/// Whether a test holds of a place: behind `+` stands what may stand there, behind `-` what may not, and behind `>` what stands behind the
+/// lexeme there.
+fn is_met(test: &str, place: Place) -> bool {
     match test.split_at_checked(1).unwrap_or(("", "")) {
-        ("!", test) => !holds(test, place),
         ("+", word) => may_stand(word, place.wanted),
         ("-", word) => !may_stand(word, place.wanted),
         (">", words) => leads_to(words, place),
         (_, _) => is_so(test, place),
+    }
+}
+
+/// Whether a test holds of a place, or, behind `!`, doesn't.
+pub(crate) fn holds(test: &str, place: Place) -> bool {
+    match test.strip_prefix("!") {
+        Some(test) => !is_met(test, place),
+        None => is_met(test, place),
     }
 }
 
