@@ -1,5 +1,5 @@
 -- Where lines are cut.
-use Rattle.kahn_live.proofs.Common.{◌≡◌, ◌≢◌, ◌∙◌, inl, inr, ℕ, zero, suc, ◌+◌, ◌-◌, ◌<◌, ◌≤◌, min, Bool, true, false, eqb, cond, eqb-true, eq-eqb, true≢false, List, [], ◌∷◌, ◌++◌, All, None, Some, Option, IfSome, Result, Ok, Err, IfOk, is_ok, is_err, if◌then◌else◌, get_or, take_all, ⊎_elim, length, take, arith, refl, sym, ap, subst, append_assoc, append-nil, length-append, length-take, All-append, All-cons, All-nil, take_more, Consumes, IsAtEnd, Keeps, DropsThrough, drop_through, CutsLine, IsCutLine, IsNextLine, most_kept, Next, Line, End, Failed, NoMemory, IsLastRead, IsPassed}
+use Rattle.kahn_live.proofs.Common.{[], ◌≡◌, ◌≢◌, ◌∙◌, inl, inr, ℕ, zero, suc, ◌+◌, ◌-◌, ◌<◌, ◌≤◌, min, Bool, true, false, eqb, cond, eqb-true, eq-eqb, true≢false, List, ◌∷◌, ◌++◌, All, None, Some, Option, IfSome, Result, Ok, Err, IfOk, is_ok, is_err, if◌then◌else◌, get_or, take_all, ⊎_elim, length, take, arith, refl, sym, ap, subst, append_assoc, append-nil, length-append, length-take, All-append, All-cons, All-nil, take_more, Consumes, IsAtEnd, Keeps, DropsThrough, drop_through, CutsLine, IsCutLine, IsNextLine, most_kept, Next, Line, End, Failed, NoMemory, IsLastRead, IsPassed}
 use Rattle.std.proofs.lemmas.Bool.{cases_lt}
 
 -- what is kept of a text may be cut on the way
@@ -123,13 +123,11 @@ pub ends : (a b c : Option (List ℕ)) (line kept : List ℕ) (r : Next) → All
     → IsNextLine a c kept r
 ends a b c line kept Line all p end same is last = (line, last_line a b c line all p end same (kept_some most_kept line kept is last), is)
 ends a b c line kept End all p end same is last = at_end a b line p end (kept_none most_kept line kept (omega arith) is last)
-ends a b c line kept Failed all p end same is last = absurd last
-ends a b c line kept NoMemory all p end same is last = absurd last
+ends a b c line kept r all p end same is last = absurd last
 
 -- what is read where memory was refused
 pub passes : (a b c d : Option (List ℕ)) (line kept : List ℕ) (r : Next) → All (λ x. x ≢ 10) line → Consumes a b line → IfSome b (λ text. 0 < length text) → Keeps b c
     → IsPassed c d r → IsNextLine a d kept r
-passes a b c d line kept Line all p some same went = absurd went
-passes a b c d line kept End all p some same went = absurd went
 passes a b c d line kept Failed all p some same went = went
 passes a b c d line kept NoMemory all p some same went = passed a b c d line all p some same went
+passes a b c d line kept r all p some same went = absurd went

@@ -1,5 +1,5 @@
 -- What lines make, one after the other.
-use Rattle.kahn_live.proofs.Common.{◌≡◌, ◌∙◌, inl, inr, ℕ, zero, suc, take, Bool, true, false, true≢false, List, [], None, Some, Option, Result, Ok, Err, IfOk, is_err, MatchResult, append-nil, refl, sym, ap, subst, Keeps-refl, ◌||◌, Appends, Verdict, AppendsFront, Writes, Fault, HasVerdict, IsTakenLine, Live, breaks, TakeFault, WasAnswered, WasFed, HasSent, HasWaited, IsAnswerTold, IsFaultPut, IsLineMet, IsNewFault, IsPartTold, IsToldBy, IsVerdictTold, Point, LiveTelling, is_verdict_new, AreRead, IsCome, IsHearing, IsNextMet, IsNoneCome, IsSource, IsStep, IsNextLine, Next, Line, End, Failed, NoMemory}
+use Rattle.kahn_live.proofs.Common.{[], ◌≡◌, ◌∙◌, inl, inr, ℕ, zero, suc, take, Bool, true, false, true≢false, List, None, Some, Option, Result, Ok, Err, IfOk, is_err, MatchResult, append-nil, refl, sym, ap, subst, Keeps-refl, ◌||◌, Appends, Verdict, AppendsFront, Writes, Fault, HasVerdict, IsTakenLine, Live, breaks, TakeFault, WasAnswered, WasFed, HasSent, HasWaited, IsAnswerTold, IsFaultPut, IsLineMet, IsNewFault, IsPartTold, IsToldBy, IsVerdictTold, Point, LiveTelling, is_verdict_new, AreRead, IsCome, IsHearing, IsNextMet, IsNoneCome, IsSource, IsStep, IsNextLine, Next, Line, End, Failed, NoMemory}
 use Rattle.kahn_streams.specs.declared.value.Failure.{Failure}
 
 -- what the session made of a line, where no byte more went out since
@@ -75,7 +75,7 @@ unmoved p = (refl, (refl, Keeps-refl p.out))
 
 -- a part of which there is nothing to tell
 pub none_told : (s : Live) (number : ℕ) (line : List ℕ) (v : Verdict) (told : LiveTelling) (first : Option (ℕ × Failure)) (wanted : Bool)
-    → IsNewFault told.complaints.faulted s.flow.run first → wanted ≡ is_verdict_new told.complaints line v → wanted ≡ false → first ≡ None → IsPartTold s number line v told told
+    → IsNewFault told.faulted s.flow.run first → wanted ≡ is_verdict_new told line v → wanted ≡ false → first ≡ None → IsPartTold s number line v told told
 none_told s number line v told first wanted new is not none = (
   first,
   told,
@@ -87,12 +87,6 @@ none_told s number line v told first wanted new is not none = (
 )
 
 -- ---- what was written is told
-
-pub either : (a b : Bool) → (a || b) ≡ (b || a)
-either true true = refl
-either true false = refl
-either false true = refl
-either false false = refl
 
 neither : (a b : Bool) → (a || b) ≡ false → a ≡ false
 neither true b e = e

@@ -1,5 +1,5 @@
 -- The lines of a row, one after the other.
-use Rattle.kahn_live.proofs.Common.{arith, not, ◌≡◌, ◌∙◌, ◌<◌, inl, inr, ℕ, Bool, true, List, [], ◌∷◌, ◌++◌, length, map, take, drop, Option, None, Some, Result, Ok, Err, refl, sym, ap, ap₂, subst, Verdict, Fault, HeldRun, IsMeantLine, IsStreamOf, Live, TakeFault, IsAloneMet, IsBrokenOff, IsLineMet, Point, WasMet, no_memory, AreTaken, IsTornOff, Global, Vec, length-drop, list_any, position_or_len, ◌==◌, AreCells, AreMeant, HaveStreams, IsRowFront, bare_of, behind_word, bytes_in, row_line, row_names, first_word, from_word, is_row_gap, is_wordless}
+use Rattle.kahn_live.proofs.Common.{[], arith, not, ◌≡◌, ◌∙◌, ◌<◌, inl, inr, ℕ, Bool, true, List, ◌∷◌, ◌++◌, length, map, take, drop, Option, None, Some, Result, Ok, Err, refl, sym, ap, ap₂, subst, Verdict, Fault, HeldRun, IsMeantLine, IsStreamOf, Live, TakeFault, IsAloneMet, IsBrokenOff, IsLineMet, Point, WasMet, no_memory, AreTaken, IsTornOff, Global, Vec, length-drop, list_any, position_or_len, ◌==◌, AreCells, AreMeant, HaveStreams, IsRowFront, bare_of, behind_word, bytes_in, row_line, row_names, first_word, from_word, is_row_gap, is_wordless}
 use Rattle.std.proofs.lemmas.List.{length-take}
 use Rattle.std.specs.Prelude.{if◌then◌else◌}
 

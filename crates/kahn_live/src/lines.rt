@@ -27,20 +27,6 @@ pub(crate) enum Next {
     NoMemory,
 }
 
-/// What was read of a line.
-enum LinePart {
-    /// Bytes of it, or none.
-    More,
-    /// The rest of it, and its line feed.
-    Whole,
-    /// Nothing: the input ends here.
-    End,
-    /// A read failed.
-    Failed,
-    /// Memory was refused for it. It is still to be read.
-    NoMemory,
-}
-
 /// Whether a line begins as a number does.
 pub(crate) fn is_bare_line(line: &[u8]) -> bool
     ensures { result ≡ is_bare_line line.now }
@@ -78,11 +64,11 @@ fn read_line<B: BufRead>(reader: &mut B, line: &mut Vec<u8>) -> Next
 {
     for _ in 0..u64::MAX {
         match read_part(reader, line) {
-            LinePart::More => {}
-            LinePart::Whole => return Next::Line,
-            LinePart::End => return last_line(line),
-            LinePart::Failed => return Next::Failed,
-            LinePart::NoMemory => return pass_line(reader),
+            None => {}
+            Some(Next::Line) => return Next::Line,
+            Some(Next::End) => return last_line(line),
+            Some(Next::Failed) => return Next::Failed,
+            Some(Next::NoMemory) => return pass_line(reader),
         }
     }
     Next::Failed
@@ -108,8 +94,9 @@ fn pass_line<B: BufRead>(reader: &mut B) -> Next
     }
 }
 
-/// Reads what has come of a line, or waits for it, and keeps it.
-fn read_part<B: BufRead>(reader: &mut B, line: &mut Vec<u8>) -> LinePart
+/// Reads what has come of a line, or waits for it, and keeps it. There is nothing to tell of it where more may come; where memory is
+/// refused, or the input ends, nothing was read.
+fn read_part<B: BufRead>(reader: &mut B, line: &mut Vec<u8>) -> Option<Next>
     requires { vec_len line.old ≤ most_kept }
     ensures { IsLinePart (B.remaining reader.old) (B.remaining reader.new) line.old.items line.new.items result }
 {
@@ -117,25 +104,25 @@ fn read_part<B: BufRead>(reader: &mut B, line: &mut Vec<u8>) -> LinePart
         Ok(shown) => shown,
         Err(error) => {
             return if error.kind() == ErrorKind::Interrupted {
-                LinePart::More
+                None
             } else {
-                LinePart::Failed
+                Some(Next::Failed)
             };
         }
     };
     let length = shown.len();
     let end = length_before(shown, b'\n');
     if length == 0 {
-        return LinePart::End;
+        return Some(Next::End);
     }
     if keep(line, &shown[..end]).is_err() {
-        return LinePart::NoMemory;
+        return Some(Next::NoMemory);
     }
     reader.consume((end + 1).min(length));
     if end == length {
-        return LinePart::More;
+        return None;
     }
-    LinePart::Whole
+    Some(Next::Line)
 }
 
 /// The length of the bytes before the first such byte, or of all.

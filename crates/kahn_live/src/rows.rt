@@ -17,6 +17,7 @@ fn is_several(names: &str) -> bool
 }
 
 /// The names of several channels, where commas stand between them: then each line is a row.
+#[tactic(auto, using(crate::proofs::Rowing::several))]
 pub(crate) fn row_names(input: Option<&str>) -> Option<&str>
     ensures { option_copied result ≡ row_names (option_copied input.entry) }
 {
@@ -30,6 +31,7 @@ pub(crate) fn row_names(input: Option<&str>) -> Option<&str>
 }
 
 /// The name of one channel, where no comma stands in it.
+#[tactic(auto, using(crate::proofs::Rowing::not_one))]
 pub(crate) fn bare_of(input: Option<&str>) -> Option<&str>
     ensures { option_copied result ≡ bare_of (option_copied input.entry) }
 {
@@ -64,6 +66,7 @@ fn first_between(bytes: &[u8]) -> Option<usize>
 }
 
 /// How many bytes stand before the first word.
+#[tactic(auto, using(kahn_texts::proofs::Scanned::stop_of))]
 fn word_start(bytes: &[u8]) -> usize
     ensures within { result ≤ length bytes.now }
     ensures stop { result ≡ position_or_len (λ b. not (is_row_gap b)) bytes.now }
@@ -72,6 +75,7 @@ fn word_start(bytes: &[u8]) -> usize
 }
 
 /// How many bytes stand before the first one that is between words.
+#[tactic(auto, using(kahn_texts::proofs::Scanned::stop_of))]
 fn word_length(bytes: &[u8]) -> usize
     ensures within { result ≤ length bytes.now }
     ensures stop { result ≡ position_or_len is_row_gap bytes.now }

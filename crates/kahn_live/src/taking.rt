@@ -1,17 +1,16 @@
 //! The lines of a run: those of the input, and those that are fed at its end.
 
 ghost use Rattle.std.specs.Prelude.{◌≡◌, ◌&&◌, IfErr, IfOk, IsTrue, None, false, map, option_copied, string_bytes, true};
-ghost use Rattle.std.specs.Io.Buffered.{reader_buffer};
+ghost use Rattle.std.specs.Io.Buffered.{reader_buffer, reader_remaining};
 ghost use Rattle.kahn_session.specs.{Live.HasVerdict, Live.breaks, Pace.MayBeSlow};
-ghost use Rattle.kahn_live.specs.Course.{Across, AcrossStage, HasSent, IsAloneMet, IsAnswerTold, IsLineMet, IsRefusalTold, IsPartMet, IsWriteFault, no_memory, point_of, telling_of};
-ghost use Rattle.kahn_live.specs.InputMet.{AreCellsMet, AreLastMet, AreLastTried, IsFirstPart, IsInputMet, IsLastRefused, IsAloneTold, IsNextMet, IsReadMet, IsRowMet, has_finished, is_idle};
-ghost use Rattle.kahn_live.specs.{LinesMet.AreAllMet, LinesMet.AreEachMet, LinesMet.lines_given, Histories.HasHistories, Lines.IsReadyToRead, Lines.fed_text, Rows.bytes_in};
+ghost use Rattle.kahn_live.specs.Course.{Across, AcrossStage, HasSent, IsAloneMet, IsAnswerTold, IsLineMet, IsRefusalTold, IsPartMet, IsWriteFault, Through, no_memory, point_of, telling_of};
+ghost use Rattle.kahn_live.specs.InputMet.{AreAllMet, AreCellsMet, AreEachMet, AreLastMet, AreLastTried, IsFirstPart, IsInputMet, IsLastRefused, IsAloneTold, IsCome, IsDeafNow, IsNextMet, IsReadMet, IsRowMet, has_finished, is_idle, lacks_memory};
+ghost use Rattle.kahn_live.specs.{Histories.HasHistories, Lines.IsReadyToRead, Lines.fed_text, Rows.bytes_in};
 
 use crate::complaint::tell_refused;
-use crate::lines::{Next, fed_line, has_line, without_mark};
+use crate::lines::{Next, fed_line, has_line, next_line, without_mark};
+use crate::outlet::DeferredWriter;
 use crate::rows::{bare_of, row_cells, row_names};
-use crate::source::{come, is_over};
-use crate::stage::LiveStage;
 use crate::telling::Teller;
 use kahn_fault::{Fault, WorkFault};
 use kahn_session::{AT_END, Session, TakeFault, is_want};
@@ -20,13 +19,12 @@ use kahn_texts::ReadFault;
 use std::alloc::Global;
 use std::io::{BufReader, Read, Write};
 
-/// Which lines are fed.
-#[derive(Clone, Copy)]
-pub(crate) struct Fed<'a> {
-    /// The name of the channel whose values stand alone in the lines of the input, where they do.
-    pub(crate) input: Option<&'a str>,
-    /// The lines behind those of the input.
-    pub(crate) at_end: &'a [String],
+/// What the lines of a run change: a session, where it writes what is new, and where is told what isn't taken.
+#[derive(Drop)]
+pub(crate) struct LiveStage<'n, W: Write, E: Write> {
+    pub(crate) session: Session<'n>,
+    pub(crate) outlet: DeferredWriter<W>,
+    pub(crate) teller: Teller<E>,
 }
 
 /// Want of memory, as a fault of the run.
@@ -110,8 +108,7 @@ fn tell_part<W: Write, E: Write>(
     }
     stage.outlet.send()?;
     stage.teller.tell_verdict(number, wanted, verdict);
-    let network = stage.session.network();
-    stage.teller.tell_faulty(number, network, first);
+    stage.teller.tell_faulty(number, &stage.session, first);
     stage.teller.tell_ring(number, &stage.session);
     Ok(())
 }
@@ -263,8 +260,48 @@ fn tell_alone<W: Write, E: Write>(stage: &mut LiveStage<'_, W, E>, input: Option
     let Some(input) = input else {
         return;
     };
-    let other = stage.session.other_input(input);
+    let Some(other) = stage.session.other_input(input) else {
+        return;
+    };
     stage.teller.tell_alone(input, other);
+}
+
+/// Whether no line can change the run any more.
+pub(crate) fn is_over(session: &Session<'_>) -> bool
+    ensures { IsDeafNow session.now result }
+{
+    if !session.settled() {
+        return false;
+    }
+    session.is_deaf()
+}
+
+/// Whether memory was refused for the last part.
+fn lacks_memory(session: &Session<'_>) -> bool
+    ensures { result ≡ lacks_memory session.now.flow.run.verdict }
+{
+    matches!(session.verdict(), Some(Verdict::Memory))
+}
+
+/// Reads the next line, without its line feed; of a program without an input channel it is a blank one, and there is none where memory
+/// was refused for the last part. What is new went out before, or the read doesn't wait.
+pub(crate) fn come<I: Read, W: Write>(
+    session: &Session<'_>,
+    reader: &mut BufReader<I>,
+    line: &mut Vec<u8>,
+    outlet: &DeferredWriter<W>,
+) -> Next
+    requires { IsReadyToRead (reader_buffer reader.old) outlet.now }
+    ensures { IsCome session.now (reader_remaining I.remaining reader.old) (reader_remaining I.remaining reader.new) line.new.items result }
+{
+    if let Some(_name) = session.first_input() {
+        return next_line(reader, line, outlet);
+    }
+    line.clear();
+    if lacks_memory(session) {
+        return Next::End;
+    }
+    Next::Line
 }
 
 /// Reads the next line, of that number, and takes it, and tells whether there was one. What is new goes out before, unless the
@@ -305,7 +342,7 @@ fn take_lines<I: Read, W: Write, E: Write>(
 ) -> Result<(), Fault>
     requires { stage.old.session.broken ≡ false }
     ensures broken { IfOk result (λ _. stage.new.session.broken ≡ false) }
-    ensures met { Across I.remaining W.contents E.contents reader.old reader.new stage.old stage.new (λ s t. IsInputMet (option_copied input.entry) result s) }
+    ensures met { Through I.remaining W.contents E.contents reader.old stage.old stage.new (IsInputMet (option_copied input.entry) result) }
 {
     let mut line = Vec::new(alloc);
     let mut room = Vec::new(alloc);
@@ -364,19 +401,20 @@ fn take_each<I: Read, W: Write, E: Write>(
     alloc: Global,
     stage: &mut LiveStage<'_, W, E>,
     reader: &mut BufReader<I>,
-    fed: Fed<'_>,
+    input: Option<&str>,
+    at_end: &[String],
 ) -> Result<bool, Fault>
     requires { stage.old.session.broken ≡ false }
     ensures settled { IfOk result (λ there. there ≡ true → HasVerdict stage.new.session) }
     ensures histories { IfOk result (λ there. there ≡ true → HasHistories stage.new.session) }
-    ensures met { Across I.remaining W.contents E.contents reader.old reader.new stage.old stage.new (λ s t. AreEachMet (lines_given fed.entry) result s) }
+    ensures met { Through I.remaining W.contents E.contents reader.old stage.old stage.new (AreEachMet (option_copied input.entry) at_end.now result) }
 {
-    if !begin(alloc, stage, fed.input)? {
+    if !begin(alloc, stage, input)? {
         return Ok(false);
     }
-    tell_alone(stage, bare_of(fed.input));
-    take_lines(alloc, stage, reader, fed.input)?;
-    take_last(stage, fed.at_end)?;
+    tell_alone(stage, bare_of(input));
+    take_lines(alloc, stage, reader, input)?;
+    take_last(stage, at_end)?;
     Ok(true)
 }
 
@@ -419,15 +457,16 @@ pub(crate) fn take_all<I: Read, W: Write, E: Write>(
     alloc: Global,
     stage: &mut LiveStage<'_, W, E>,
     reader: &mut BufReader<I>,
-    fed: Fed<'_>,
+    input: Option<&str>,
+    at_end: &[String],
 ) -> Result<bool, Fault>
     requires { stage.old.session.broken ≡ false }
     ensures settled { IfOk result (λ there. there ≡ true → HasVerdict stage.new.session) }
     ensures histories { IfOk result (λ there. there ≡ true → HasHistories stage.new.session) }
-    ensures met { Across I.remaining W.contents E.contents reader.old reader.new stage.old stage.new (λ s t. AreAllMet (lines_given fed.entry) result s) }
+    ensures met { Through I.remaining W.contents E.contents reader.old stage.old stage.new (AreAllMet (option_copied input.entry) at_end.now result) }
 {
-    match try_last(&stage.session, &mut stage.teller, fed.at_end) {
-        Ok(true) => take_each(alloc, stage, reader, fed),
+    match try_last(&stage.session, &mut stage.teller, at_end) {
+        Ok(true) => take_each(alloc, stage, reader, input, at_end),
         Ok(false) => Ok(false),
         Err(fault) => Err(fault),
     }

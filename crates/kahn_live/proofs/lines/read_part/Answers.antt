@@ -1,4 +1,4 @@
-use Rattle.kahn_live.proofs.Common.{◌≡◌, ◌≢◌, ◌∙◌, ◌+◌, ◌<◌, ◌≤◌, [], ap, append-nil, arith, length, min, rules, subst, sym, take, take_all, All-nil, Consumes-kept, Consumes-nil, FillKeeps, Consumes, most_kept}
+use Rattle.kahn_live.proofs.Common.{[], ◌≡◌, ◌≢◌, ◌∙◌, ◌+◌, ◌<◌, ◌≤◌, ap, append-nil, arith, length, min, rules, subst, sym, take, take_all, All-nil, Consumes-kept, Consumes-nil, FillKeeps, Consumes, most_kept}
 use Rattle.std.proofs.BufReadLemmas.{Consumes_shown}
 use Rattle.kahn_live.proofs.Cutting.{ok_where, shown_more, shown_whole}
 use Rattle.kahn_live.proofs.lines.read_part.Goals as goal

@@ -1,4 +1,4 @@
-use Rattle.kahn_live.proofs.Common.{◌≡◌, ◌<◌, ◌++◌, ◌∷◌, [], inr, length, List, ℕ, refl, rules, subst, sym, IsStreamOf, HaveStreams, first_word}
+use Rattle.kahn_live.proofs.Common.{[], ◌≡◌, ◌<◌, ◌++◌, ◌∷◌, inr, length, List, ℕ, refl, rules, subst, sym, IsStreamOf, HaveStreams, first_word}
 use Rattle.kahn_live.proofs.Rowing.{streams_more}
 use Rattle.kahn_live.proofs.rows.stream_numbers.Goals as goal
 

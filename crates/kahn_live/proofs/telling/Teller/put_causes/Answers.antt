@@ -8,4 +8,4 @@ returns-in-Ok g c =
     inl (string_bytes c.in-Ok.words, c.in-Ok.ensures, subst (λ (ws : List ℕ). WasTold ws old new) c.as_str-in-Ok.ensures.value c.put_lines.ensures)
 
 pub returns-in-Err : goal.returns-in-Err
-returns-in-Err g c = inr c.put_words.ensures
+returns-in-Err g c = inr c.say.ensures
