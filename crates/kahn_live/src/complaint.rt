@@ -45,10 +45,7 @@ fn wants_hint(hinted: bool, number: u64, line: &[u8], fault: TakeFault) -> bool
 fn hint_of<'s>(session: &'s Session<'_>, wanted: bool) -> Option<&'s str>
     ensures { IsHintBy wanted session.now (option_copied result) }
 {
-    if wanted {
-        return session.first_input();
-    }
-    None
+    if wanted { session.first_input() } else { None }
 }
 
 /// What is said of the name of a line that no input channel has: the nearest input channel, or else which there are.
@@ -97,8 +94,7 @@ fn refused_part<'l>(
     }
 }
 
-/// Tells a fault of the line of that number, and the part of it that is at fault; or counts the line where it is refused as the one
-/// before it.
+/// Tells a fault of the line of that number, and the part at fault; or counts the line where it is refused as the one before it.
 pub(crate) fn tell_refused<E: Write>(
     session: &Session<'_>,
     teller: &mut Teller<E>,

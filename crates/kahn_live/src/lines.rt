@@ -94,8 +94,7 @@ fn pass_line<B: BufRead>(reader: &mut B) -> Next
     }
 }
 
-/// Reads what has come of a line, or waits for it, and keeps it. There is nothing to tell of it where more may come; where memory is
-/// refused, or the input ends, nothing was read.
+/// Reads what has come of a line, or waits for it, and keeps it; nothing is told where more may come, and nothing read without memory.
 fn read_part<B: BufRead>(reader: &mut B, line: &mut Vec<u8>) -> Option<Next>
     requires { vec_len line.old ≤ most_kept }
     ensures { IsLinePart (B.remaining reader.old) (B.remaining reader.new) line.old.items line.new.items result }

@@ -24,10 +24,7 @@ pub(crate) fn row_names(input: Option<&str>) -> Option<&str>
     let Some(names) = input else {
         return None;
     };
-    if is_several(names) {
-        return Some(names);
-    }
-    None
+    if is_several(names) { Some(names) } else { None }
 }
 
 /// The name of one channel, where no comma stands in it.
@@ -38,10 +35,7 @@ pub(crate) fn bare_of(input: Option<&str>) -> Option<&str>
     let Some(name) = input else {
         return None;
     };
-    if is_several(name) {
-        return None;
-    }
-    Some(name)
+    if is_several(name) { None } else { Some(name) }
 }
 
 /// Whether a byte stands between words.
@@ -135,8 +129,7 @@ fn tried_cell(
     }
 }
 
-/// The lines of a row, one for each of the names, each of which is meant for an input channel; a blank row has no values for them. Else
-/// why there are none, and which line isn't.
+/// The lines of a row, one for each of the names and meant for an input channel; else why there are none, and which line isn't.
 pub(crate) fn row_cells(
     alloc: Global,
     session: &Session<'_>,

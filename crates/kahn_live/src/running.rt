@@ -40,8 +40,7 @@ fn first_shown(plain: &PlainNames) -> Option<&str>
     }
 }
 
-/// The name of the channel that is watched: where values stand alone, of the first one whose values are shown, so that it has a
-/// stream, and of no other one, whose stream may be the first.
+/// The name of the channel that is watched: where values stand alone, of the first one whose values are shown, which so has a stream.
 fn name_watched(options: &LiveOptions) -> Option<&str>
     ensures { option_copied result ≡ name_watched options.now.plain options.now.config.watch }
 {
@@ -187,7 +186,7 @@ fn run_network<I: Read + Drop, W: Write + Drop, E: Write + Drop>(
     let named = input_of(&options.plain);
     let at_end = options.at_end.as_slice();
     let strict = options.strict;
-    let ending = work(alloc, program, &mut stage, input, named, at_end, strict);
+    let ending = work(program, &mut stage, input, named, at_end, strict);
     let ending = sent(&mut stage.outlet, ending);
     let LiveStage { outlet, teller, .. } = stage;
     let output = outlet.writer;
@@ -198,10 +197,7 @@ fn run_network<I: Read + Drop, W: Write + Drop, E: Write + Drop>(
 fn named_input(name: &str) -> Option<&str>
     ensures { option_copied result ≡ named_input name.now }
 {
-    if name.is_empty() {
-        return None;
-    }
-    Some(name)
+    if name.is_empty() { None } else { Some(name) }
 }
 
 /// The name of the channel whose values stand alone in the lines of input, where one is named.
@@ -253,8 +249,7 @@ fn told<E: Write>(ending: Result<RunEnding, Fault>, program: &str, teller: &mut 
     }
 }
 
-/// Runs a program text, of that file, on the input as the options say, writes what is new, and tells what isn't taken and a
-/// fault of the run to the writer of faults. It gives the status, and both writers back.
+/// Runs a program text, of that file, on the input as the options say, and gives the status, and both writers back.
 pub(crate) fn ran<I: Read + Drop, W: Write + Drop, E: Write + Drop>(
     alloc: Global,
     program: &str,

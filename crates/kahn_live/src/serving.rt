@@ -12,7 +12,6 @@ use crate::telling::Teller;
 use kahn_fault::{Fault, WorkFault, live_status};
 use kahn_session::Session;
 use kahn_streams::Verdict;
-use std::alloc::Global;
 use std::io::{BufReader, Read, Write};
 
 /// What is amiss with a run that is judged.
@@ -128,7 +127,6 @@ fn close<W: Write, E: Write>(
 
 /// Takes the lines of the reader, and then those behind them, judges the run where it is to be, and closes the session of the program.
 fn serve<I: Read, W: Write, E: Write>(
-    alloc: Global,
     program: &str,
     stage: &mut LiveStage<'_, W, E>,
     reader: &mut BufReader<I>,
@@ -139,7 +137,7 @@ fn serve<I: Read, W: Write, E: Write>(
     requires { stage.old.session.broken ≡ false }
     ensures { Through I.remaining W.contents E.contents reader.old stage.old stage.new (HasServedAll strict (option_copied input.entry) at_end.now result) }
 {
-    if !take_all(alloc, stage, reader, input, at_end)? {
+    if !take_all(stage, reader, input, at_end)? {
         return Ok(RunEnding::Refused);
     }
     let amiss = judged(&stage.session, strict);
@@ -149,7 +147,6 @@ fn serve<I: Read, W: Write, E: Write>(
 
 /// Takes the lines of the input, and writes what is new.
 pub(crate) fn work<I: Read + Drop, W: Write, E: Write>(
-    alloc: Global,
     program: &str,
     stage: &mut LiveStage<'_, W, E>,
     text: I,
@@ -160,10 +157,10 @@ pub(crate) fn work<I: Read + Drop, W: Write, E: Write>(
     requires { stage.old.session.broken ≡ false }
     ensures { AcrossStage W.contents E.contents stage.old stage.new (HasServed strict (option_copied input.entry) at_end.now result (I.remaining text)) }
 {
-    let Ok(mut reader) = BufReader::new(alloc, text) else {
+    let Ok(mut reader) = BufReader::new(stage.teller.alloc, text) else {
         return Err(wants_memory());
     };
-    serve(alloc, program, stage, &mut reader, input, at_end, strict)
+    serve(program, stage, &mut reader, input, at_end, strict)
 }
 
 /// Whether a run ended since a write failed.
@@ -199,5 +196,5 @@ pub(crate) fn sent<W: Write>(
     ensures sent { WasSent ending result }
 {
     let sent = outlet.send();
-    ended(outlet.gone(), sent, ending)
+    ended(outlet.gone, sent, ending)
 }

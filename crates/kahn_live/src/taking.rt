@@ -16,7 +16,6 @@ use kahn_fault::{Fault, WorkFault};
 use kahn_session::{AT_END, Session, TakeFault, is_want};
 use kahn_streams::{Failure, Open, RunFault, Verdict};
 use kahn_texts::ReadFault;
-use std::alloc::Global;
 use std::io::{BufReader, Read, Write};
 
 /// What the lines of a run change: a session, where it writes what is new, and where is told what isn't taken.
@@ -88,8 +87,7 @@ fn is_quiet(wanted: bool, first: Option<(usize, Failure)>, ringed: bool) -> bool
     }
 }
 
-/// Tells what there is to tell of the part of the line of that number, which had this verdict. It fails where what is new can't be
-/// written.
+/// Tells what there is to tell of the part of the line of that number, which had this verdict, behind what is new.
 fn tell_part<W: Write, E: Write>(
     stage: &mut LiveStage<'_, W, E>,
     verdict: Verdict,
@@ -113,8 +111,7 @@ fn tell_part<W: Write, E: Write>(
     Ok(())
 }
 
-/// Tells what there is to tell of the line of that number by its answer, and gives why it was refused. It fails where nothing
-/// can be written.
+/// Tells what there is to tell of the line of that number by its answer, and gives why it was refused.
 fn tell_answer<W: Write, E: Write>(
     stage: &mut LiveStage<'_, W, E>,
     answer: Result<Verdict, TakeFault>,
@@ -139,8 +136,7 @@ fn tell_answer<W: Write, E: Write>(
     }
 }
 
-/// Takes a line of that number, and tells where it is refused, and gives why, or where its part wants memory. It fails where
-/// nothing can be written.
+/// Takes a line of that number, tells what there is to tell of it, and gives why it was refused.
 fn take_line<W: Write, E: Write>(
     stage: &mut LiveStage<'_, W, E>,
     line: &[u8],
@@ -173,8 +169,7 @@ fn take_alone<W: Write, E: Write>(
     take_line(stage, fed, number)
 }
 
-/// Takes the lines of a row, each of which is meant for an input channel. One that is refused all the same ends the run, since those
-/// before it were taken.
+/// Takes the lines of a row, each meant for an input channel. One that is refused all the same ends the run: others were taken.
 fn take_cells<W: Write, E: Write>(
     stage: &mut LiveStage<'_, W, E>,
     cells: &[Vec<u8>],
@@ -304,8 +299,7 @@ pub(crate) fn come<I: Read, W: Write>(
     Next::Line
 }
 
-/// Reads the next line, of that number, and takes it, and tells whether there was one. What is new goes out before, unless the
-/// read doesn't wait.
+/// Reads and takes the next line, and tells whether there was one. What is new goes out before, unless the read doesn't wait.
 fn take_next<I: Read, W: Write, E: Write>(
     stage: &mut LiveStage<'_, W, E>,
     reader: &mut BufReader<I>,
@@ -335,7 +329,6 @@ fn take_next<I: Read, W: Write, E: Write>(
 
 /// Takes the lines of the reader as long as one can change the run.
 fn take_lines<I: Read, W: Write, E: Write>(
-    alloc: Global,
     stage: &mut LiveStage<'_, W, E>,
     reader: &mut BufReader<I>,
     input: Option<&str>,
@@ -344,8 +337,8 @@ fn take_lines<I: Read, W: Write, E: Write>(
     ensures broken { IfOk result (λ _. stage.new.session.broken ≡ false) }
     ensures met { Through I.remaining W.contents E.contents reader.old stage.old stage.new (IsInputMet (option_copied input.entry) result) }
 {
-    let mut line = Vec::new(alloc);
-    let mut room = Vec::new(alloc);
+    let mut line = Vec::new(stage.teller.alloc);
+    let mut room = Vec::new(stage.teller.alloc);
     for number in 1..u64::MAX {
         if is_over(&stage.session) {
             return Ok(());
@@ -374,7 +367,6 @@ fn take_last<W: Write, E: Write>(
 
 /// Runs the part before the first line, and tells whether there are input channels of the names whose values stand alone.
 fn begin<W: Write, E: Write>(
-    alloc: Global,
     stage: &mut LiveStage<'_, W, E>,
     input: Option<&str>,
 ) -> Result<bool, Fault>
@@ -382,7 +374,7 @@ fn begin<W: Write, E: Write>(
     ensures broken { IfOk result (λ _. stage.new.session.broken ≡ false) }
     ensures begun { AcrossStage W.contents E.contents stage.old stage.new (λ p q. IsFirstPart (option_copied input.entry) p q result) }
 {
-    let mut room = Vec::new(alloc);
+    let mut room = Vec::new(stage.teller.alloc);
     match take_read(stage, input, b"", 0, &mut room) {
         Ok(None) => Ok(true),
         Ok(Some(fault)) => {
@@ -395,10 +387,8 @@ fn begin<W: Write, E: Write>(
     }
 }
 
-/// Takes all lines, after a part before the first, and tells whether there is an input channel of the name whose values stand
-/// alone; else no line is taken.
+/// Takes all lines, after a part before the first, and tells whether the names whose values stand alone are of input channels.
 fn take_each<I: Read, W: Write, E: Write>(
-    alloc: Global,
     stage: &mut LiveStage<'_, W, E>,
     reader: &mut BufReader<I>,
     input: Option<&str>,
@@ -409,11 +399,11 @@ fn take_each<I: Read, W: Write, E: Write>(
     ensures histories { IfOk result (λ there. there ≡ true → HasHistories stage.new.session) }
     ensures met { Through I.remaining W.contents E.contents reader.old stage.old stage.new (AreEachMet (option_copied input.entry) at_end.now result) }
 {
-    if !begin(alloc, stage, input)? {
+    if !begin(stage, input)? {
         return Ok(false);
     }
     tell_alone(stage, bare_of(input));
-    take_lines(alloc, stage, reader, input)?;
+    take_lines(stage, reader, input)?;
     take_last(stage, at_end)?;
     Ok(true)
 }
@@ -451,10 +441,8 @@ fn try_last<E: Write>(
     Ok(true)
 }
 
-/// Takes all lines, after a part before the first, and tells whether those that are to be fed at the end are meant for input channels,
-/// and there is an input channel of the name whose values stand alone; else no line is taken.
+/// The same, if those that are to be fed at the end are meant for input channels; else no line is taken.
 pub(crate) fn take_all<I: Read, W: Write, E: Write>(
-    alloc: Global,
     stage: &mut LiveStage<'_, W, E>,
     reader: &mut BufReader<I>,
     input: Option<&str>,
@@ -466,7 +454,7 @@ pub(crate) fn take_all<I: Read, W: Write, E: Write>(
     ensures met { Through I.remaining W.contents E.contents reader.old stage.old stage.new (AreAllMet (option_copied input.entry) at_end.now result) }
 {
     match try_last(&stage.session, &mut stage.teller, at_end) {
-        Ok(true) => take_each(alloc, stage, reader, input, at_end),
+        Ok(true) => take_each(stage, reader, input, at_end),
         Ok(false) => Ok(false),
         Err(fault) => Err(fault),
     }

@@ -189,8 +189,7 @@ impl<E: Write> Teller<E> {
         self.say(Sentence::Unknown(of_plain, name, words));
     }
 
-    /// Whether something of this verdict is told now of the part of this line: each once in a run, and of an empty line, which lets a run
-    /// go on, not that it wants more events.
+    /// Whether something of this verdict is told now of the part of this line: each once in a run, and of an empty line no want of events.
     pub(crate) fn is_verdict_new(&self, verdict: Verdict, line: &[u8]) -> bool
         ensures { result ≡ is_verdict_new (telling_of E.contents self.now) line.now verdict }
     {
@@ -249,8 +248,7 @@ impl<E: Write> Teller<E> {
         self.say(Sentence::Failed(number, session.network(), instance, kind));
     }
 
-    /// Whether processes wait on one another in a ring after a part, and it wasn't told before that some do. Behind the last part that isn't
-    /// asked: the end tells it.
+    /// Whether processes wait on one another in a ring, which wasn't told. Behind the last part that isn't asked: the end tells it.
     pub(crate) fn is_ring_new(&self, session: &Session<'_>) -> bool
         requires { HasVerdict session.now }
         ensures { IsTrue result → (self.now.ringed ≡ false) × IsRinged session.now.flow.run true }

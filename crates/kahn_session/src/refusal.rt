@@ -53,47 +53,31 @@ pub fn take_words(fault: TakeFault) -> &'static str
     }
 }
 
-/// What stands before a part of a line.
-fn before_part(part: &[u8]) -> &'static str
-    ensures { result.now ≡ before_part part.now }
-{
-    if part.is_empty() { "" } else { ": `" }
-}
-
-/// What stands behind so many bytes of a part of a line.
-fn behind_part(part: &[u8], shown: usize) -> &'static str
-    ensures { result.now ≡ behind_part part.now shown }
+/// What stands before so many bytes of a part of a line, and behind them.
+fn around_part(part: &[u8], shown: usize) -> (&'static str, &'static str)
+    ensures before { result.0.now ≡ before_part part.now }
+    ensures behind { result.1.now ≡ behind_part part.now shown }
 {
     if part.is_empty() {
-        ""
+        ("", "")
     } else if shown < part.len() {
-        "..`"
+        (": `", "..`")
     } else {
-        "`"
+        (": `", "`")
     }
 }
 
-/// Where a line comes from, up to its number.
-fn origin(of_plain: bool, number: u64) -> &'static str
-    ensures { result.now ≡ origin of_plain number }
+/// Where a line comes from, and the digits of its number, where it has one.
+fn origin<'b>(buffer: &'b mut Buffer, of_plain: bool, number: u64) -> (&'b str, &'b str)
+    ensures from { result.0.now ≡ origin of_plain number }
+    ensures digits { result.1.now ≡ digits of_plain number }
 {
     if of_plain {
-        ": --plain"
+        (": --plain", "")
     } else if number == AT_END {
-        ": --at-end"
+        (": --at-end", "")
     } else {
-        ": input line "
-    }
-}
-
-/// The digits of a number, where the line has one.
-fn digits<'b>(buffer: &'b mut Buffer, of_plain: bool, number: u64) -> &'b str
-    ensures { result.now ≡ digits of_plain number }
-{
-    if of_plain || number == AT_END {
-        ""
-    } else {
-        buffer.format(number)
+        (": input line ", buffer.format(number))
     }
 }
 
@@ -135,7 +119,7 @@ fn put_said<W: Write>(
     ensures { Writes (W.contents writer.old) (W.contents writer.new) result (said_text path.now origin.now number.now words.now part.now more.now) }
 {
     let shown = shown_part(part);
-    let (lead, tail) = (before_part(part), behind_part(part, shown.len()));
+    let (lead, tail) = around_part(part, shown.len());
     put_pieces(writer, path, origin, number, words, lead, shown, tail, more)
 }
 
@@ -159,8 +143,7 @@ fn put_of_line<W: Write>(
     ensures { Writes (W.contents writer.old) (W.contents writer.new) result (line_text path.now of_plain number words.now part.now more.now) }
 {
     let mut buffer = Buffer::new();
-    let digits = digits(&mut buffer, of_plain, number);
-    let origin = origin(of_plain, number);
+    let (origin, digits) = origin(&mut buffer, of_plain, number);
     put_said(writer, path, origin, digits, words, part, more)
 }
 
@@ -217,10 +200,10 @@ fn put_failed<W: Write>(
 {
     let mut digits_room = Buffer::new();
     let mut number_room = Buffer::new();
-    let digits = digits(&mut digits_room, false, line);
+    let (at, digits) = origin(&mut digits_room, false, line);
     let number = number_room.format(instance);
     let name = process_name(network, instance.saturating_sub(1)).as_bytes();
-    let (at, words) = (origin(false, line), failure_words(kind));
+    let words = failure_words(kind);
     put_pieces(writer, path, at, digits, number, " ", name, words, "")
 }
 
