@@ -97,6 +97,18 @@ Waits at several places.
   2 three waits on C at 5:26 or 5:53 or 5:72, an input, to which nothing came: the input text has no values for it
   3 four waits on E at 9:40 or 3 places more, an input, to which nothing came: the input text has no values for it
   finished 4
+Inputs without a line, where another one has a line; also as data.
+  $ kahn_explain places.kahn --check --input <(printf 'D: true\nA:\nB: 1\n')
+  places.kahn:2:31: warning: an input, to which nothing came: the input text has no values for it
+   2 |   integer input channel A, B, C, E; logical input channel D;
+     |                               ^
+  places.kahn:2:34: warning: an input, to which nothing came: the input text has no values for it
+   2 |   integer input channel A, B, C, E; logical input channel D;
+     |                                  ^
+  $ kahn_explain places.kahn --json --input <(printf 'D: true\nA:\nB: 1\nC: 1\n')
+  {"path":"places.kahn","sort":"warning","line":2,"column":34,"end_line":2,"end_column":35,"from":39,"to":40,"words":"an input, to which nothing came: the input text has no values for it","fix":null,"below":[],"others":[]}
+Where none has one, nothing.
+  $ kahn_explain places.kahn --check --input <(echo)
 A fault.
   $ kahn_explain fault.kahn
   1 process has a fault

@@ -1,20 +1,18 @@
 -- What the parts of explaining say of the whole.
-use Rattle.kahn_explain.proofs.Common.{◌∙◌, ℕ, Bool, List, ◌++◌, Option, Result, Ok, Err, ap, append_assoc, inl, inr, refl, string_bytes, subst, sym, Appends-trans, Appends, Config, NoMemory, Program, Lists, IsRightRun, IsUnrun, IsInputTextFault, StandsFor, WorkFault, Syntax, Check, Text, Run, Write, are_allowed, HasRefused, HasWritten, IsAdmitted, Admitted, Came, Stopped, Refused, IsCountedRun, IsToldFor, AreNotes, AreNotesBefore, AreNotesOfUnrun, HasExplained, HasLooked, HasComeTo, IsLookedAt, IsToldOf, IsInputless}
+use Rattle.kahn_explain.proofs.Common.{◌∙◌, ℕ, Bool, List, [], ◌≡◌, ◌++◌, Option, Result, Ok, Err, ap, append_assoc, inl, inr, refl, string_bytes, subst, sym, Appends-trans, Appends, Config, NoMemory, Program, Lists, IsRightRun, IsUnrun, IsInputTextFault, StandsFor, WorkFault, Syntax, Check, Text, Run, Write, are_allowed, HasRefused, HasWritten, IsAdmitted, Admitted, Came, Stopped, Refused, IsCountedRun, IsToldFor, AreNotes, AreNotesBefore, AreNotesOfUnrun, HasExplained, HasLooked, HasComeTo, IsLookedAt, IsToldOf, IsInputless}
 use Rattle.kahn_streams.specs.{declared.fault.RunFault.RunFault, declared.answer.Verdict.TheVariants.Finished}
 use Rattle.kahn_texts.specs.declared.input.TextFault.{TextFault}
-use Rattle.kahn_why.specs.{declared.why.told.Finding.Finding, declared.why.told.Finding.TheVariants.Stop}
+use Rattle.kahn_why.specs.{Telling.IsEmptyInput, declared.why.told.Finding.Finding, declared.why.told.Finding.TheVariants.Stop}
 use Rattle.kahn_sequential.specs.declared.counted.Counted.{Counted}
 
 -- why the program text is refused
 refused : (path program input : List ℕ) (strict : Bool) (P : Finding → List ℕ → Type 0) (U : RunFault → List ℕ → Type 0) (N : List ℕ → Type 0) (old new : Option (List ℕ))
     (r : Result Came WorkFault) → HasRefused path program strict old new r → HasComeTo path program input strict P U N old new r
 refused path program input strict P U N old new (Ok (Stopped x)) h = absurd h
-refused path program input strict P U N old new (Ok Refused) h = h
-refused path program input strict P U N old new (Err (Syntax f)) h = h
-refused path program input strict P U N old new (Err (Check f)) h = h
 refused path program input strict P U N old new (Err (Text f)) h = absurd h
 refused path program input strict P U N old new (Err (Run f)) h = inl h
 refused path program input strict P U N old new (Err (Write f)) h = (h.0, inl (Refused, h.1), h.2)
+refused path program input strict P U N old new r h = h
 
 pub refused_run : (path program input : List ℕ) (config : Config) (strict : Bool) (old new : Option (List ℕ)) (r : Result Came WorkFault) → HasRefused path program strict old new r
     → HasExplained path program input config strict old new r
@@ -70,12 +68,12 @@ pub counted_right : (t : Program) (lists : Lists) (config : Config) (x : Counted
 counted_right t lists config x (allowed, (watch, watched, (right, counts))) = (allowed, (watch, watched, right))
 
 -- which was only looked at
-pub looked_out : (path program input : List ℕ) (strict : Bool) (it : Admitted) (lists : Lists) (old new : Option (List ℕ)) (r : Result Came WorkFault)
-    → IsAdmitted path program strict it → StandsFor it.network input lists → HasWritten (string_bytes it.notes) (Stopped (Stop Finished)) old new r
-    → HasLooked path program input strict old new r
-looked_out path program input strict it lists old new r on stands out =
-    told_out path program input strict (IsLookedAt path program input strict) (λ f text. ⊥) (λ text. ⊥) (Stop Finished) (string_bytes it.notes) old new r
-    (refl, notes_before path program input strict it lists on stands) out
+pub looked_out : (path program input : List ℕ) (strict : Bool) (it : Admitted) (lists : Lists) (more : List ℕ) (old new : Option (List ℕ)) (r : Result Came WorkFault)
+    → IsAdmitted path program strict it → StandsFor it.network input lists → (((c : ℕ) → IsEmptyInput it.network lists c → ⊥) → more ≡ [])
+    → HasWritten (string_bytes it.notes ++ more) (Stopped (Stop Finished)) old new r → HasLooked path program input strict old new r
+looked_out path program input strict it lists more old new r on stands few out =
+    told_out path program input strict (IsLookedAt path program input strict) (λ f text. ⊥) (λ text. ⊥) (Stop Finished) (string_bytes it.notes ++ more) old new r
+    (refl, (it.network, lists, string_bytes it.notes, more, before path program input strict it lists on stands, few, refl)) out
 
 -- and which was run
 pub explained_out : (path program input : List ℕ) (config : Config) (strict : Bool) (it : Admitted) (lists : Lists) (x : Counted) (told : Finding) (words : List ℕ)

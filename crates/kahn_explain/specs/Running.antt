@@ -7,7 +7,7 @@ use Rattle.kahn_texts.specs.{Formats.StandsFor, Formats.IsInputTextFault, declar
 use Rattle.kahn_fault.specs.{Status.status_of, Telling.WasWritten, Telling.told_text, Work.IsChecked, Work.IsUnchecked, declared.fault.Fault.TheVariants.Work, declared.texts.Texts.Texts, declared.work.WorkFault.WorkFault, declared.work.WorkFault.TheVariants.Syntax, declared.work.WorkFault.TheVariants.Check, declared.work.WorkFault.TheVariants.Text, declared.work.WorkFault.TheVariants.Run, declared.work.WorkFault.TheVariants.Write}
 use Rattle.kahn_marks.specs.Marks.{shown_text}
 use Rattle.kahn_sequential.specs.{Recordings.IsCountedRun, Recordings.IsRecordedRun, declared.counted.Counted.Counted, declared.recorded.Recorded.Recorded}
-use Rattle.kahn_why.specs.{Data.HasToldData, Refusing.AreAllowed, Refusing.IsRefusal, Refusing.IsRefusedFor, Telling.HasToldInput, declared.explaining.Came.Came, declared.explaining.Came.TheVariants.Stopped, declared.explaining.Came.TheVariants.Refused, declared.why.told.Finding.Finding}
+use Rattle.kahn_why.specs.{Data.HasToldData, Refusing.AreAllowed, Refusing.IsRefusal, Refusing.IsRefusedFor, Telling.HasToldInput, Telling.IsEmptyInput, declared.explaining.Came.Came, declared.explaining.Came.TheVariants.Stopped, declared.explaining.Came.TheVariants.Refused, declared.why.told.Finding.Finding}
 use Rattle.kahn_why.specs.declared.why.told.Finding.TheVariants as told
 use Rattle.kahn_explain.specs.{Needing.AreNeedsTold, Needing.IsUnaskedOf, declared.pipe.Pipe.Pipe, declared.replying.Sheet.Sheet, Untaken.IsToldFor, declared.running.Paths.Paths, declared.running.Wish.Wish}
 use Rattle.kahn_explain.specs.declared.replying.Sheet.TheVariants as sheet
@@ -30,13 +30,12 @@ TellsOf path program strict P Refused text = IsRefusedFor path program strict te
 abbrev pub HasComeTo : List ℕ → List ℕ → List ℕ → Bool → (Finding → List ℕ → Type 0) → (RunFault → List ℕ → Type 0) → (List ℕ → Type 0)
     → Option (List ℕ) → Option (List ℕ) → Result Came WorkFault → Type 0
 HasComeTo path program input strict P U N old new (Ok came) = (text : List ℕ) × TellsOf path program strict P came text × Appends old new text
-HasComeTo path program input strict P U N old new (Err (Syntax f)) = IsUnchecked program (Syntax f) × IsRefusal path program (Syntax f) None × (new ≡ old)
-HasComeTo path program input strict P U N old new (Err (Check f)) = IsUnchecked program (Check f) × IsRefusal path program (Check f) None × (new ≡ old)
 HasComeTo path program input strict P U N old new (Err (Text f)) = IsInputless path program input strict f × (new ≡ old)
 HasComeTo path program input strict P U N old new (Err (Run f)) =
     ((f ≡ NoMemory) × (new ≡ old)) ⊎ ((text : List ℕ) × U f text × Appends old new text)
 HasComeTo path program input strict P U N old new (Err (Write f)) =
     (text : List ℕ) × (((came : Came) × TellsOf path program strict P came text) ⊎ N text) × AppendsFront old new text
+HasComeTo path program input strict P U N old new (Err f) = IsUnchecked program f × IsRefusal path program f None × (new ≡ old)
 
 -- the notes on what is warned of in an allowed program whose input text stands for lists
 abbrev pub AreNotesBefore : List ℕ → List ℕ → List ℕ → Bool → Program → Lists → List ℕ → Type 0
@@ -66,9 +65,10 @@ HasExplained path program input config strict old new r =
     HasComeTo path program input strict (IsToldOf path program input config strict) (AreNotesOfUnrun path program input config strict)
     (AreNotes path program input strict) old new r
 
--- nothing was run
+-- nothing was run; behind the notes more is told only if an input has no values
 abbrev pub IsLookedAt : List ℕ → List ℕ → List ℕ → Bool → Finding → List ℕ → Type 0
-IsLookedAt path program input strict x notes = (x ≡ told.Stop Finished) × AreNotes path program input strict notes
+IsLookedAt path program input strict x text = (x ≡ told.Stop Finished) × ((t : Program) × (lists : Lists) × (notes more : List ℕ)
+    × AreNotesBefore path program input strict t lists notes × (((c : ℕ) → IsEmptyInput t lists c → ⊥) → more ≡ []) × (text ≡ notes ++ more))
 
 abbrev pub HasLooked : List ℕ → List ℕ → List ℕ → Bool → Option (List ℕ) → Option (List ℕ) → Result Came WorkFault → Type 0
 HasLooked path program input strict old new r =
@@ -78,11 +78,8 @@ HasLooked path program input strict old new r =
 
 -- what is told beside a table of a run that came to that: its explanation, where the status isn't 0
 abbrev pub beside : Finding → List ℕ → List ℕ
-beside told.Fault text = text
-beside told.Deadlock text = text
 beside (told.Stop Finished) text = []
-beside (told.Stop Bound) text = text
-beside (told.Stop Memory) text = text
+beside x text = text
 
 -- beside the table of a run of these texts that keeps all that is sent: why it stopped
 abbrev pub IsTableOf : List ℕ → List ℕ → Config → Finding → List ℕ → Type 0
@@ -114,15 +111,12 @@ abbrev pub HasReplied : Sheet → List ℕ → List ℕ → List ℕ → List �
     → Result Came WorkFault → Type 0
 HasReplied kind word path program input config strict out made old new (Ok came) =
     (text more : List ℕ) × Replies kind word path program input config strict came text more × Appends out made text × Appends old new more
-HasReplied kind word path program input config strict out made old new (Err (Syntax f)) =
-    IsUnchecked program (Syntax f) × IsRefusal path program (Syntax f) None × (made ≡ out) × (new ≡ old)
-HasReplied kind word path program input config strict out made old new (Err (Check f)) =
-    IsUnchecked program (Check f) × IsRefusal path program (Check f) None × (made ≡ out) × (new ≡ old)
 HasReplied kind word path program input config strict out made old new (Err (Text f)) = IsInputless path program input strict f × (made ≡ out) × (new ≡ old)
 HasReplied kind word path program input config strict out made old new (Err (Run f)) =
     ((f ≡ NoMemory) ⊎ ((notes : List ℕ) × AreNotesOfUnrun path program input config strict f notes)) × (made ≡ out) × (new ≡ old)
 HasReplied kind word path program input config strict out made old new (Err (Write f)) =
     (came : Came) × (text more : List ℕ) × Replies kind word path program input config strict came text more × BreaksOff text more out made old new
+HasReplied kind word path program input config strict out made old new (Err f) = IsUnchecked program f × IsRefusal path program f None × (made ≡ out) × (new ≡ old)
 
 -- the same of writers
 abbrev pub HasRepliedTo : {T W : Type 0} → Sheet → List ℕ → List ℕ → List ℕ → List ℕ → Config → Bool → (T → Option (List ℕ)) → T → T → (W → Option (List ℕ)) → W → W → Result Came WorkFault → Type 0

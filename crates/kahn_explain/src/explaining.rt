@@ -12,9 +12,7 @@ use kahn_fault::WorkFault;
 use kahn_sequential::{Count, run_counted};
 use kahn_streams::{Answer, Config, Network, NoMemory, RunFault, Verdict};
 use kahn_texts::{read_input, write_line};
-use kahn_why::{
-    Admitted, Came, Explanation, Finding, admit, explained, explained_each, write_both,
-};
+use kahn_why::{Admitted, Came, Explanation, Finding, admit, explained, unfed_lines, write_both};
 use std::alloc::Global;
 use std::io::Write;
 
@@ -34,10 +32,8 @@ fn explanation_of(
     let Ok(input) = read_input(alloc, input, network) else {
         return Err(NoMemory);
     };
-    if all {
-        return Ok(explained_each(alloc, path, program, network, Some(&input), answer)?);
-    }
-    Ok(explained(alloc, path, program, network, Some(&input), answer)?)
+    let fed = Some(&input);
+    Ok(explained(alloc, path, program, network, fed, answer, all)?)
 }
 
 /// What a run came to, and what is told of it: why it stopped, and which values nobody took.
@@ -116,25 +112,30 @@ pub fn explain<W: Write>(
     }
 }
 
-/// Writes what is warned of in an allowed program, if its input text stands for an input.
+/// Writes what is warned of in an allowed program, and the inputs without a line, if its input text stands for an input.
 fn look_on<W: Write>(
     alloc: Global,
+    path: &str,
+    program: &str,
     it: &Admitted,
     input: &str,
     writer: &mut W,
 ) -> Result<Came, WorkFault>
     ensures { HasLookedOn it.now input.now (W.contents writer.old) (W.contents writer.new) result }
 {
-    let _lists = match read_input(alloc, input, &it.network) {
+    let lists = match read_input(alloc, input, &it.network) {
         Ok(lists) => lists,
         Err(fault) => return Err(WorkFault::Text(fault)),
     };
+    let Ok(unfed) = unfed_lines(alloc, path, program, &it.network, input, &lists) else {
+        return Err(WorkFault::Run(RunFault::NoMemory));
+    };
     let came = Came::Stopped(Finding::Stop(Verdict::Finished));
-    write_both("", it.notes.as_str(), came, writer)
+    write_both(it.notes.as_str(), unfed.as_str(), came, writer)
 }
 
-/// Looks at the texts, and runs nothing: writes what is warned of in the program, or why its text is refused, as `explain` does. Faults
-/// are found in the same order.
+/// Looks at the texts, and runs nothing: writes what is warned of in the program, or why its text is refused, as `explain` does, and for
+/// which inputs the input text has no line, if it has one for another. Faults are found in the same order.
 pub fn look<W: Write>(
     alloc: Global,
     path: &str,
@@ -146,7 +147,7 @@ pub fn look<W: Write>(
     ensures { HasLooked path.now program.now input.now strict (W.contents writer.old) (W.contents writer.new) result }
 {
     match admit(alloc, path, program, strict, writer) {
-        Ok(it) => look_on(alloc, &it, input, writer),
+        Ok(it) => look_on(alloc, path, program, &it, input, writer),
         Err(came) => came,
     }
 }

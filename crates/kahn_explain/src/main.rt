@@ -60,17 +60,6 @@ fn wish_of(options: &ExplainOptions) -> Wish {
     }
 }
 
-/// The word of what values need, or of what needs one, where one is given.
-fn word_of<'a>(needs: &'a Option<String>, wakes: &'a Option<String>) -> &'a str {
-    match needs {
-        Some(word) => word.as_str(),
-        None => match wakes {
-            Some(word) => word.as_str(),
-            None => "",
-        },
-    }
-}
-
 /// Does what the command line asks for, and gives the status. Faults are told to the writer.
 fn answered<R: Runtime + AllocGlobal, W: Write>(
     rt: &R,
@@ -84,7 +73,11 @@ fn answered<R: Runtime + AllocGlobal, W: Write>(
         Ok(texts) => texts,
         Err(fault) => return tell_unread(rt, "kahn_explain", fault, writer),
     };
-    let word = word_of(&options.needs, &options.wakes);
+    let word = match (&options.needs, &options.wakes) {
+        (Some(word), _) => word.as_str(),
+        (None, Some(word)) => word.as_str(),
+        (None, None) => "",
+    };
     let mut out = Pipe {
         writer: io::writer(rt),
         gone: false,

@@ -10,10 +10,10 @@ use crate::needing::{AskFault, fault_text, replied, sought};
 use crate::tracing::{columns_of, counts_text, recorded, trace_text};
 use kahn_fault::WorkFault;
 use kahn_sequential::Recorded;
-use kahn_streams::{Config, Network, NoMemory, RunFault, Verdict};
+use kahn_streams::{Config, Network, RunFault, Verdict};
 use kahn_texts::write_line;
 use kahn_why::{Admitted, Came, Finding, admit, write_both};
-use std::alloc::Global;
+use std::alloc::{AllocError, Global};
 use std::io::Write;
 
 /// Which sheet is asked for.
@@ -39,14 +39,14 @@ fn run_table(
     network: &Network,
     counts: bool,
     run: &Recorded,
-) -> Result<String, NoMemory>
+) -> Result<String, AllocError>
     requires { IsRecord network.now run.now }
 {
     if counts {
-        return Ok(counts_text(alloc, network, run)?);
+        return counts_text(alloc, network, run);
     }
     let columns = columns_of(alloc, network, run)?;
-    Ok(trace_text(alloc, network, &columns)?)
+    trace_text(alloc, network, &columns)
 }
 
 /// What is told beside a table: the explanation, where the status isn't 0.

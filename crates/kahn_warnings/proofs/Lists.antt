@@ -30,15 +30,12 @@ row_varies these (more_of-Operand o at e rest) = ap (λ b. varies_by these e || 
 -- an expression that varies by no name waits
 mutual
   pub form_waits : (names : Scope) (f : Form) → varies_by (λ x. false) f ≡ waits_in (expr_of names f)
-  form_waits names (form.Number z) = refl
-  form_waits names (form.Logical b) = refl
-  form_waits names (form.Variable x) = refl
-  form_waits names (form.Wait q) = refl
   form_waits names (Negate' p at e) = form_waits names e
   form_waits names (Not' p at e) = form_waits names e
   form_waits names (Bracket' p at e) = form_waits names e
   form_waits names (Level' p at e shape row) = level_waits names _ _ row (form_waits names e)
   form_waits names (Conditional' p at t q at' a r at'' b) = λ i. form_waits names t i || form_waits names a i || form_waits names b i
+  form_waits names f = refl
 
   level_waits : {m : _} (names : Scope) (before : Bool) (first : Expr) (row : Row_of-Operand m) → before ≡ waits_in first
       → before || any_varies_by (λ x. false) row ≡ waits_in (level_of names first row)
@@ -93,9 +90,8 @@ one_on ends n place next s l rest more is e = ap (λ p. left_unreached (ends || 
     by false (Some q) = refl
 
 pub none_left : (ends : Bool) (place : Option Span) → left_unreached ends place [] ≡ place
-none_left true None = refl
 none_left false None = refl
-none_left ends (Some p) = refl
+none_left ends place = refl
 
 abbrev pub each : Statement → List Warning
 each s = statement_warnings s.span s.action

@@ -11,15 +11,12 @@ site_at k at = record { kind = k; span = at }
 -- in an expression: of an operator its right operand is told, of a sign its only one
 abbrev mutual
   pub form_sites : Form → List ConstantSite
-  form_sites (Number z) = []
-  form_sites (Logical b) = []
-  form_sites (Variable x) = []
-  form_sites (Wait q) = []
   form_sites (Negate' p at e) = form_sites e ++ site_at (Sign (constant_of (expr_of [] e))) at ∷ []
   form_sites (Not' p at e) = form_sites e
   form_sites (Bracket' p at e) = form_sites e
   form_sites (Level' p at e shape rest) = form_sites e ++ level_sites (constant_of (expr_of [] e)) rest
   form_sites (Conditional' p at t q at' a r at'' b) = form_sites t ++ (site_at (Test (constant_of (expr_of [] t))) at ∷ (form_sites a ++ form_sites b))
+  form_sites f = []
 
   -- behind operands with this value
   pub level_sites : {m : _} → Option Value → Row_of-Operand m → List ConstantSite

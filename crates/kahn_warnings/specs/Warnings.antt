@@ -78,15 +78,12 @@ bare_kind a = if is_empty a then Some BareThen else None
 -- in a statement that stands here
 abbrev mutual
   pub statement_warnings : Option Span → Action → List Warning
-  statement_warnings at Empty = []
-  statement_warnings at (Assign x e) = []
-  statement_warnings at (Send e q) = []
-  statement_warnings at (Print e) = []
   statement_warnings at (Block' shape row) = row_warnings row ++ list_warnings (block_items row)
   statement_warnings at (If' t p span a b) = statement_warnings span a ++ else_warnings at a b
   statement_warnings at (While' t p span a) =
       statement_warnings span a ++ warned (loop_kind (is_true (constant_of (expression_of [] t))) (is_seen (stmt_of [] a))) at
   statement_warnings at (Repeat' p span a) = statement_warnings span a ++ warned (loop_kind true (is_seen (stmt_of [] a))) at
+  statement_warnings at a = []
 
   pub row_warnings : {m : _} → Row_of-Statement m → List Warning
   row_warnings end_of-Statement = []

@@ -1,12 +1,16 @@
 -- Believed. What telling why an input text is refused does.
-use Rattle.std.specs.Prelude.{◌≡◌, ℕ, List, Option, Some, None, Result, Ok, Err, string_bytes}
+use Rattle.std.specs.Prelude.{◌≡◌, ℕ, List, length, Option, Some, None, Result, Ok, Err, string_bytes}
 use Rattle.std.specs.{declared.alloc.Global.Global, declared.string.String.String, Io.KnownBytes.Appends}
-use Rattle.kahn_streams.specs.{declared.tree.Program.Program, declared.fault.RunFault.TheVariants.NoMemory, Written.AppendsFront}
+use Rattle.kahn_streams.specs.{Inputs.Lists, Inputs.inputs_of, Network.network_of, Network.role_at, declared.tree.Role.TheVariants.Input, declared.tree.Program.Program, declared.fault.RunFault.TheVariants.NoMemory, Written.AppendsFront}
 use Rattle.kahn_fault.specs.{Work.IsChecked, Work.IsUnchecked, declared.work.WorkFault.WorkFault, declared.work.WorkFault.TheVariants.Syntax, declared.work.WorkFault.TheVariants.Check, declared.work.WorkFault.TheVariants.Text, declared.work.WorkFault.TheVariants.Run, declared.work.WorkFault.TheVariants.Write}
 use Rattle.kahn_texts.specs.declared.input.TextFault.{TextFault}
 use Rattle.kahn_inputs.specs.Feeding.{IsInputNote}
 use Rattle.kahn_marks.specs.declared.rendering.Note.{Note}
 use Rattle.kahn_why.specs.{Refusing.IsRenderedAs, declared.explaining.Came.Came, declared.explaining.Came.TheVariants.Stopped, declared.explaining.Came.TheVariants.Refused}
+
+-- channel c is an input without values
+abbrev pub IsEmptyInput : Program → Lists → ℕ → Type 0
+IsEmptyInput t lists c = (role_at (network_of t) c ≡ Input) × (length (inputs_of lists c) ≡ 0)
 
 -- a note on a fault of an input text in lines, where there is one
 abbrev pub AreInputLines : Program → List ℕ → List ℕ → TextFault → Option (String Global) → Type 0
@@ -20,9 +24,8 @@ IsNoteFor path program text fault lines = (t : Program) × IsChecked program t �
 abbrev pub HasToldInput : List ℕ → List ℕ → List ℕ → TextFault → Option (List ℕ) → Option (List ℕ) → Result Came WorkFault → Type 0
 HasToldInput path program text fault old new (Ok (Stopped x)) = ⊥
 HasToldInput path program text fault old new (Ok Refused) = (note : String Global) × IsNoteFor path program text fault (Some note) × Appends old new (string_bytes note)
-HasToldInput path program text fault old new (Err (Syntax f)) = IsUnchecked program (Syntax f) × (new ≡ old)
-HasToldInput path program text fault old new (Err (Check f)) = IsUnchecked program (Check f) × (new ≡ old)
 HasToldInput path program text fault old new (Err (Text f)) = (f ≡ fault) × IsNoteFor path program text fault None × (new ≡ old)
 HasToldInput path program text fault old new (Err (Run f)) = (f ≡ NoMemory) × (new ≡ old)
 HasToldInput path program text fault old new (Err (Write f)) =
     (note : String Global) × IsNoteFor path program text fault (Some note) × AppendsFront old new (string_bytes note)
+HasToldInput path program text fault old new (Err f) = IsUnchecked program f × (new ≡ old)

@@ -6,6 +6,7 @@ ghost use Rattle.kahn_why.specs.Data.{HasToldData};
 use crate::explaining::{Came, write_both};
 use crate::json::add_json;
 use crate::refusing::syntax_note;
+use crate::unfed::add_unfed;
 use kahn_check::every;
 use kahn_fault::{WorkFault, checked};
 use kahn_hints::fault_notes;
@@ -40,15 +41,7 @@ fn refusal_notes(alloc: Global, program: &str, fault: WorkFault) -> Result<Vec<N
     Ok(notes)
 }
 
-/// The note on why an input text is refused, where it is and that has a place.
-fn refused_input(alloc: Global, network: &Network, input: &str) -> Result<Option<Note>, NoMemory> {
-    match read_input(alloc, input, network) {
-        Ok(_lists) => Ok(None),
-        Err(fault) => input_note(alloc, network, input, fault),
-    }
-}
-
-/// The notes on the texts: on why the program text is refused, or what is warned of; or why the input text is, and that they are on it.
+/// The notes on the texts: on why the program text is refused, or what is warned of in both; or why the input text is, and that they are on it.
 fn notes_on(
     alloc: Global,
     program: &str,
@@ -59,17 +52,23 @@ fn notes_on(
         Ok(network) => network,
         Err(fault) => return Ok((refusal_notes(alloc, program, fault)?, false)),
     };
-    let warnings = warning_notes(alloc, program, network.program())?;
+    let mut warnings = warning_notes(alloc, program, network.program())?;
     if strict && !warnings.is_empty() {
         return Ok((warnings, false));
     }
-    match refused_input(alloc, &network, input)? {
-        Some(note) => {
-            let mut notes = Vec::new(alloc);
-            notes.push(note)?;
-            Ok((notes, true))
+    match read_input(alloc, input, &network) {
+        Ok(lists) => {
+            add_unfed(&mut warnings, alloc, &network, input, &lists)?;
+            Ok((warnings, false))
         }
-        None => Ok((warnings, false)),
+        Err(fault) => match input_note(alloc, &network, input, fault)? {
+            Some(note) => {
+                let mut notes = Vec::new(alloc);
+                notes.push(note)?;
+                Ok((notes, true))
+            }
+            None => Ok((warnings, false)),
+        },
     }
 }
 

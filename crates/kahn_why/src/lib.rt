@@ -8,6 +8,7 @@ mod laws;
 mod noting;
 mod refusing;
 mod telling;
+mod unfed;
 mod why;
 
 pub use explaining::Came;
@@ -17,4 +18,5 @@ pub use telling::refuse_input;
 // For the crates above.
 pub use data::write_data;
 pub use explaining::{Admitted, admit, write_both};
+pub use unfed::unfed_lines;
 pub use why::{Explanation, Finding, causes, explained, explained_each};

@@ -1,7 +1,7 @@
 //! The notes on what is wrong with the network that a program text spells, and on what is warned of in it, in lines.
 
-ghost use Rattle.std.specs.Prelude.{IfOk, string_bytes};
-ghost use Rattle.kahn_why.specs.Noting.{AreFaultLines, AreWarningLines, HasShown};
+ghost use Rattle.std.specs.Prelude.{All, IfOk, string_bytes};
+ghost use Rattle.kahn_why.specs.Noting.{AreFaultLines, AreWarningLines, HasShown, StandsIn};
 
 use kahn_hints::fault_notes;
 use kahn_marks::{MOST_NOTES, Note, add_more, first_ones, render};
@@ -47,6 +47,27 @@ fn add_note(
     Ok(())
 }
 
+/// The lines of notes on a text that has these comments and these faults, with such a gap between.
+pub(crate) fn note_lines(
+    alloc: Global,
+    path: &str,
+    text: &str,
+    notes: &[Note],
+    gap: &str,
+    comments: &[Span],
+    faults: &[CheckFault],
+) -> Result<String, AllocError>
+    ensures { IfOk result (λ lines. All (StandsIn path.now text.now (string_bytes lines)) notes.now) }
+{
+    let mut lines = String::new(alloc);
+    for note in notes {
+        let held = held_words(alloc, text, comments, faults, note)?;
+        let before = if lines.is_empty() { "" } else { gap };
+        add_note(&mut lines, alloc, path, text, note, before, held.as_str())?;
+    }
+    Ok(lines)
+}
+
 /// The notes on the faults of a program whose text has these comments, with a blank line between, and how many more faults there are. It
 /// refuses only where memory was refused.
 pub(crate) fn faults_note(
@@ -60,12 +81,7 @@ pub(crate) fn faults_note(
     ensures { IfOk result (λ lines. AreFaultLines path.now text.now faults.now (string_bytes lines)) }
 {
     let told = fault_notes(alloc, text, tree, faults)?;
-    let mut lines = String::new(alloc);
-    for note in &told.notes {
-        let held = held_words(alloc, text, comments, faults, note)?;
-        let before = if lines.is_empty() { "" } else { "\n" };
-        add_note(&mut lines, alloc, path, text, note, before, held.as_str())?;
-    }
+    let mut lines = note_lines(alloc, path, text, &told.notes, "\n", comments, faults)?;
     add_more(&mut lines, "\n", "fault", told.more)?;
     Ok(lines)
 }
@@ -85,10 +101,7 @@ pub(crate) fn warned_lines(
         return Ok(String::new(alloc));
     }
     let (told, more) = first_ones(&notes, MOST_NOTES);
-    let mut lines = String::new(alloc);
-    for note in told {
-        add_note(&mut lines, alloc, path, text, note, "", "")?;
-    }
+    let mut lines = note_lines(alloc, path, text, told, "", &[], &[])?;
     add_more(&mut lines, "", "warning", more.len())?;
     Ok(lines)
 }

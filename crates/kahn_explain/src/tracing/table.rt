@@ -3,11 +3,10 @@
 ghost use Rattle.std.specs.Prelude.{◌<◌, length};
 ghost use Rattle.kahn_streams.specs.Network.{network_of};
 
-use crate::tracing::histories::Column;
 use itoa::Buffer;
 use kahn_marks::add;
 use kahn_sequential::Recorded;
-use kahn_streams::{Line, Network, Side, Value};
+use kahn_streams::{Line, Network, Side, Stream, Value};
 use kahn_texts::{channel_name, process_name};
 use std::alloc::{AllocError, Global};
 
@@ -43,13 +42,13 @@ pub(crate) fn add_value(text: &mut String, value: Value) -> Result<(), AllocErro
 }
 
 /// Adds the row of a place, which is counted from 1: the value of each column there, or nothing past its last.
-fn add_row(text: &mut String, columns: &[Column], place: usize) -> Result<(), AllocError> {
+fn add_row(text: &mut String, columns: &[&Stream], place: usize) -> Result<(), AllocError> {
     let mut buffer = Buffer::new();
     text.push_str(buffer.format(place as u128 + 1))?;
     for column in columns {
         text.push_str(",")?;
-        if let Some(value) = column.values.get(place) {
-            add_value(text, *value)?;
+        if let Some(token) = column.tokens.get(place) {
+            add_value(text, token.value())?;
         }
     }
     text.push_str("\n")
@@ -69,14 +68,14 @@ fn head_of(line: Line) -> &'static str {
 pub fn trace_text(
     alloc: Global,
     network: &Network,
-    columns: &[Column],
+    columns: &[&Stream],
 ) -> Result<String, AllocError> {
     let mut text = String::from_str(alloc, "place")?;
     let mut places = 0;
     for column in columns {
         text.push_str(head_of(column.line))?;
         add_line(&mut text, network, column.line)?;
-        places = places.max(column.values.len());
+        places = places.max(column.tokens.len());
     }
     text.push_str("\n")?;
     for place in 0..places {

@@ -10,6 +10,9 @@ use std::alloc::{AllocError, Global};
 // Of so many instances all are named.
 const MOST_NAMED: usize = 4;
 
+/// What adding to a text comes to.
+pub(crate) type Wrote = Result<(), AllocError>;
+
 /// What a run is told by.
 #[derive(Clone, Copy)]
 pub(crate) struct Story<'a> {
@@ -37,7 +40,7 @@ pub(crate) fn source_of(cause: Cause) -> usize {
 
 /// Those whose waits lead to an instance: the ones on its ring, or the others.
 pub(crate) fn led_to(
-    story: &Story<'_>,
+    story: &Story,
     instance: usize,
     is_on_ring: bool,
 ) -> Result<Vec<Reason>, AllocError> {
@@ -52,12 +55,7 @@ pub(crate) fn led_to(
 }
 
 /// Adds a number, and a word for one or for several.
-pub(crate) fn add_count(
-    text: &mut String,
-    count: usize,
-    one: &str,
-    several: &str,
-) -> Result<(), AllocError> {
+pub(crate) fn add_count(text: &mut String, count: usize, one: &str, several: &str) -> Wrote {
     let mut buffer = Buffer::new();
     text.push_str(buffer.format(count))?;
     text.push_str(if count == 1 { one } else { several })
@@ -69,7 +67,7 @@ pub(crate) fn add_who(
     network: &Network,
     instance: usize,
     does: &[&str],
-) -> Result<(), AllocError> {
+) -> Wrote {
     add_count(text, instance.saturating_add(1), " ", " ")?;
     text.push_str(process_name(network, instance))?;
     add(text, does)
@@ -82,15 +80,17 @@ pub(crate) fn add_those(
     those: &[Reason],
     one: &str,
     several: &str,
-) -> Result<(), AllocError> {
+) -> Wrote {
     if those.len() > MOST_NAMED {
         add_count(text, those.len(), "", " processes")?;
         return text.push_str(several);
     }
     for (place, reason) in those.iter().enumerate() {
-        let is_last = those.len().saturating_sub(place) == 1;
-        let lead = if is_last { " and " } else { ", " };
-        text.push_str(if place == 0 { "" } else { lead })?;
+        text.push_str(match place {
+            0 => "",
+            _ if those.len().saturating_sub(place) == 1 => " and ",
+            _ => ", ",
+        })?;
         add_who(text, network, reason.instance, &[])?;
     }
     text.push_str(if those.len() == 1 { one } else { several })
@@ -112,7 +112,7 @@ pub(crate) fn is_fed(network: &Network, input: &Input) -> bool {
 }
 
 /// Adds that one waits on an input, and how many values came, all of which are taken, where that is known.
-fn add_input(text: &mut String, story: &Story<'_>, channel: usize) -> Result<(), AllocError> {
+fn add_input(text: &mut String, story: &Story, channel: usize) -> Wrote {
     text.push_str(", an input")?;
     let Some(input) = story.fed else {
         return Ok(());
@@ -140,14 +140,18 @@ fn writer_of(network: &Network, channel: usize) -> Option<usize> {
 }
 
 /// Adds places, where there are any: the first, and two more or how many more there are.
-fn add_spots(text: &mut String, source: &str, places: &[Span]) -> Result<(), AllocError> {
+fn add_spots(text: &mut String, source: &str, places: &[Span]) -> Wrote {
     for (number, place) in places.iter().enumerate() {
         if number == 1 && places.len() > 3 {
             text.push_str(" or ")?;
             return add_count(text, places.len().saturating_sub(1), "", " places more");
         }
-        let lead = if number == 0 { " at " } else { " or " };
-        add_spot(text, lead, source, place.from)?;
+        add_spot(
+            text,
+            if number == 0 { " at " } else { " or " },
+            source,
+            place.from,
+        )?;
     }
     Ok(())
 }
@@ -155,11 +159,11 @@ fn add_spots(text: &mut String, source: &str, places: &[Span]) -> Result<(), All
 /// Adds an instance that waits, on what it does, at these places, and who writes that.
 pub(crate) fn add_wait(
     text: &mut String,
-    story: &Story<'_>,
+    story: &Story,
     instance: usize,
     channel: usize,
     places: &[Span],
-) -> Result<(), AllocError> {
+) -> Wrote {
     let name = channel_name(story.network, channel);
     add_who(text, story.network, instance, &[" waits on ", name])?;
     add_spots(text, story.program, places)?;
@@ -173,28 +177,24 @@ pub(crate) fn add_wait(
 }
 
 /// Adds where the waits of an instance lead, where that isn't to itself.
-pub(crate) fn add_led(
-    text: &mut String,
-    network: &Network,
-    reason: &Reason,
-) -> Result<(), AllocError> {
+pub(crate) fn add_led(text: &mut String, network: &Network, reason: &Reason) -> Wrote {
     let source = source_of(reason.cause);
-    if source == reason.instance {
-        return Ok(());
-    }
-    text.push_str(", as ")?;
-    let words = match reason.cause {
-        Cause::Input(_, channel) => {
-            let name = channel_name(network, channel);
-            return add_who(text, network, source, &[" waits on ", name, ", an input"]);
-        }
-        Cause::Stopped(_, Standing::Ended) => " has ended",
-        Cause::Stopped(_, Standing::Faulted) => " has a fault",
-        Cause::Stopped(_, Standing::More) => " wants more events",
-        Cause::Stopped(_, Standing::Waits(_)) => "",
-        Cause::Ring(_) => " is in a deadlock",
+    let (does, name, behind) = match reason.cause {
+        _ if source == reason.instance => return Ok(()),
+        Cause::Input(_, channel) => (" waits on ", channel_name(network, channel), ", an input"),
+        Cause::Stopped(_, Standing::Ended) => (" has ended", "", ""),
+        Cause::Stopped(_, Standing::Faulted) => (" has a fault", "", ""),
+        Cause::Stopped(_, Standing::More) => (" wants more events", "", ""),
+        Cause::Stopped(_, Standing::Waits(_)) => ("", "", ""),
+        Cause::Ring(_) => (" is in a deadlock", "", ""),
     };
-    add_who(text, network, source, &[words, for_ever(reason)])
+    text.push_str(", as ")?;
+    add_who(
+        text,
+        network,
+        source,
+        &[does, name, behind, for_ever(reason)],
+    )
 }
 
 /// What mends a ring, said of the instance in it with the least number, which waits on the channel.

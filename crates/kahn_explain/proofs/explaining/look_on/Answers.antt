@@ -7,4 +7,5 @@ returns-in-Err g c path program strict on = (unfed path program c.args.input.now
 
 pub returns : goal.returns
 returns g c path program strict on =
-    looked_out path program c.args.input.now strict c.args.it.now c.in-Ok.lists _ _ _ on c.in-Ok.ensures.read (rw c.as_str.ensures.value at c.write_both.ensures)
+    looked_out path program c.args.input.now strict c.args.it.now c.in-Ok.lists _ _ _ _ on c.in-Ok.ensures.read c.in-Ok-unfed_lines.ensures
+    (rw (c.as_str.ensures.value, c.as_str-2.ensures.value) at c.write_both.ensures)

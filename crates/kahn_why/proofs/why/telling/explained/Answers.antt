@@ -1,5 +1,5 @@
 use Rattle.kahn_why.proofs.Common.{◌∙◌, ap, map, string_bytes, subst, sym, network_of, AreStandings, stands, AreReasons, came_to}
-use Rattle.kahn_why.proofs.why.telling.told.Goals as goal
+use Rattle.kahn_why.proofs.why.telling.explained.Goals as goal
 
 pub reasons-requires : goal.reasons-requires
 reasons-requires c = subst (λ l. AreStandings (network_of c.args.network.now) (map stands l)) (sym c.deref.ensures.value) c.requires
