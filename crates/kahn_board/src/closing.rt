@@ -1,7 +1,7 @@
 //! Splits and joins the seats of a crew.
 
 ghost use Rattle.std.specs.Prelude.{◌≡◌, ◌<◌, ◌≤◌, length, All, IfOk, IfErr};
-ghost use Rattle.kahn_board.specs.{Rule.all_parts, inner.Turn.AddUp, inner.Turn.IsDoneAt, inner.Turn.IsLoneSeat, inner.Turn.SitsAt, inner.Turn.parts_of, inner.Turn.done_of, inner.Turn.raised_of};
+ghost use Rattle.kahn_board.specs.{Rule.all_parts, inner.Turn.AddUp, inner.Turn.IsDoneAt, inner.Turn.IsLoneSeat, inner.Turn.SitsAt, inner.Turn.parts_of, inner.Turn.done_of, inner.Turn.raised_of, Calls.after_splitting, Calls.split_off, Calls.after_joining, Rule.spent};
 
 use crate::board::Board;
 use crate::rule::Reports;
@@ -15,8 +15,6 @@ use std::alloc::Global;
 pub struct SplitsSeat;
 
 impl Split<SeatView> for SplitsSeat {
-    ghost use Rattle.kahn_board.specs.Calls.{after_splitting, split_off};
-
     ghost left = { after_splitting };
 
     ghost right = { split_off };
@@ -26,9 +24,6 @@ impl Split<SeatView> for SplitsSeat {
 pub struct Both;
 
 impl Join<SeatView> for Both {
-    ghost use Rattle.kahn_board.specs.Calls.{after_joining};
-    ghost use Rattle.kahn_board.specs.Rule.{spent};
-
     ghost both = { after_joining };
 
     ghost spent = { spent };

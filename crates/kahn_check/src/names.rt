@@ -4,6 +4,8 @@ ghost use Rattle.std.specs.Prelude.{◌≡◌, ◌++◌, ◌∷◌, [], List, �
 ghost use Rattle.std.specs.Map.{lookup};
 ghost use Rattle.std.proofs.Common.{bytes_eq};
 ghost use Rattle.kahn_streams.specs.{View.bytes_of, Faults.Declares};
+ghost use Rattle.std.specs.BTreeMap.{get_by_text};
+ghost use Rattle.kahn_check.specs.inner.Names.{AreFound};
 
 use kahn_streams::{About, CheckFault, Name, NoMemory, Side, Taking};
 use std::alloc::Global;
@@ -30,18 +32,12 @@ pub struct NameList<V> {
 }
 
 impl<V> Model for NameList<V> {
-    ghost use Rattle.std.specs.Prelude.{List, ℕ, []};
-
     ghost Value = { List (List ℕ × V) };
 
     ghost view = { λ _. [] };
 }
 
 impl<V> Model for NameTable<V> {
-    ghost use Rattle.std.specs.Prelude.{List, ℕ};
-    ghost use Rattle.std.specs.BTreeMap.{get_by_text};
-    ghost use Rattle.kahn_check.specs.inner.Names.{AreFound};
-
     ghost Value = { List (List ℕ × V) };
 
     ghost view = { λ s. s.listed.value };

@@ -1,7 +1,9 @@
 //! A job on which nobody works, while its input may grow.
 
-ghost use Rattle.std.specs.Prelude.{◌≡◌, ◌<◌, length, map, slice_index_or, slice_set, [], IfOk};
-ghost use Rattle.kahn_job.specs.{inner.Berths.end_at, inner.Words.nothing_gone, inner.Works.IsSamePlace, inner.Works.width_of};
+ghost use Rattle.std.specs.Prelude.{◌≡◌, ◌<◌, length, map, slice_set, IfOk};
+ghost use Rattle.kahn_job.specs.{inner.Berths.end_at, inner.Words.nothing_gone, inner.Works.IsSamePlace, inner.Works.width_of, inner.Words.codes, inner.Works.Work};
+ghost use Rattle.kahn_streams.specs.contracts.tree.Action as action;
+ghost use Rattle.kahn_streams.specs.contracts.tree.Form as form;
 
 use crate::port::TaskPort;
 use kahn_code::{Cell, Kept, Tap};
@@ -21,13 +23,6 @@ pub struct Idle {
 }
 
 impl Model for Idle {
-    ghost use Rattle.kahn_streams.specs.contracts.tree.Action as action;
-    ghost use Rattle.kahn_streams.specs.contracts.tree.Form as form;
-    ghost use Rattle.std.specs.Prelude.{◌≡◌};
-    ghost use Rattle.kahn_job.specs.inner.Words.{codes, length};
-    ghost use Rattle.kahn_job.specs.inner.Words.{nothing_gone};
-    ghost use Rattle.kahn_job.specs.inner.Works.{Work, width_of};
-
     ghost Value = { Work };
 
     ghost coded = { Prim.hlevel (codes, action.the_row.coded, form.the_row.coded) };
@@ -85,22 +80,6 @@ impl Idle {
         ensures { (result.told ≡ self.cell) × (result.gone ≡ nothing_gone) }
     {
         Tap::of(self.cell)
-    }
-
-    /// Returns what its cell kept of what it sent on a parameter.
-    pub fn kept(&self, parameter: usize) -> &[Carried]
-        requires { parameter < width_of self.now }
-        ensures { result.now ≡ slice_index_or self.now.cell.kept parameter [] }
-    {
-        let _parameters = self.cell.parameters();
-        self.cell.kept(parameter)
-    }
-
-    /// Returns what its cell printed.
-    pub fn printed(&self) -> &[Carried]
-        ensures { result.now ≡ self.now.cell.printed }
-    {
-        self.cell.printed()
     }
 
     /// Copies what its cell kept. Fails only if memory was refused.

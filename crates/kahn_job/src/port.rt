@@ -2,7 +2,10 @@
 
 ghost use Rattle.std.specs.Prelude.{◌≡◌, ◌⊎◌, ◌<◌, ◌+◌, ◌^◌};
 ghost use Rattle.kahn_job.specs.inner.Words.{ℕ, true, length, Some, IfSome, IfNone, IsOk, IsSome, IsTrue, IsFalse, OnOk, OnErr, MatchResult, network_of, role_at, flushed, left, moved_to, token_name, LaneName, Input as InputRole};
-ghost use Rattle.kahn_job.specs.{inner.Ends.Advances, inner.Ends.HasRoom, inner.Ends.IsBehind, inner.Ends.IsDry, inner.Ends.IsFlushed, inner.Ends.IsReady, inner.Ends.MayMeet, inner.Ends.ShareLane, inner.Berths.HasStayed, inner.Berths.IsWithinInput, inner.Berths.IsFor, inner.Settling.BothSettle, inner.Settling.CanFeed, inner.Settling.CanSettle, inner.Settling.HasSettled, inner.Ways.taking, inner.Ways.feeding, inner.Ways.putting, inner.Ways.no_end};
+ghost use Rattle.kahn_job.specs.{inner.Ends.Advances, inner.Ends.HasRoom, inner.Ends.IsBehind, inner.Ends.IsDry, inner.Ends.IsFlushed, inner.Ends.IsReady, inner.Ends.MayMeet, inner.Ends.ShareLane, inner.Berths.HasStayed, inner.Berths.IsWithinInput, inner.Berths.IsFor, inner.Settling.BothSettle, inner.Settling.CanFeed, inner.Settling.CanSettle, inner.Settling.HasSettled, inner.Ways.taking, inner.Ways.feeding, inner.Ways.putting, inner.Ways.no_end, inner.Ends.TaskEnd, inner.Ways.end_of};
+ghost use Rattle.kahn_streams.specs.contracts.tree.Action as action;
+ghost use Rattle.kahn_streams.specs.contracts.tree.Form as form;
+ghost use Rattle.std.specs.Coded.{codes};
 
 use crate::feed::Feed;
 use kahn_lane::{Receiver, Sender, meet, settle};
@@ -25,16 +28,9 @@ pub(crate) enum Way {
 pub(crate) struct TaskPort(Way);
 
 impl Model for TaskPort {
-    ghost use Rattle.kahn_streams.specs.contracts.tree.Action as action;
-    ghost use Rattle.kahn_streams.specs.contracts.tree.Form as form;
-    ghost use Rattle.std.specs.Coded.{codes};
-    ghost use Rattle.kahn_job.specs.inner.Ends.{TaskEnd};
-
     ghost Value = { TaskEnd };
 
     ghost coded = { Prim.hlevel (codes, action.the_row.coded, form.the_row.coded) };
-
-    ghost use Rattle.kahn_job.specs.inner.Ways.{end_of};
 
     ghost view = { λ p. end_of p.0 };
 }

@@ -1,6 +1,6 @@
 //! The ends of the channels of an instance.
 
-ghost use Rattle.kahn_job.specs.{inner.Words.ℕ, inner.Words.OnOk, inner.Words.props, inner.Berths.AreServed, inner.Berths.HaveFlushed, inner.Berths.Serves-prop, inner.Berths.end_at, inner.Ends.IsFlushed};
+ghost use Rattle.kahn_job.specs.{inner.Words.ℕ, inner.Words.List, inner.Words.OnOk, inner.Words.props, inner.Berths.AreServed, inner.Berths.HaveFlushed, inner.Berths.Serves-prop, inner.Berths.end_at, inner.Ends.IsFlushed, inner.Berths.identities, inner.Ends.Identity, inner.Ends.IsReady, inner.Ends.IsDry, inner.Ends.HasRoom};
 
 use crate::port::TaskPort;
 use kahn_code::Ports;
@@ -18,10 +18,6 @@ pub(crate) struct Ends<'a> {
 }
 
 impl<'a> Ports for Ends<'a> {
-    ghost use Rattle.std.specs.Prelude.{ℕ, List};
-    ghost use Rattle.kahn_job.specs.inner.Berths.{end_at, identities};
-    ghost use Rattle.kahn_job.specs.inner.Ends.{Identity, IsReady, IsDry, HasRoom};
-
     ghost site = { λ s. record { network = s.network.now; input = s.input.now; instance = s.instance } };
 
     ghost next = { λ s q. (end_at s.ports.now.items q).next };

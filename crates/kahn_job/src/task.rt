@@ -3,7 +3,10 @@
 ghost use Rattle.std.specs.Prelude.{◌≡◌, ◌+◌, ◌*◌, ◌^◌, ◌<◌, ◌≤◌};
 ghost use Rattle.kahn_job.specs.inner.Words.{length, slice_set, OnOk, network_of, instance_at, site_code, count, AreCounts, WantsRoom, site_of};
 ghost use Rattle.kahn_code.specs.declared.progress.Pause.TheVariants.{NoMemory as IsRefused};
-ghost use Rattle.kahn_job.specs.{inner.Ends.HasRoom, inner.Berths.HaveFlushed, inner.Berths.IsWithinInput, inner.Berths.end_at, inner.Idles.CanGoOn, inner.Tasks.Continues, inner.Tasks.IsTrueOf, inner.Tasks.standing_after, inner.Tasks.woken_task, inner.Works.HasPaused, inner.Works.IsDelivered, inner.Works.IsJob, inner.Works.width_of};
+ghost use Rattle.kahn_job.specs.{inner.Ends.HasRoom, inner.Berths.HaveFlushed, inner.Berths.IsWithinInput, inner.Berths.end_at, inner.Idles.CanGoOn, inner.Tasks.Continues, inner.Tasks.IsTrueOf, inner.Tasks.standing_after, inner.Tasks.woken_task, inner.Works.HasPaused, inner.Works.IsDelivered, inner.Works.IsJob, inner.Works.width_of, inner.Tasks.IsTask, inner.Tasks.Tasked};
+ghost use Rattle.kahn_streams.specs.contracts.tree.Action as action;
+ghost use Rattle.kahn_streams.specs.contracts.tree.Form as form;
+ghost use Rattle.std.specs.Coded.{codes};
 
 use crate::idle::Idle;
 use crate::port::TaskPort;
@@ -26,11 +29,6 @@ pub struct Task {
 }
 
 impl Model for Task {
-    ghost use Rattle.kahn_streams.specs.contracts.tree.Action as action;
-    ghost use Rattle.kahn_streams.specs.contracts.tree.Form as form;
-    ghost use Rattle.std.specs.Coded.{codes};
-    ghost use Rattle.kahn_job.specs.inner.Tasks.{IsTask, Tasked};
-
     ghost Value = { Tasked };
 
     ghost coded = { Prim.hlevel (codes, action.the_row.coded, form.the_row.coded) };
