@@ -23,7 +23,7 @@ Changes are looked for in texts of up to 8,192 lexemes.
   more:1:21830: error: expected `:=`, found `=`
    1 | t 1;; I = 1 end; p() end;
      |                                                                                 ^
-     = a statement begins with `send`, `print`, `if`, `while`, `repeat` or `begin`, or assigns to a name: `X := X + 1`, `X := wait(U)`
+     = a statement begins with `send`, `print`, `if`, `while`, `repeat` or `begin`, or assigns to a name: `X := X + 1`, `X := wait(C)`
 A block of 340,000 statements.
   $ echo "begin process p(); begin integer I; $(printf 'I:=I;%.0s;' $(seq 170000)) end; p() end" > long; kahn_explain long
   no deadlock and no fault
