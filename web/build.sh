@@ -54,6 +54,7 @@ flags=(--target=wasm32-unknown-unknown --no-default-config -ffunction-sections -
 exports=$(sed -nE 's/^define [^"]*@([a-z_0-9]+)\(.*/--export=\1/p' "$crate.ll")
 # shellcheck disable=SC2086
 "$tools/bin/ld.lld" -flavor wasm -mwasm32 --no-entry --stack-first -z stack-size=1048576 --gc-sections --strip-all \
+  -O2 --compress-relocations \
   --max-memory=1073741824 $exports -o "$crate.wasm" "$crate.o" support.o
 python3 "$here/page.py" "$crate.wasm" kahn.html
 mv kahn.html "$to/kahn.html"

@@ -74,7 +74,7 @@ def filled(page, parts):
 
 def main(module, out):
     page = text_of(f"{PARTS}/page.html")
-    styles = re.sub(r"^ +", "", text_of(f"{PARTS}/page.css"), flags=re.M).strip()
+    styles = re.sub(r"\s+(?={)|(?<=[{};,])\s+|/\*.*?\*/\s*", "", text_of(f"{PARTS}/page.css"), flags=re.S).strip()
     page = filled(page, {"module": packed(module), "examples": examples(), "page.css": styles, **scripts(page)})
     page = filled(page, {"scripts": hashes(page, "script"), "styles": hashes(page, "style")})
     pathlib.Path(out).write_text(page, encoding="utf-8")
