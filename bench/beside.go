@@ -27,7 +27,7 @@ func copyAll(u <-chan int64, w chan<- int64) {
 	close(w)
 }
 
-func f(u, v <-chan int64, w chan<- int64, n int64, over chan<- int64) {
+func f(u, v <-chan int64, w chan<- int64, n int64, put func(int64)) {
 	b := true
 	for i := int64(0); i < n; i++ {
 		var x int64
@@ -36,10 +36,10 @@ func f(u, v <-chan int64, w chan<- int64, n int64, over chan<- int64) {
 		} else {
 			x = <-v
 		}
+		put(x)
 		w <- x
 		b = !b
 	}
-	over <- n
 }
 
 func g(u <-chan int64, v, w chan<- int64) {
@@ -69,17 +69,25 @@ func sum(w chan<- int64, n int64) {
 	close(w)
 }
 
-// report writes what comes on a channel, as a report does.
-func report(name string, w <-chan int64) {
+// report writes what a source gives, as a report does.
+func report(name string, source func(put func(int64))) {
 	out := bufio.NewWriterSize(os.Stdout, 1<<16)
 	out.WriteString(name + ":")
 	var text []byte
-	for v := range w {
+	source(func(v int64) {
 		text = strconv.AppendInt(append(text[:0], ' '), v, 10)
 		out.Write(text)
-	}
+	})
 	out.WriteString("\n")
 	out.Flush()
+}
+
+func all(w <-chan int64) func(func(int64)) {
+	return func(put func(int64)) {
+		for v := range w {
+			put(v)
+		}
+	}
 }
 
 func main() {
@@ -93,14 +101,13 @@ func main() {
 		go copyAll(x0, x1)
 		go copyAll(x1, x2)
 		go copyAll(x2, w)
-		report("W", w)
+		report("W", all(w))
 	case "sample":
-		x, y, z, t1, t2, over := channel(), channel(), channel(), channel(), channel(), channel()
-		go f(y, z, x, n, over)
+		x, y, z, t1, t2 := channel(), channel(), channel(), channel(), channel()
 		go g(x, t1, t2)
 		go h(t1, y, 0)
 		go h(t2, z, 1)
-		<-over
+		report("print 1 f", func(put func(int64)) { f(y, z, x, n, put) })
 	case "pipelines":
 		var outputs [64]chan int64
 		for k := range outputs {
@@ -110,10 +117,10 @@ func main() {
 			go copyAll(x, outputs[k])
 		}
 		for k := range outputs {
-			report("W"+strconv.Itoa(k), outputs[k])
+			report("W"+strconv.Itoa(k), all(outputs[k]))
 		}
 	case "arithmetic":
 		go sum(w, n)
-		report("W", w)
+		report("W", all(w))
 	}
 }

@@ -52,7 +52,7 @@ main = do
           (t1, t2) = g x
           y = h 0 t1
           z = h 1 t2
-       in x `seq` print (foldr (\v k !m -> v `seq` k (m + 1)) id x (0 :: Int64))
+       in line "print 1 f" x
     "pipelines" -> mapM_ (\k -> line ('W' : show k) (copy (count (n + 0 * k)))) [0 .. 63]
     "arithmetic" -> line "W" (total n)
     _ -> fail "pipeline, sample, pipelines or arithmetic"

@@ -26,13 +26,15 @@ end
 local function copy(u, w) while true do send(w, wait(u)) end end
 
 local function f(u, v, w, n)
-  local b = true
+  local b, printed = true, {}
   for _ = 1, n do
     local i
     if b then i = wait(u) else i = wait(v) end
+    printed[#printed + 1] = i
     send(w, i)
     b = not b
   end
+  io.write("print 1 f: ", table.concat(printed, " "), "\n")
 end
 
 local function g(u, v, w)

@@ -24,10 +24,13 @@ def copy(u, w):
 
 
 def f(u, v, w, n):
+    printed = []
     for it in itertools.islice(itertools.cycle((u, v)), n):
         while not it:
             yield
-        w.append(it.popleft())
+        printed.append(it.popleft())
+        w.append(printed[-1])
+    print("print 1 f:", *printed)
 
 
 def g(u, v, w):

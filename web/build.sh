@@ -56,6 +56,10 @@ exports=$(sed -nE 's/^define [^"]*@([a-z_0-9]+)\(.*/--export=\1/p' "$crate.ll")
 "$tools/bin/ld.lld" -flavor wasm -mwasm32 --no-entry --stack-first -z stack-size=1048576 --gc-sections --strip-all \
   -O2 --compress-relocations \
   --max-memory=1073741824 $exports -o "$crate.wasm" "$crate.o" support.o
+# Debian's binaryen, if it is there, makes the module smaller by a twentieth.
+if command -v wasm-opt > /dev/null; then
+  wasm-opt -Os --enable-bulk-memory --enable-mutable-globals --enable-sign-ext "$crate.wasm" -o "$crate.wasm"
+fi
 python3 "$here/page.py" "$crate.wasm" kahn.html
 mv kahn.html "$to/kahn.html"
 page_lines "$to" > "$to/page.sha256"

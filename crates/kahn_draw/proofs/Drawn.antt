@@ -21,9 +21,7 @@ pub unchecked : (program input : List ℕ) (drawn : Drawn) (old : Option (List �
     → IsDrawn program input drawn old old (Err f)
 unchecked program input drawn old (Syntax f) h = (inl h, refl)
 unchecked program input drawn old (Check f) h = (inl h, refl)
-unchecked program input drawn old (Text f) h = absurd h
-unchecked program input drawn old (RunWork f) h = absurd h
-unchecked program input drawn old (Write f) h = absurd h
+unchecked program input drawn old f h = absurd h
 
 -- a picture without a run, and one of a right answer
 pub still : (t : Program) (program input : List ℕ) (r : Result (String Global) WorkFault) → IsPictured t program [] [] r
@@ -39,11 +37,9 @@ moving t program input bound a streams ends (Err f) run s e is = subst (IsNotDra
 
 pub undrawn : (program input : List ℕ) (drawn : Drawn) (t : Program) (old : Option (List ℕ)) (f : WorkFault) → IsChecked program t
     → IsNotDrawn t input drawn f → IsDrawn program input drawn old old (Err f)
-undrawn program input drawn t old (Syntax f) checked h = absurd h
-undrawn program input drawn t old (Check f) checked h = absurd h
 undrawn program input drawn t old (Text f) checked h = (inr (t, checked, h), refl)
 undrawn program input drawn t old (RunWork f) checked h = (inr (t, checked, h), refl)
-undrawn program input drawn t old (Write f) checked h = absurd h
+undrawn program input drawn t old f checked h = absurd h
 
 -- the ends of a right answer wait on channels of the network
 pub standing : (program : List ℕ) (t : Program) (lists : Lists) (bound : ℕ) (a : Answer) → IsChecked program t → IsRight (network_of t) (inputs_of lists) bound None a
@@ -53,6 +49,4 @@ standing program t lists bound a checked right = stand t checked.1 (inputs_of li
 pub unrun : (bound : ℕ) (f : RunFault) → IsRefusedRun bound f → IsUnrunFor (Run bound) f
 unrun bound fault.BadConfig h = inr h
 unrun bound fault.NoMemory h = inl refl
-unrun bound fault.UnknownWatch h = absurd h
-unrun bound fault.NoThread h = absurd h
-unrun bound fault.Stalled h = absurd h
+unrun bound f h = absurd h

@@ -23,12 +23,9 @@ IsUnrunFor (Run bound) f = (f ≡ NoMemory) ⊎ (2 ^ 48 ≤ bound)
 
 -- why there is no picture: the input text of a run is at fault, or that
 abbrev pub IsNotDrawn : Program → List ℕ → Drawn → WorkFault → Type 0
-IsNotDrawn t input drawn (Syntax f) = ⊥
-IsNotDrawn t input drawn (Check f) = ⊥
-IsNotDrawn t input Network (Text f) = ⊥
-IsNotDrawn t input (Run bound) (Text f) = IsInputTextFault t input f
 IsNotDrawn t input drawn (RunWork f) = IsUnrunFor drawn f
-IsNotDrawn t input drawn (Write f) = ⊥
+IsNotDrawn t input (Run bound) (Text f) = IsInputTextFault t input f
+IsNotDrawn t input drawn f = ⊥
 
 -- a picture with these streams and these ends, or want of memory
 abbrev pub IsPictured : Program → List ℕ → List Stream → List End → Result (String Global) WorkFault → Type 0

@@ -86,14 +86,8 @@ pub(crate) fn draw<W: Write>(
 ) -> Result<(), WorkFault>
     ensures { IsDrawn program.now input.now drawn (W.contents writer.old) (W.contents writer.new) result }
 {
-    let network = match checked(alloc, program) {
-        Ok(network) => network,
-        Err(fault) => return Err(fault),
-    };
-    let picture = match picture(alloc, &network, program, input, drawn) {
-        Ok(picture) => picture,
-        Err(fault) => return Err(fault),
-    };
+    let network = checked(alloc, program)?;
+    let picture = picture(alloc, &network, program, input, drawn)?;
     match write_line(writer, &[picture.as_bytes()]) {
         Ok(()) => Ok(()),
         Err(fault) => Err(WorkFault::Write(fault)),

@@ -1,6 +1,6 @@
 -- Which streams an answer has, and which lines the columns.
-use Rattle.kahn_explain.proofs.Common.{◌≡◌, ◌∙◌, ℕ, zero, suc, ◌+◌, ◌<◌, ◌||◌, Bool, true, false, if◌then◌else◌, List, [], ◌∷◌, ◌++◌, length, map, flat_map, Option, Some, refl, sym, ap, subst, arith, get_or, slice_get, take, append_assoc, append-nil, add-one, flat_map-append, map-append, All-append, slice_get-get_or, Kind, Role, Line, Inner, Output, Node, Schema, role_at, Channel, Print, is_output, is_watched, HasStream, channel_lines, stream_line, print_lines, stream_lines, Answer, Stream, column_line, AddsPrint, AddsPrints, HasLine, HasValuesOf, print_line, print_part, Column}
-use Rattle.std.proofs.{Math.Seq.take-suc, lemmas.List.Folds.flat_map-map}
+use Rattle.kahn_explain.proofs.Common.{◌≡◌, ◌∙◌, ℕ, zero, suc, ◌+◌, ◌<◌, ◌||◌, Bool, true, false, if◌then◌else◌, List, [], ◌∷◌, ◌++◌, length, map, flat_map, Option, Some, refl, sym, ap, subst, arith, ap₂, All, slice_get, flat_map-append, map-append, All-append, slice_get-get_or, Kind, Role, Line, Inner, Output, Node, Schema, role_at, Channel, Print, is_output, is_watched, HasStream, channel_lines, stream_line, print_lines, stream_lines, Answer, Stream, HasLine, print_of, print_part}
+use Rattle.std.proofs.lemmas.List.Elements.{All-from_recursion}
 use Rattle.kahn_streams.specs.{declared.tree.Kind.TheVariants.Integer, Syntax.prints_in}
 use Rattle.kahn_code.specs.Cells.{is_streamed}
 
@@ -50,6 +50,10 @@ output_streamed N watch c e = ap (λ r. is_output r || is_watched watch c) e
 
 -- ---- the lines of the prints are those that an answer has
 
+abbrev print_line : Line → List Line
+print_line (Channel c) = []
+print_line (Print p) = Print p ∷ []
+
 no_print : (b : Bool) (c : ℕ) (rest : List Line) → flat_map print_line rest ≡ [] → flat_map print_line (if b then Channel c ∷ rest else rest) ≡ []
 no_print true c rest e = e
 no_print false c rest e = e
@@ -66,28 +70,24 @@ all_prints : (is : List Node) (p : ℕ) → flat_map print_line (print_lines is 
 all_prints [] p = refl
 all_prints (i ∷ is) p = one_print (prints_in i.body) p (print_lines is (suc p)) (all_prints is (suc p))
 
-pub printed : (N : Schema) (watch : Option ℕ) (ss : List Stream) → map stream_line ss ≡ stream_lines N watch → flat_map print_part ss ≡ print_lines N.instances 0
+part_lines : (ss : List Stream) → map stream_line (flat_map print_part ss) ≡ flat_map print_line (map stream_line ss)
+part_lines [] = refl
+part_lines (s ∷ ss) = map-append stream_line (print_part s) (flat_map print_part ss) ∙ ap₂ (λ a b. a ++ b) (one s.line refl) (part_lines ss)
+  where
+    one : (c : Line) → s.line ≡ c → map stream_line (print_of c s) ≡ print_line c
+    one (Channel d) e = refl
+    one (Print p) e = ap (λ l. l ∷ []) e
+
+pub printed : (N : Schema) (watch : Option ℕ) (ss : List Stream) → map stream_line ss ≡ stream_lines N watch → map stream_line (flat_map print_part ss) ≡ print_lines N.instances 0
 printed N watch ss named =
-    sym (flat_map-map print_line stream_line ss) ∙ ap (flat_map print_line) named ∙ flat_map-append print_line (channel_lines watch N.channels 0) (print_lines N.instances 0)
+    part_lines ss ∙ ap (flat_map print_line) named ∙ flat_map-append print_line (channel_lines watch N.channels 0) (print_lines N.instances 0)
     ∙ ap (λ l. l ++ flat_map print_line (print_lines N.instances 0)) (no_prints watch N.channels 0) ∙ all_prints N.instances 0
 
--- ---- the columns of prints, one after another
-
-added : (a : Answer) (ss : List Stream) (s : Stream) (old now new : List Column) → HasStream a s → AddsPrints a ss old now → AddsPrint s now new → AddsPrints a (ss ++ s ∷ []) old new
-added a ss s old now new has before next = record {
-  more = before.more ++ next.more;
-  behind = next.behind ∙ ap (λ l. l ++ next.more) before.behind ∙ append_assoc old before.more next.more;
-  lines =
-      map-append column_line before.more next.more ∙ ap (λ l. l ++ map column_line next.more) before.lines
-      ∙ ap (λ l. flat_map print_part ss ++ l) (next.lines ∙ sym (append-nil (print_part s))) ∙ sym (flat_map-append print_part ss (s ∷ []));
-  each =
-      All-append (λ x. (r : Stream) × HasStream a r × HasValuesOf r x) before.more next.more before.each (λ k d below. (s, has, next.each k d below));
-}
-
-pub prints_more : (a : Answer) (k : ℕ) (s d : Stream) (old now new : List Column) → k < length a.streams.items → s ≡ get_or a.streams.items k d
-    → AddsPrints a (take k a.streams.items) old now → AddsPrint s now new → AddsPrints a (take (k + 1) a.streams.items) old new
-prints_more a k s d old now new below is before next =
-    let at : slice_get a.streams.items k ≡ Some s = slice_get-get_or a.streams.items k d below ∙ ap Some (sym is) in
-    subst (λ ss. AddsPrints a ss old new)
-    (ap (λ x. take k a.streams.items ++ (x ∷ [])) is ∙ sym (take-suc a.streams.items k d below) ∙ ap (λ n. take n a.streams.items) (sym (add-one k)))
-    (added a (take k a.streams.items) s old now new (k, at) before next)
+-- what holds of all streams holds of those of prints
+pub prints_all : (P : Stream → Type 0) (ss : List Stream) → ((s : Stream) (j : ℕ) → slice_get ss j ≡ Some s → P s) → All P (flat_map print_part ss)
+prints_all P [] h = All-from_recursion P [] tt
+prints_all P (s ∷ ss) h = All-append P (print_part s) (flat_map print_part ss) (one s.line) (prints_all P ss (λ r j e. h r (suc j) e))
+  where
+    one : (c : Line) → All P (print_of c s)
+    one (Channel d) = All-from_recursion P [] tt
+    one (Print p) = All-from_recursion P (s ∷ []) (h s 0 refl, tt)

@@ -1,11 +1,11 @@
 -- The names of the crates below and of this crate's definitions that proofs cite, passed on from one place.
-pub use Rattle.kahn_explain.specs.Histories.{IsHistory, IsUntraced, all_channels, column_line}
+pub use Rattle.kahn_explain.specs.Histories.{IsHistory, IsUntraced, all_channels}
 pub use Rattle.kahn_explain.specs.Needing.{AreFirstEnds, AreRows, IsAskable, IsFirstNeeding, IsLineNamed, IsPlaceGiven, IsPlaceWord, IsReply, IsUnasked, NeedsNot}
 pub use Rattle.kahn_explain.specs.Running.{AreNotes, AreNotesBefore, AreNotesOfUnrun, HasComeTo, HasExplained, HasLooked, HasReplied, IsInputless, IsLookedAt, IsToldOf, Replies}
 pub use Rattle.kahn_explain.specs.Untaken.{HasLeft, IsFullest, IsToldFor, left_of, most_left, put_line}
-pub use Rattle.kahn_explain.specs.inner.Columns.{AddsPrint, AddsPrints, AreAllHistories, AreColumns, AreOfChannels, HasLine, HasValuesOf, IsAny, IsColumnOf, IsHistoryOf, IsRecord, print_line, print_part}
+pub use Rattle.kahn_explain.specs.inner.Columns.{AreAllHistories, AreColumns, AreOfChannels, HasLine, IsAny, IsHistoryOf, IsRecord, print_of, print_part}
 pub use Rattle.kahn_explain.specs.inner.Told.{EndsSearch, HasPut, IsNoReply, IsReplyFor, IsTableMade, notes_for, told_beside}
-pub use Rattle.kahn_needs.specs.Finding.{AreNeedsFound, IsNetworkLine, cut_told, of_input}
+pub use Rattle.kahn_needs.specs.Finding.{AreNeedsFound, IsNetworkLine, IsSeeking, cut_told, of_input}
 pub use Rattle.kahn_sequential.specs.Recordings.{IsCountedRun, IsHistoryIn, IsRecordedRun}
 pub use Rattle.kahn_streams.specs.Answers.{HasStream, IsRight, IsRightRun, IsUnrun, channel_lines, is_output, is_watched, print_lines, stream_line, stream_lines, values_of}
 pub use Rattle.kahn_streams.specs.Inputs.{IsNoName, Lists, inputs_of}
@@ -25,7 +25,6 @@ pub use Rattle.std.proofs.lemmas.Option.{slice_get-get_or, slice_get_read, slice
 pub use Rattle.std.proofs.lemmas.Result.{IfOk-weaker}
 pub use Rattle.std.specs.Io.KnownBytes.{Appends}
 pub use Rattle.std.specs.Prelude.{MatchResult, not, ◌↔◌}
-pub use Rattle.kahn_explain.specs.declared.{tracing.histories.Column.Column}
 pub use Rattle.kahn_fault.specs.declared.{work.WorkFault.WorkFault, work.WorkFault.TheVariants.Check, work.WorkFault.TheVariants.Run, work.WorkFault.TheVariants.Syntax, work.WorkFault.TheVariants.Text, work.WorkFault.TheVariants.Write}
 pub use Rattle.kahn_sequential.specs.declared.{recorded.Recorded.Recorded}
 pub use Rattle.kahn_streams.specs.declared.{answer.Answer.Answer, answer.Stream.Stream, config.Config.Config, fault.RunFault.TheVariants.NoMemory, tree.Kind.Kind, tree.Program.Program, tree.Role.Role, tree.Role.TheVariants.Inner, tree.Role.TheVariants.Output, value.Line.Line, value.Line.TheVariants.Channel, value.Line.TheVariants.Print, value.Value.Value}

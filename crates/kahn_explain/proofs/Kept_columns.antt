@@ -1,8 +1,8 @@
 -- The columns of a run that keeps all channels.
-use Rattle.kahn_explain.proofs.Common.{◌≡◌, ◌∙◌, ℕ, ◌<◌, ap, arith, false, length, Some, slice_get, sym, length-map, Config, Program, Line, Kind, Role, Output, Node, channels_of, network_of, role_at, Lists, inputs_of, Channel, Print, HasStream, IsRightRun, is_output, stream_line, stream_lines, Stream, IsNetworkLine, IsLine, channel_count, instance_count, IsRecordedRun, Recorded, HasLine, HasValuesOf, IsAny, IsColumnOf, IsHistoryOf, IsRecord, Column}
+use Rattle.kahn_explain.proofs.Common.{◌≡◌, ◌∙◌, ℕ, ◌<◌, ap, arith, false, length, Some, slice_get, sym, length-map, Config, Program, Line, Kind, Role, Output, Node, channels_of, network_of, role_at, Lists, inputs_of, Channel, Print, HasStream, IsRightRun, is_output, stream_line, stream_lines, Stream, IsNetworkLine, IsLine, channel_count, instance_count, IsRecordedRun, Recorded, HasLine, IsAny, IsHistoryOf, IsRecord, IsPrefix, IsWhole, iterate, subst, values_of}
 use Rattle.kahn_streams.proofs.By_number.{all_at, mapped}
 use Rattle.kahn_texts.proofs.Answer_lines.{streamed_lines}
-use Rattle.kahn_explain.proofs.{Begun.history, Begun.kept_history, Cells.has_line, Cells.output_streamed}
+use Rattle.kahn_explain.proofs.Cells.{has_line, output_streamed}
 
 -- the answer of such a run is right, and it has a stream of each channel
 pub right_run : (t : Program) (lists : Lists) (config : Config) (x : Recorded) → IsRecordedRun t lists config x → IsRightRun t lists config x.answer
@@ -16,21 +16,32 @@ pub output_line : (t : Program) (x : Recorded) (c : ℕ) → IsRecord t x → c 
 output_line t x c (lists, config, (allowed, (w, watched, (right, counts, kept)))) below role =
     has_line (network_of t) w x.answer c right.named below (output_streamed (network_of t) w c role)
 
-pub of_stream : (t : Program) (x : Recorded) (s : Stream) (y : Column) → HasStream x.answer s → HasValuesOf s y → IsAny t x y
-of_stream t x s y has is lists config (allowed, (w, watched, (right, counts, kept))) = history (network_of t) (inputs_of lists) config.bound w x.answer s y right has is
+-- a stream of the answer is a history
+pub of_stream : (t : Program) (x : Recorded) (s : Stream) → HasStream x.answer s → IsAny t x s
+of_stream t x s has lists config (allowed, (w, watched, (right, counts, kept))) = record {
+  begins = subst (λ l. (n : ℕ) × IsPrefix l (iterate (network_of t) (inputs_of lists) n s.line)) (sym (right.values s has)) (right.run.others s.line);
+  whole = λ e. right.whole e s has;
+}
 
-pub output_column : (t : Program) (x : Recorded) (line : Line) (y : Column) → IsColumnOf x.answer line y → IsHistoryOf t x line y
-output_column t x line y (s, has, at, is) = (is.line ∙ at, of_stream t x s y has is)
+pub output_column : (t : Program) (x : Recorded) (c : Line) (s : Stream) → HasStream x.answer s × (s.line ≡ c) → IsHistoryOf t x c s
+output_column t x c s (has, line) = (line, of_stream t x s has)
 
--- and of a stream that was kept
-of_kept : (t : Program) (x : Recorded) (c : ℕ) (s : Stream) (y : Column) → slice_get x.channels.items c ≡ Some s → is_output (role_at (network_of t) c) ≡ false → HasValuesOf s y → IsAny t x y
-of_kept t x c s y at inner is lists config (allowed, (w, watched, (right, counts, kept))) =
-    kept_history (network_of t) (inputs_of lists) config.bound w x.answer right c s y (kept.each c s at inner) is
-
-pub kept_column : (t : Program) (x : Recorded) (c : ℕ) (s : Stream) (y : Column) → IsRecord t x → slice_get x.channels.items c ≡ Some s → is_output (role_at (network_of t) c) ≡ false
-    → HasValuesOf s y → IsHistoryOf t x (Channel c) y
-kept_column t x c s y (lists, config, (allowed, (w, watched, (right, counts, kept)))) at inner is =
-    (is.line ∙ (kept.each c s at inner).line, of_kept t x c s y at inner is)
+-- and one that was kept beside it
+pub kept_column : (t : Program) (x : Recorded) (c : ℕ) (s : Stream) → IsRecord t x → slice_get x.channels.items c ≡ Some s → is_output (role_at (network_of t) c) ≡ false
+    → IsHistoryOf t x (Channel c) s
+kept_column t x c s (lists, config, (allowed, (w, watched, (right, counts, kept)))) at inner = ((kept.each c s at inner).line, all)
+  where
+    all : IsAny t x s
+    all lists config (allowed, (w, watched, (right, counts, kept))) =
+        let is = kept.each c s at inner in
+        let N = network_of t in
+        let I = inputs_of lists in
+        record {
+          begins =
+              subst (λ d. (n : ℕ) × IsPrefix (values_of s) (iterate N I n d)) (sym is.line)
+              (subst (λ l. (n : ℕ) × IsPrefix l (iterate N I n (Channel c))) (sym is.values) (right.run.others (Channel c)));
+          whole = λ e. subst (λ d. IsWhole N I d (values_of s)) (sym is.line) (is.whole e);
+        }
 
 -- the line of a stream is one of the network
 network_line : (t : Program) (c : Line) → IsLine t c → IsNetworkLine (network_of t) c

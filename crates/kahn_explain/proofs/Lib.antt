@@ -1,4 +1,3 @@
-mod Begun
 mod Cells
 mod Firsts
 mod Kept_columns

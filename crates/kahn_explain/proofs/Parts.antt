@@ -9,12 +9,10 @@ use Rattle.kahn_sequential.specs.declared.counted.Counted.{Counted}
 refused : (path program input : List ℕ) (strict : Bool) (P : Finding → List ℕ → Type 0) (U : RunFault → List ℕ → Type 0) (N : List ℕ → Type 0) (old new : Option (List ℕ))
     (r : Result Came WorkFault) → HasRefused path program strict old new r → HasComeTo path program input strict P U N old new r
 refused path program input strict P U N old new (Ok (Stopped x)) h = absurd h
-refused path program input strict P U N old new (Ok Refused) h = h
-refused path program input strict P U N old new (Err (Syntax f)) h = h
-refused path program input strict P U N old new (Err (Check f)) h = h
 refused path program input strict P U N old new (Err (Text f)) h = absurd h
 refused path program input strict P U N old new (Err (Run f)) h = inl h
 refused path program input strict P U N old new (Err (Write f)) h = (h.0, inl (Refused, h.1), h.2)
+refused path program input strict P U N old new r h = h
 
 pub refused_run : (path program input : List ℕ) (config : Config) (strict : Bool) (old new : Option (List ℕ)) (r : Result Came WorkFault) → HasRefused path program strict old new r
     → HasExplained path program input config strict old new r

@@ -26,17 +26,12 @@ refused_reply kind word path program input config strict out old new (Err (Write
 pub no_reply : (kind : Sheet) (word path program input : List ℕ) (config : Config) (strict : Bool) (it : Admitted) (out old new : Option (List ℕ)) (fault : WorkFault)
     → new ≡ old → IsAdmitted path program strict it → IsUntraced it.network input config fault
     → HasReplied kind word path program input config strict out out old new (Err fault)
-no_reply kind word path program input config strict it out old new (Syntax f) same on (inl e) = absurd cc
-no_reply kind word path program input config strict it out old new (Syntax f) same on (inr h) = absurd h
-no_reply kind word path program input config strict it out old new (Check f) same on (inl e) = absurd cc
-no_reply kind word path program input config strict it out old new (Check f) same on (inr h) = absurd h
-no_reply kind word path program input config strict it out old new (Text f) same on (inl e) = absurd cc
+no_reply kind word path program input config strict it out old new fault same on (inl e) =
+    subst (λ f. HasReplied kind word path program input config strict out out old new (Err f)) (sym e) (inl refl, refl, same)
 no_reply kind word path program input config strict it out old new (Text f) same on (inr h) = (unfed path program input strict it f on h, refl, same)
-no_reply kind word path program input config strict it out old new (Run f) same on (inl e) = let wants : f ≡ NoMemory = cc in (inl wants, refl, same)
 no_reply kind word path program input config strict it out old new (Run f) same on (inr h) =
     (inr (string_bytes it.notes, unrun path program input config strict it h.0 f on h.1 h.2), refl, same)
-no_reply kind word path program input config strict it out old new (Write f) same on (inl e) = absurd cc
-no_reply kind word path program input config strict it out old new (Write f) same on (inr h) = absurd h
+no_reply kind word path program input config strict it out old new f same on (inr h) = absurd h
 
 -- it was put, behind what was there
 out_from : (kind : Sheet) (word path program input : List ℕ) (config : Config) (strict : Bool) (it : Admitted) (x : Reply) (out made old new : Option (List ℕ))

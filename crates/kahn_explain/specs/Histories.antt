@@ -1,13 +1,9 @@
 -- Believed. The histories of all channels of a run: which columns there are, and what their values are.
 use Rattle.std.specs.Prelude.{◌≡◌, ◌⊎◌, ℕ, zero, suc, List, [], ◌∷◌, ◌++◌, All, length, map}
-use Rattle.kahn_streams.specs.{declared.config.Config.Config, declared.tree.Program.Program, declared.value.Line.Line, Network.Schema, declared.value.Line.TheVariants.Channel, Solution.Inputs, Solution.IsPrefix, Solution.IsWhole, Solution.iterate, Inputs.Lists, Answers.print_lines, declared.answer.Verdict.Verdict, declared.answer.Verdict.TheVariants.Finished, declared.fault.RunFault.TheVariants.NoMemory}
+use Rattle.kahn_streams.specs.{declared.config.Config.Config, declared.tree.Program.Program, declared.value.Line.Line, Network.Schema, declared.value.Line.TheVariants.Channel, Solution.Inputs, Solution.IsPrefix, Solution.IsWhole, Solution.iterate, Inputs.Lists, Answers.print_lines, Answers.stream_line, Answers.values_of, declared.answer.Stream.Stream, declared.answer.Verdict.Verdict, declared.answer.Verdict.TheVariants.Finished, declared.fault.RunFault.TheVariants.NoMemory}
 use Rattle.kahn_sequential.specs.{Recordings.IsRecordedRun, declared.recorded.Recorded.Recorded}
 use Rattle.kahn_texts.specs.Formats.{StandsFor}
 use Rattle.kahn_fault.specs.{Work.IsUnanswered, declared.work.WorkFault.WorkFault, declared.work.WorkFault.TheVariants.Run}
-use Rattle.kahn_explain.specs.declared.tracing.histories.Column.{Column}
-
-abbrev pub column_line : Column → Line
-column_line x = x.line
 
 -- the first n channels, in order of declaration
 abbrev pub all_channels : ℕ → List Line
@@ -19,13 +15,13 @@ abbrev pub trace_lines : Schema → List Line
 trace_lines N = all_channels (length N.channels) ++ print_lines N.instances 0
 
 -- the values begin the history of their line, and where the run of the table has finished they are the whole of it
-pub record IsHistory (N : Schema) (I : Inputs) (v : Verdict) (x : Column) : Type 0 where
-  pub begins : (n : ℕ) × IsPrefix x.values.items (iterate N I n x.line)
-  pub whole : v ≡ Finished → IsWhole N I x.line x.values.items
+pub record IsHistory (N : Schema) (I : Inputs) (v : Verdict) (s : Stream) : Type 0 where
+  pub begins : (n : ℕ) × IsPrefix (values_of s) (iterate N I n s.line)
+  pub whole : v ≡ Finished → IsWhole N I s.line (values_of s)
 
-pub record AreHistories (N : Schema) (I : Inputs) (v : Verdict) (xs : List Column) : Type 0 where
-  pub lines : map column_line xs ≡ trace_lines N
-  pub each : All (IsHistory N I v) xs
+pub record AreHistories (N : Schema) (I : Inputs) (v : Verdict) (ss : List Stream) : Type 0 where
+  pub lines : map stream_line ss ≡ trace_lines N
+  pub each : All (IsHistory N I v) ss
 
 -- the run of what a text stands for that keeps all that is sent
 abbrev pub IsRecordedFor : Program → List ℕ → Config → Recorded → Type 0

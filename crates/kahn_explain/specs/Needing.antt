@@ -53,10 +53,8 @@ IsUnasked wakes t word ask.NoPlace = (k : Option ℕ) → IsPlaceGiven (parted 5
 
 -- how that ended: only a bound leaves something untold
 abbrev pub found_end : Found → Verdict
-found_end (found.Needs n) = Finished
-found_end found.Never = Finished
-found_end found.Ring = Finished
 found_end found.Bound = Bound
+found_end f = Finished
 
 -- what is told of a place, for the input that a text stands for
 abbrev pub IsPlaceTold : Program → List ℕ → Line → ℕ → Verdict → Type 0
@@ -67,9 +65,7 @@ IsPlaceTold t input c k v = (lists : Lists) × (f : Found) × StandsFor t input 
 -- there is no value
 abbrev pub IsNone : Found → Type 0
 IsNone (found.Needs x) = ⊥
-IsNone found.Never = ⊤
-IsNone found.Ring = ⊤
-IsNone found.Bound = ⊤
+IsNone f = ⊤
 
 -- the first n places of line c have values, with what each needs
 abbrev pub AreRows : Schema → Inputs → Line → ℕ → Type 0
@@ -97,9 +93,8 @@ NeedsNot N I c d j k = (v : Value) (x : Cut) → AreNeeds N I c k v x → values
 abbrev pub IsFirstNeeding : Schema → Inputs → Line → Line → ℕ → ℕ → Found → Type 0
 IsFirstNeeding N I c d j k (found.Needs x) =
     AreNeedsFound N I c k (found.Needs x) × (j < values_on (λ e. slice_index_or x.values.items e 0) d) × ((i : ℕ) → i < k → NeedsNot N I c d j i)
-IsFirstNeeding N I c d j k found.Never = (i : ℕ) → NeedsNot N I c d j i
-IsFirstNeeding N I c d j k found.Ring = (i : ℕ) → NeedsNot N I c d j i
 IsFirstNeeding N I c d j k found.Bound = ⊤
+IsFirstNeeding N I c d j k f = (i : ℕ) → NeedsNot N I c d j i
 
 -- how the search for it ended, on a line that an instance sends; of an input nothing is sought
 abbrev pub IsFirstEnd : Schema → Inputs → Line → ℕ → Line → Verdict → Type 0
@@ -109,8 +104,7 @@ IsFirstEnd N I d j c v =
 -- how two searches ended
 abbrev pub worse : Verdict → Verdict → Verdict
 worse Finished v = v
-worse Bound v = Bound
-worse Memory v = Memory
+worse u v = u
 
 -- for the first n streams of the report, how the searches for the first that needs the value at place j of input d ended
 abbrev pub AreFirstEnds : Schema → Recorded → Inputs → Line → ℕ → ℕ → Verdict → Type 0

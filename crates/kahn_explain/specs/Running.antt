@@ -30,13 +30,12 @@ TellsOf path program strict P Refused text = IsRefusedFor path program strict te
 abbrev pub HasComeTo : List ℕ → List ℕ → List ℕ → Bool → (Finding → List ℕ → Type 0) → (RunFault → List ℕ → Type 0) → (List ℕ → Type 0)
     → Option (List ℕ) → Option (List ℕ) → Result Came WorkFault → Type 0
 HasComeTo path program input strict P U N old new (Ok came) = (text : List ℕ) × TellsOf path program strict P came text × Appends old new text
-HasComeTo path program input strict P U N old new (Err (Syntax f)) = IsUnchecked program (Syntax f) × IsRefusal path program (Syntax f) None × (new ≡ old)
-HasComeTo path program input strict P U N old new (Err (Check f)) = IsUnchecked program (Check f) × IsRefusal path program (Check f) None × (new ≡ old)
 HasComeTo path program input strict P U N old new (Err (Text f)) = IsInputless path program input strict f × (new ≡ old)
 HasComeTo path program input strict P U N old new (Err (Run f)) =
     ((f ≡ NoMemory) × (new ≡ old)) ⊎ ((text : List ℕ) × U f text × Appends old new text)
 HasComeTo path program input strict P U N old new (Err (Write f)) =
     (text : List ℕ) × (((came : Came) × TellsOf path program strict P came text) ⊎ N text) × AppendsFront old new text
+HasComeTo path program input strict P U N old new (Err f) = IsUnchecked program f × IsRefusal path program f None × (new ≡ old)
 
 -- the notes on what is warned of in an allowed program whose input text stands for lists
 abbrev pub AreNotesBefore : List ℕ → List ℕ → List ℕ → Bool → Program → Lists → List ℕ → Type 0
@@ -78,11 +77,8 @@ HasLooked path program input strict old new r =
 
 -- what is told beside a table of a run that came to that: its explanation, where the status isn't 0
 abbrev pub beside : Finding → List ℕ → List ℕ
-beside told.Fault text = text
-beside told.Deadlock text = text
 beside (told.Stop Finished) text = []
-beside (told.Stop Bound) text = text
-beside (told.Stop Memory) text = text
+beside x text = text
 
 -- beside the table of a run of these texts that keeps all that is sent: why it stopped
 abbrev pub IsTableOf : List ℕ → List ℕ → Config → Finding → List ℕ → Type 0
@@ -114,15 +110,12 @@ abbrev pub HasReplied : Sheet → List ℕ → List ℕ → List ℕ → List �
     → Result Came WorkFault → Type 0
 HasReplied kind word path program input config strict out made old new (Ok came) =
     (text more : List ℕ) × Replies kind word path program input config strict came text more × Appends out made text × Appends old new more
-HasReplied kind word path program input config strict out made old new (Err (Syntax f)) =
-    IsUnchecked program (Syntax f) × IsRefusal path program (Syntax f) None × (made ≡ out) × (new ≡ old)
-HasReplied kind word path program input config strict out made old new (Err (Check f)) =
-    IsUnchecked program (Check f) × IsRefusal path program (Check f) None × (made ≡ out) × (new ≡ old)
 HasReplied kind word path program input config strict out made old new (Err (Text f)) = IsInputless path program input strict f × (made ≡ out) × (new ≡ old)
 HasReplied kind word path program input config strict out made old new (Err (Run f)) =
     ((f ≡ NoMemory) ⊎ ((notes : List ℕ) × AreNotesOfUnrun path program input config strict f notes)) × (made ≡ out) × (new ≡ old)
 HasReplied kind word path program input config strict out made old new (Err (Write f)) =
     (came : Came) × (text more : List ℕ) × Replies kind word path program input config strict came text more × BreaksOff text more out made old new
+HasReplied kind word path program input config strict out made old new (Err f) = IsUnchecked program f × IsRefusal path program f None × (made ≡ out) × (new ≡ old)
 
 -- the same of writers
 abbrev pub HasRepliedTo : {T W : Type 0} → Sheet → List ℕ → List ℕ → List ℕ → List ℕ → Config → Bool → (T → Option (List ℕ)) → T → T → (W → Option (List ℕ)) → W → W → Result Came WorkFault → Type 0

@@ -4,7 +4,7 @@ ghost use Rattle.std.specs.Prelude.{◌≡◌, IfOk, string_bytes};
 ghost use Rattle.kahn_streams.specs.Network.{network_of};
 ghost use Rattle.kahn_fault.specs.Work.{IsChecked};
 ghost use Rattle.kahn_chain.specs.Chain.{AreStandings};
-ghost use Rattle.kahn_why.specs.Why.{IsExplained, standings_of};
+ghost use Rattle.kahn_why.specs.Why.{standings_of};
 ghost use Rattle.kahn_explain.specs.{Running.HasExplained, Running.HasLooked, Running.came_status, Untaken.IsToldFor, inner.Told.HasLookedOn, inner.Told.HasToldRun};
 
 use crate::untaken::{untaken_line, with_line};
@@ -12,35 +12,11 @@ use kahn_fault::WorkFault;
 use kahn_sequential::{Count, run_counted};
 use kahn_streams::{Answer, Config, Network, NoMemory, RunFault, Verdict};
 use kahn_texts::{read_input, write_line};
-use kahn_why::{
-    Admitted, Came, Explanation, Finding, admit, explained, explained_each, write_both,
-};
+use kahn_why::{Admitted, Came, Finding, admit, explained, write_both};
 use std::alloc::Global;
 use std::io::Write;
 
-/// Why the run of an answer stopped, by the input text of the run: by its causes, or for each process.
-fn explanation_of(
-    alloc: Global,
-    path: &str,
-    program: &str,
-    network: &Network,
-    input: &str,
-    answer: &Answer,
-    all: bool,
-) -> Result<Explanation, NoMemory>
-    requires { AreStandings (network_of network.now) (standings_of answer.now) }
-    ensures { IfOk result (IsExplained network.now answer.now) }
-{
-    let Ok(input) = read_input(alloc, input, network) else {
-        return Err(NoMemory);
-    };
-    if all {
-        return Ok(explained_each(alloc, path, program, network, Some(&input), answer)?);
-    }
-    Ok(explained(alloc, path, program, network, Some(&input), answer)?)
-}
-
-/// What a run came to, and what is told of it: why it stopped, and which values nobody took.
+/// What a run came to, and what is told of it: why it stopped, by its causes or for each process, and which values nobody took.
 pub(crate) fn told_of(
     alloc: Global,
     path: &str,
@@ -54,7 +30,11 @@ pub(crate) fn told_of(
     requires { AreStandings (network_of network.now) (standings_of answer.now) }
     ensures { IfOk result (λ r. IsToldFor network.now answer.now r.0 (string_bytes r.1)) }
 {
-    let explanation = explanation_of(alloc, path, program, network, input, answer, all)?;
+    let Ok(lists) = read_input(alloc, input, network) else {
+        return Err(NoMemory);
+    };
+    let fed = Some(&lists);
+    let explanation = explained(alloc, path, program, network, fed, answer, all)?;
     let line = untaken_line(alloc, network, answer.verdict, counts)?;
     let text = with_line(alloc, explanation.text.as_str(), line.as_str())?;
     Ok((explanation.told, text))

@@ -43,20 +43,14 @@ fn paths_of(alloc: Global, options: &ExplainOptions) -> Result<Paths, AllocError
 
 /// What the command line asks for.
 fn wish_of(options: &ExplainOptions) -> Wish {
-    if options.json {
-        Wish::Data
-    } else if options.check {
-        Wish::Look
-    } else if options.needs.is_some() {
-        Wish::Sheet(Sheet::Needs(false))
-    } else if options.wakes.is_some() {
-        Wish::Sheet(Sheet::Needs(true))
-    } else if options.trace {
-        Wish::Sheet(Sheet::Table(false))
-    } else if options.channels {
-        Wish::Sheet(Sheet::Table(true))
-    } else {
-        Wish::Reasons
+    match (&options.needs, &options.wakes) {
+        _ if options.json => Wish::Data,
+        _ if options.check => Wish::Look,
+        (Some(_), _) => Wish::Sheet(Sheet::Needs(false)),
+        (None, Some(_)) => Wish::Sheet(Sheet::Needs(true)),
+        (None, None) if options.trace => Wish::Sheet(Sheet::Table(false)),
+        (None, None) if options.channels => Wish::Sheet(Sheet::Table(true)),
+        (None, None) => Wish::Reasons,
     }
 }
 

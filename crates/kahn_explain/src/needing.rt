@@ -11,23 +11,8 @@ pub(crate) use crate::needing::replying::replied;
 use kahn_fault::shown_path;
 use kahn_hints::add_unknown_channel;
 use kahn_line::parted;
-use kahn_marks::add;
 use kahn_streams::Network;
 use std::alloc::{AllocError, Global};
-
-/// The option of a word.
-fn option_of(wakes: bool) -> &'static str {
-    if wakes { "--wakes " } else { "--needs " }
-}
-
-/// Why it may not be asked of a line.
-fn wrong_line(wakes: bool) -> &'static str {
-    if wakes {
-        ": not an input channel"
-    } else {
-        ": an input needs nothing else"
-    }
-}
 
 /// Why a word asks for nothing.
 pub(crate) fn fault_text(
@@ -39,15 +24,17 @@ pub(crate) fn fault_text(
 ) -> Result<String, AllocError> {
     let shown = shown_path(alloc, word)?;
     let mut text = String::from_str(alloc, "kahn_explain: ")?;
-    text.push_str(option_of(wakes))?;
-    match fault {
-        AskFault::NoLine => {
-            add(&mut text, &[shown.as_str(), ": no such channel"])?;
-            let (name, _) = parted(word, ':');
-            add_unknown_channel(&mut text, alloc, network.program(), name.as_bytes())?;
-        }
-        AskFault::WrongLine => add(&mut text, &[shown.as_str(), wrong_line(wakes)])?,
-        AskFault::NoPlace => add(&mut text, &[shown.as_str(), ": places are counted from 1"])?,
+    text.push_str(if wakes { "--wakes " } else { "--needs " })?;
+    text.push_str(shown.as_str())?;
+    text.push_str(match fault {
+        AskFault::NoLine => ": no such channel",
+        AskFault::WrongLine if wakes => ": not an input channel",
+        AskFault::WrongLine => ": an input needs nothing else",
+        AskFault::NoPlace => ": places are counted from 1",
+    })?;
+    if let AskFault::NoLine = fault {
+        let (name, _) = parted(word, ':');
+        add_unknown_channel(&mut text, alloc, network.program(), name.as_bytes())?;
     }
     text.push_str("\n")?;
     Ok(text)

@@ -12,10 +12,7 @@ pub(crate) struct Pipe<W: Write> {
 
 /// Whether a call failed since nobody reads any more.
 fn is_gone<T>(done: &io::Result<T>) -> bool {
-    match done {
-        Ok(_) => false,
-        Err(error) => error.kind() == ErrorKind::BrokenPipe,
-    }
+    matches!(done, Err(error) if error.kind() == ErrorKind::BrokenPipe)
 }
 
 impl<W: Write> Write for Pipe<W> {

@@ -7,10 +7,10 @@ ghost use Rattle.kahn_explain.specs.{Histories.IsUntraced, Running.HasRepliedTo,
 
 use crate::explaining::told_of;
 use crate::needing::{AskFault, fault_text, replied, sought};
-use crate::tracing::{columns_of, counts_text, recorded, trace_text};
+use crate::tracing::{TableText, columns_of, counts_text, recorded, trace_text};
 use kahn_fault::WorkFault;
 use kahn_sequential::Recorded;
-use kahn_streams::{Config, Network, NoMemory, RunFault, Verdict};
+use kahn_streams::{Config, Network, RunFault, Verdict};
 use kahn_texts::write_line;
 use kahn_why::{Admitted, Came, Finding, admit, write_both};
 use std::alloc::Global;
@@ -34,19 +34,14 @@ pub(crate) struct Reply {
 }
 
 /// The table of a run: of its counts, or of its histories.
-fn run_table(
-    alloc: Global,
-    network: &Network,
-    counts: bool,
-    run: &Recorded,
-) -> Result<String, NoMemory>
+fn run_table(alloc: Global, network: &Network, counts: bool, run: &Recorded) -> TableText
     requires { IsRecord network.now run.now }
 {
     if counts {
-        return Ok(counts_text(alloc, network, run)?);
+        return counts_text(alloc, network, run);
     }
     let columns = columns_of(alloc, network, run)?;
-    Ok(trace_text(alloc, network, &columns)?)
+    trace_text(alloc, network, &columns)
 }
 
 /// What is told beside a table: the explanation, where the status isn't 0.

@@ -4,4 +4,6 @@ mod histories;
 mod table;
 
 pub(crate) use histories::{columns_of, recorded};
-pub(crate) use table::{add_line, add_numbers, add_side, add_value, counts_text, trace_text};
+pub(crate) use table::{
+    TableText, add_line, add_numbers, add_side, add_value, counts_text, trace_text,
+};

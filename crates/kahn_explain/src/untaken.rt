@@ -14,14 +14,6 @@ use kahn_streams::{Network, Role, Verdict};
 use kahn_texts::channel_name;
 use std::alloc::{AllocError, Global};
 
-/// How many values a channel has had.
-fn sent_on(counts: &[Count], channel: usize) -> u64 {
-    match counts.get(channel) {
-        Some(count) => count.sent,
-        None => 0,
-    }
-}
-
 /// How many of them were not taken.
 fn left_on(counts: &[Count], channel: usize) -> u64
     ensures { result ≡ left_in (slice_get counts.now channel) }
@@ -39,8 +31,7 @@ fn left_of(network: &Network, counts: &[Count], channel: usize) -> u64
 {
     match network.channel(channel).role {
         Role::Output => 0,
-        Role::Input => left_on(counts, channel),
-        Role::Inner => left_on(counts, channel),
+        Role::Input | Role::Inner => left_on(counts, channel),
     }
 }
 
@@ -125,7 +116,8 @@ pub(crate) fn untaken_line(
         return Ok(String::new(alloc));
     };
     let left = left_of(network, counts, channel);
-    let (sent, name) = (sent_on(counts, channel), channel_name(network, channel));
+    let sent = counts.get(channel).map_or(0, |count| count.sent);
+    let name = channel_name(network, channel);
     match verdict {
         Verdict::Finished => never_taken(alloc, left, sent, name),
         Verdict::Bound => Ok(String::new(alloc)),

@@ -2,22 +2,31 @@
 
 use crate::heads::{end_of, head_before};
 use crate::lost::{longer_of, spans_of};
-use crate::names::{NameKind, names_asked, names_seen, taken_by};
+use crate::names::{NameKind, declared_kind, is_rarer, is_used, names_asked, names_seen};
 use crate::near::nearest;
-use crate::place::{NetworkPlace, called_first, is_called, is_in, side_of, word_at};
+use crate::place::{NetworkPlace, called_first, is_in, side_of};
 use crate::trial::{Edit, EditKind, Trial, Tried, faults_behind, is_of_sides, statement_at};
 use kahn_marks::{add, is_within};
 use kahn_streams::{CheckFault, Declaration, Name, NoMemory, Process, Span};
 use kahn_syntax::{Class, Keyword, Sign};
 use std::alloc::AllocError;
 
+/// What is written, and what is meant by it.
+type Rows = [(&'static str, &'static str); 4];
+
+/// Values of one kind, and what is meant where the other one is wanted.
+const LITERALS: Rows = [("0", "false"), ("1", "true"), ("false", "0"), ("true", "1")];
+
 /// What is written for truth values.
-const VALUES: [(&str, &str); 4] = [
+const VALUES: Rows = [
     ("true", "true"),
     ("false", "false"),
     ("yes", "true"),
     ("off", "false"),
 ];
+
+/// Of more names none is known to be used nowhere.
+const MOST_NAMES: usize = 64;
 
 /// In a longer statement no names are interchanged.
 const MOST_BYTES: usize = 256;
@@ -41,11 +50,7 @@ impl<'p> Trial<'p> {
             CheckFault::WrongDirection(_) => self.with_names(place.at, true)?,
             CheckFault::ChannelExpected(_) => self.with_bare()?,
             CheckFault::ValueExpected(_) => self.with_waited()?,
-            _ => match place.part(place.at) {
-                "0" => self.put_one(EditKind::Near, place.at, "false")?,
-                "1" => self.put_one(EditKind::Near, place.at, "true")?,
-                _ => {}
-            },
+            _ => self.with_values(EditKind::Literal, LITERALS, 0)?,
         }
         if place.process.is_some() {
             self.with_statement()?;
@@ -53,18 +58,27 @@ impl<'p> Trial<'p> {
         self.with_others()
     }
 
-    /// The name at the place without its `wait`; first, where that is all that is assigned, a channel in its place.
-    fn with_bare(&mut self) -> Tried {
+    /// What is meant by what stands at the place, where it is so many slips away from what is written for that.
+    fn with_values(&mut self, way: EditKind, rows: Rows, slips: usize) -> Tried {
         let place = self.place;
-        let wait = place.beyond(Sign::Open, -1);
-        if let (Some(wait), Some(close)) = (wait, place.span(1)) {
-            let is_all = place.class(-3) == Some(Class::Sign(Sign::Becomes)) && place.is_last(2);
-            if is_all && place.own_parameter().is_none() {
-                self.with_names(place.at, true)?;
+        for (written, meant) in rows {
+            if is_within(place.word(), written.as_bytes(), slips) {
+                self.put_one(way, place.at, meant)?;
             }
-            self.put(EditKind::Bare, (wait, close), &[place.part(place.at)])?;
         }
         Ok(())
+    }
+
+    /// The name at the place without its `wait`, unless that is all that is assigned and a variable is waited on.
+    fn with_bare(&mut self) -> Tried {
+        let place = self.place;
+        let is_all = place.class(-3) == Some(Class::Sign(Sign::Becomes)) && place.is_last(2);
+        match (place.beyond(Sign::Open, -1), place.span(1)) {
+            (Some(wait), Some(close)) if !is_all || place.own_parameter().is_some() => {
+                self.put(EditKind::Bare, (wait, close), &[place.part(place.at)])
+            }
+            _ => Ok(()),
+        }
     }
 
     /// The variable that was assigned last before the place what was taken from the channel there, unless that is all that is assigned; and the
@@ -103,62 +117,50 @@ impl<'p> Trial<'p> {
         match whole.split_once(":=") {
             Some((name, value)) => {
                 let pieces = ["send ", value.trim(), " on ", name.trim()];
-                self.put(EditKind::Flip, (place.at, Span { from: to, to }), &pieces)
+                self.put(
+                    EditKind::Literal,
+                    (place.at, Span { from: to, to }),
+                    &pieces,
+                )
             }
             None => Ok(()),
         }
     }
 
-    /// Those for a name that is declared twice: one that isn't declared in its place, or one of the two left out.
+    /// Those for a name that is declared twice: in the place of either one that isn't declared, or either left out.
     fn with_twice(&mut self) -> Tried {
         let place = self.place;
         let names = names_seen(place.alloc, place.program, place.process, None)?;
+        let first = called_first(place.word(), &names).map_or(place.at, |first| first.span);
+        let mut parts: Vec<&str> = Vec::new(place.alloc);
         for lexeme in place.seen().iter().skip(1) {
             let part = place.part(lexeme.span);
-            let is_name = lexeme.what == Class::Name && place.process.is_some();
+            let is_name = lexeme.what == Class::Name && !parts.contains(&part);
             if is_name && called_first(part.as_bytes(), &names).is_none() {
-                self.put_one(EditKind::Near, place.at, part)?;
-            }
-        }
-        for fault in self.faults {
-            if let CheckFault::Unknown(span) = fault {
-                if place.process.is_none() && place.moved_to(*span).process.is_none() {
-                    self.put_one(EditKind::Near, place.at, place.part(*span))?;
+                if place.moved_to(lexeme.span).asked() == declared_kind(place) {
+                    parts.push(part)?;
                 }
             }
         }
-        self.without_name(place.at)?;
-        match called_first(place.word(), &names) {
-            Some(first) => self.without_name(first.span),
-            None => Ok(()),
+        for at in [place.at, first] {
+            for part in &parts {
+                self.put_one(EditKind::Near, at, part)?;
+            }
+            self.without_name(at)?;
         }
+        Ok(())
     }
 
-    /// A name in the statement at the place interchanged with what stands there; if it is of a channel, another one that nothing uses.
-    fn with_name(&mut self, name: Span) -> Tried {
-        let place = self.place;
-        let is_before = name.to <= place.at.from;
-        let (first, last) = if is_before {
-            (name, place.at)
-        } else {
-            (place.at, name)
-        };
-        self.with_swap(EditKind::Swap, first, last)?;
-        match place.moved_to(name).asked() {
-            NameKind::Value => Ok(()),
-            _ => self.with_names(name, false),
-        }
-    }
-
-    /// In the statement at the place its other names interchanged with what stands there, and other channels that nothing uses; or the channels
-    /// of the first send that ends behind the place and of another one.
+    /// In the statement at the place its other names interchanged with what stands there, and others that nothing uses; or the channels of the
+    /// first send that ends behind the place and of another one.
     fn with_statement(&mut self) -> Tried {
         let (place, all) = (self.place, self.place.seen());
         match statement_at(place.lexemes, place.at.from) {
             Some((statement, _)) if statement.to.saturating_sub(statement.from) < MOST_BYTES => {
                 for lexeme in all {
                     if lexeme.what == Class::Name && is_in(statement, lexeme.span) {
-                        self.with_name(lexeme.span)?;
+                        self.with_swap(EditKind::Swap, place.at, lexeme.span)?;
+                        self.with_names(lexeme.span, false)?;
                     }
                 }
             }
@@ -176,8 +178,8 @@ impl<'p> Trial<'p> {
         Ok(())
     }
 
-    /// The declaration left out of a channel that nothing uses; an instance of a process that has none and could have the side; or else a role
-    /// in the declaration of the channel at the place, and one instance more of any process: first of one that has several and takes one channel.
+    /// The declaration left out of a channel that nothing uses; an instance of a process that has none and could have the side; or else one
+    /// instance more of any process, or a role in the declaration of the channel at the place.
     fn with_role(&mut self, role: &str) -> Tried {
         let place = self.place;
         let word = place.word();
@@ -190,18 +192,14 @@ impl<'p> Trial<'p> {
         if let Some(process) = place.idle(side_of(self.fault)) {
             return self.with_instance(process);
         }
-        for are_many in [true, false] {
-            for declaration in &place.program.declarations {
-                if let Declaration::Process(process) = declaration {
-                    if is_many(place, process) == are_many {
-                        self.with_instance(process)?;
-                    }
-                }
+        for declaration in &place.program.declarations {
+            if let Declaration::Process(process) = declaration {
+                self.with_instance(process)?;
             }
-            if let (true, Some(kind)) = (are_many, head_before(place).first()) {
-                self.with_word(place.at, end_of(kind.span), role, true)?;
-                self.with_word(place.at, end_of(kind.span), role, false)?;
-            }
+        }
+        if let Some(kind) = head_before(place).first() {
+            self.with_word(place.at, end_of(kind.span), role, true)?;
+            self.with_word(place.at, end_of(kind.span), role, false)?;
         }
         Ok(())
     }
@@ -224,13 +222,14 @@ impl<'p> Trial<'p> {
         let is_short = place.asked() != NameKind::Value || place.word().len() < 3;
         let is_one = names.len() == 1 && is_short && place.channel().is_none();
         self.with_names(place.at, is_one && place.process.is_some())?;
-        for (word, value) in VALUES {
-            if place.asked() == NameKind::Value && is_within(place.word(), word.as_bytes(), 1) {
-                self.put_one(EditKind::Near, place.at, value)?;
-            }
+        if place.asked() == NameKind::Value {
+            self.with_values(EditKind::Near, VALUES, 1)?;
         }
         for name in &names {
-            if !is_called(place.word(), name) && !is_used(place, name) {
+            let is_meant = near.is_none() || nearest(place.word(), &[*name]).is_some();
+            if is_meant && !is_used(place, name) {
+                let is_rare = near.is_some() && is_rarer(place, name);
+                self.doubt = if is_rare { 0 } else { 1 };
                 self.put_one(EditKind::Renamed, name.span, place.part(place.at))?;
             }
         }
@@ -260,29 +259,33 @@ impl<'p> Trial<'p> {
     }
 
     /// The other names that may stand at a part of the text, put there: the nearest, those that nothing uses, or all; of channels of the
-    /// program, those that don't have this side, and aren't handed over by the same instance.
+    /// program, those that don't have the side that is handed over there.
     fn with_names(&mut self, at: Span, are_used: bool) -> Tried {
         let place = self.place.moved_to(at);
-        let side = side_of(self.fault);
-        let handed = place.handed_at(at.from);
+        let (word, side) = (place.word(), place.side());
+        let all = names_asked(place)?;
         let mut names = Vec::new(place.alloc);
-        for name in &names_asked(place)? {
-            let word = name.text.as_bytes();
-            let is_looped = side != NameKind::Channel
-                && handed.iter().any(|one| one.is_channel(word));
-            let is_free = !is_looped && place.passed(side, word).is_none();
-            if is_free && !is_called(place.word(), name) {
+        for name in &all {
+            let letters = name.text.as_bytes();
+            if word != letters && place.passed(side, letters).is_none() {
                 names.push(*name)?;
             }
         }
-        let near = nearest(place.word(), &names);
+        let near = nearest(word, &names);
+        let own = called_first(word, &all).map_or(0, |own| own.span.from);
         for name in &names {
             let way = match near {
                 Some(near) if near.span == name.span => EditKind::Near,
-                _ if is_used(place, name) => EditKind::Used,
+                _
+                    if side == NameKind::Channel
+                        && (names.len() > MOST_NAMES || is_used(place, name)) => EditKind::Used,
                 _ => EditKind::Unused,
             };
             if self.tries > 0 && (are_used || !matches!(way, EditKind::Used)) {
+                self.doubt = match (way, self.fault) {
+                    (EditKind::Near, CheckFault::Unknown(_)) if is_rarer(place, name) => 2,
+                    _ => self.place.doubt_of(at, side, name, own < name.span.from),
+                };
                 self.put_one(way, at, name.text.as_str())?;
             }
         }
@@ -310,21 +313,6 @@ impl<'p> Trial<'p> {
     }
 }
 
-/// Whether a process takes one channel and has several instances.
-fn is_many(place: NetworkPlace, process: &Process) -> bool {
-    let channels = process
-        .parameters
-        .iter()
-        .filter(|one| taken_by(one).0 != NameKind::Value);
-    let name = process.name.text.as_bytes();
-    let all = place
-        .program
-        .instances
-        .iter()
-        .filter(|one| is_called(name, &one.process));
-    channels.count() == 1 && all.count() > 1
-}
-
 /// The role that a channel has that isn't declared, by the sides for which instances hand it over.
 fn role_for(place: NetworkPlace) -> &'static str {
     let is_read = place.passed(NameKind::Source, place.word()).is_some();
@@ -337,24 +325,15 @@ fn role_for(place: NetworkPlace) -> &'static str {
     }
 }
 
-/// Whether a name stands more than once in the part of a text that sees the names at a place.
-fn is_used(place: NetworkPlace, name: &Name) -> bool {
-    let its = place.seen().iter().filter(|lexeme| {
-        lexeme.what == Class::Name && is_called(word_at(place.text, lexeme.span), name)
-    });
-    its.count() > 1
-}
-
 /// Whether any other name may be meant.
 fn is_of_names(place: NetworkPlace, fault: CheckFault) -> bool {
     let is_asked = match fault {
-        CheckFault::TwoWriters(_) | CheckFault::TwoReaders(_) | CheckFault::ChannelExpected(_) => {
-            true
-        }
         CheckFault::WrongKind(_) => place.process.is_none(),
-        _ => false,
+        CheckFault::ValueExpected(_) => place.process.is_some(),
+        CheckFault::WrongDirection(_) => false,
+        _ => true,
     };
-    is_asked && matches!(place.class(0), Some(Class::Name))
+    is_asked && place.class(0) == Some(Class::Name)
 }
 
 /// Whether a comment has the name at a place, and a kind.
@@ -423,18 +402,14 @@ pub(crate) fn change_for<'p>(
         faults,
         behind,
         tries: tried,
+        doubt: 0,
         best,
     };
     trial.with_fault()?;
     *tries = trial.tries;
     match trial.best.take() {
         Some(change) if change.is_one_of => Ok(None),
-        Some(change) if is_unsure(fault, &change) => Ok(None),
+        Some(change) if is_of_sides(fault) && change.left > 0 => Ok(None),
         found => Ok(found),
     }
-}
-
-/// Whether a change mends a side, and leaves a fault: as long as there is one, nothing is known of sides.
-fn is_unsure(fault: CheckFault, change: &Edit) -> bool {
-    is_of_sides(fault) && change.left > 0
 }

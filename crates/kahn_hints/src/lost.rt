@@ -96,7 +96,7 @@ pub(crate) fn arranged<'p>(
             let is_fit = fits(&spares, parameter, one)
                 || count != most && may_fit(place, parameter, one);
             let text = place.part(one.span);
-            let is_new = !used.contains(&seat) && !is_given(parameters, &words, parameter, text);
+            let is_new = !used.contains(&seat);
             if word.is_none() && is_next && is_fit && is_new {
                 used.push(seat)?;
                 word = Some(text);
@@ -211,6 +211,7 @@ impl<'p> Trial<'p> {
         match (old.first(), old.last()) {
             (Some(first), Some(last)) if !is_name => {
                 let put = joined(place.alloc, new)?;
+                self.doubt = 3;
                 self.put(EditKind::Flip, (first.span, last.span), &[put.as_str()])
             }
             _ => Ok(()),

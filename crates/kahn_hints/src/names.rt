@@ -3,8 +3,10 @@
 ghost use Rattle.std.specs.Prelude.{◌≡◌, ◌++◌, IfOk, map};
 ghost use Rattle.kahn_hints.specs.Names.{channels_asked, channels_in, is_asked};
 
-use crate::place::NetworkPlace;
+use crate::heads::head_before;
+use crate::place::{NetworkPlace, is_called, word_at};
 use kahn_streams::{Declaration, Direction, Kind, Name, Parameter, Process, Program, Role, Taking};
+use kahn_syntax::{Class, Keyword, Sign};
 use std::alloc::{AllocError, Global};
 
 /// What a name stands for.
@@ -73,6 +75,53 @@ pub(crate) fn names_seen<'p>(
         }
     }
     Ok(names)
+}
+
+/// Whether a name stands in the part of a text that sees the names at a place, elsewhere than it is declared: assigned where that at the place
+/// is, or else not. A parameter has a value.
+pub(crate) fn is_used(place: NetworkPlace, name: &Name) -> bool {
+    let all = place.seen();
+    let is_assigned = place.class(1) == Some(Class::Sign(Sign::Becomes));
+    let is_given = match place.process {
+        Some(process) => process
+            .parameters
+            .iter()
+            .any(|one| one.name.span.from == name.span.from),
+        None => false,
+    };
+    is_assigned && is_given
+        || all.iter().zip(all.iter().skip(1)).any(|(lexeme, next)| {
+            lexeme.what == Class::Name
+                && lexeme.span.from != name.span.from
+                && is_assigned == (next.what == Class::Sign(Sign::Becomes))
+                && is_called(word_at(place.text, lexeme.span), name)
+        })
+}
+
+/// What the name that is declared at a place stands for.
+pub(crate) fn declared_kind(place: NetworkPlace) -> NameKind {
+    let last = head_before(place).last().map(|last| last.what);
+    match (place.process, place.class(-1), last) {
+        (None, Some(Class::Word(Keyword::Process)), _) => NameKind::Process,
+        (None, _, _) => NameKind::Channel,
+        (_, _, Some(Class::Word(Keyword::In))) => NameKind::Source,
+        (_, _, Some(Class::Word(Keyword::Out))) => NameKind::Target,
+        _ => NameKind::Value,
+    }
+}
+
+/// Whether a name stands less often in a text than that at a place.
+pub(crate) fn is_rarer(place: NetworkPlace, name: &Name) -> bool {
+    let (mut own, mut other) = (0_usize, 0_usize);
+    for lexeme in place.lexemes {
+        let word = word_at(place.text, lexeme.span);
+        if word == place.word() {
+            own = own.saturating_add(1);
+        } else if is_called(word, name) {
+            other = other.saturating_add(1);
+        }
+    }
+    other < own
 }
 
 /// Adds names of channels.

@@ -302,11 +302,54 @@ impl<'p> NetworkPlace<'p> {
         Some(first).filter(|first| first.from != self.at.from)
     }
 
-    /// The name of the parameter that takes what stands at the place.
-    pub(crate) fn parameter(&self) -> Option<&'p Name> {
+    /// How doubtful it is that a name stands at a part of the text for a side: three if its channel would go from an instance to the same, or to
+    /// one before it; as many if that at the place, which has the side too, then goes so, and one if the two don't stand as they are declared.
+    pub(crate) fn doubt_of(&self, at: Span, side: NameKind, name: &Name, is_first: bool) -> usize {
+        let old = match side {
+            NameKind::Source | NameKind::Target if at == self.at => self.passed_before(side),
+            NameKind::Source | NameKind::Target => Some(self.at),
+            _ => return 0,
+        };
+        let (is_back, is_turned) = match old {
+            Some(old) => (
+                self.is_backward(old, side, self.word()),
+                (old.from < at.from) != is_first,
+            ),
+            None => (false, false),
+        };
+        let is_new_back = self.is_backward(at, side, name.text.as_bytes());
+        let mut doubt = 0_usize;
+        for (is_less, by) in [(is_new_back, 3), (is_back, 3), (is_turned, 1)] {
+            doubt = doubt.saturating_add(if is_less { by } else { 0 });
+        }
+        doubt
+    }
+
+    /// Whether a channel that has this side at a place goes from an instance to the same, or to one before it.
+    fn is_backward(&self, at: Span, side: NameKind, word: &[u8]) -> bool {
+        let is_written = side == NameKind::Target;
+        let other = if is_written {
+            NameKind::Source
+        } else {
+            NameKind::Target
+        };
+        let Some(beyond) = self.passed(other, word) else {
+            return false;
+        };
+        let (own, beyond) = (self.begin_of(at.from), self.begin_of(beyond.from));
+        own == beyond || is_written == (beyond < own)
+    }
+
+    /// The parameter that takes what stands at the place.
+    pub(crate) fn parameter(&self) -> Option<&'p Parameter> {
         let mut all = self.handed.iter();
-        let one = all.find(|one| one.span.from == self.at.from)?;
-        Some(&one.parameter?.name)
+        all.find(|one| one.span.from == self.at.from)?.parameter
+    }
+
+    /// The side that a channel has which is handed over there, if one is.
+    pub(crate) fn side(&self) -> NameKind {
+        self.parameter()
+            .map_or(NameKind::Channel, |one| taken_by(one).0)
     }
 
     /// The parameter of its process that has its letters.

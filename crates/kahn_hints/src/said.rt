@@ -4,11 +4,11 @@ use crate::lost::{arranged, longer_of};
 use crate::names::{NameKind, names_asked, names_seen, taken_by};
 use crate::near::nearest;
 use crate::place::{NetworkPlace, called_first, is_called, is_in, side_of};
-use crate::sight::{add_meant, add_names, first_once};
+use crate::sight::{TOLD, add_meant, add_names};
 use crate::trial::{Edit, EditKind};
 use itoa::Buffer;
 use kahn_fault::check_words;
-use kahn_marks::{Other, add, add_spot};
+use kahn_marks::{Other, add, add_spot, first_ones};
 use kahn_streams::{CheckFault, Kind, Process, Role, Span};
 use kahn_syntax::{Class, Keyword, Sign};
 use std::alloc::AllocError;
@@ -242,11 +242,11 @@ fn add_unknown(words: &mut String, place: NetworkPlace, advice: &str) -> Added {
         Some(name) if is_called(place.word(), name) => Ok(()),
         Some(name) => add_meant(words, name),
         None => {
-            let list = first_once(place.alloc, &names)?;
+            let (list, _) = first_ones(&names, TOLD);
             let is_listed = place.process.is_none() || place.channel().is_none();
             if is_listed && !list.is_empty() {
                 words.push_str("; in sight: ")?;
-                add_names(words, &list)?;
+                add_names(words, list)?;
             }
             add_filled(words, place, advice, place.name())
         }
@@ -316,7 +316,7 @@ fn second_place(place: NetworkPlace, fault: CheckFault) -> Result<Option<Span>, 
     let names = names_seen(place.alloc, place.program, process, None)?;
     let declared = called_first(place.word(), &names).map(|name| name.span);
     let taken = match fault {
-        CheckFault::ChannelExpected(_) => place.parameter().map(|name| name.span),
+        CheckFault::ChannelExpected(_) => place.parameter().map(|one| one.name.span),
         _ => None,
     };
     Ok(place.passed_before(side).or(declared).or(taken))
@@ -340,7 +340,9 @@ pub(crate) fn others_of(
 /// Whether a change is told apart from the words of a fault at a place: it is made elsewhere.
 pub(crate) fn is_elsewhere(change: &Edit, at: Span) -> bool {
     match change.way {
-        EditKind::Near | EditKind::Unused | EditKind::Used => change.fix.span.from != at.from,
+        EditKind::Near | EditKind::Literal | EditKind::Unused | EditKind::Used => {
+            change.fix.span != at
+        }
         EditKind::Swap => false,
         _ => true,
     }

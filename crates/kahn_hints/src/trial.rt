@@ -21,6 +21,9 @@ const MOST_READ: usize = 4_000_000;
 /// The most channels, of which each has one fault of its sides at most.
 const MOST_SIDES: usize = 1025;
 
+/// How doubtful a change may be.
+const MOST_DOUBTS: usize = 16;
+
 /// So many faults of a process are looked for behind its first.
 const MOST_BEHIND: usize = 6;
 
@@ -29,6 +32,8 @@ const MOST_BEHIND: usize = 6;
 pub(crate) enum EditKind {
     /// The nearest of the names in sight is put in the place of another.
     Near,
+    /// A value of the other kind, or a send for an assignment.
+    Literal,
     /// Two arguments are interchanged, or a value and the channel of a `send`.
     Swap,
     /// A direction, a kind or a head is another one, or several arguments are.
@@ -77,18 +82,22 @@ pub(crate) fn tries_of(text: &str, lexemes: &[Lexeme]) -> usize {
     tries.min(MOST_TRIES)
 }
 
-/// The better of two changes: the one that costs less, or else the first, but for a name that nothing uses.
+/// How doubtful a change is, by what it is.
+fn doubt_of(way: &EditKind) -> usize {
+    match *way {
+        EditKind::Unused => 1,
+        EditKind::Used | EditKind::Bare | EditKind::Literal | EditKind::Declared => 2,
+        _ => 0,
+    }
+}
+
+/// The better of two changes: the one that costs less, or else the first.
 fn better(best: Option<Edit>, change: Edit) -> Edit {
     let Some(mut best) = best else {
         return change;
     };
-    let is_better = match (change.way, best.way) {
-        _ if change.cost != best.cost => change.cost < best.cost,
-        (EditKind::Declared | EditKind::Bare, _) => best.is_one_of,
-        (EditKind::Unused, EditKind::Used | EditKind::Bare) => true,
-        _ => false,
-    };
-    if is_better {
+    let is_late = matches!(change.way, EditKind::Declared | EditKind::Bare) && best.is_one_of;
+    if change.cost < best.cost || change.cost == best.cost && is_late {
         return change;
     }
     let is_another = match (change.way, best.way) {
@@ -194,23 +203,20 @@ pub(crate) struct Trial<'p> {
     pub(crate) behind: Vec<usize>,
     /// How many may be tried yet.
     pub(crate) tries: usize,
+    /// How doubtful the next one is, where it leaves as few faults as another.
+    pub(crate) doubt: usize,
     /// The best so far.
     pub(crate) best: Option<Edit>,
 }
 
 impl<'p> Trial<'p> {
     /// Whether a fault in the part at the place, which stands there in the text as it is, was there before behind the one at the place.
-    fn is_behind(&self, fix: &Fix, found: CheckFault, from: usize) -> bool {
+    fn is_behind(&self, fix: &Fix, from: usize) -> bool {
         if self.place.process.is_some() {
             return self.behind.contains(&from);
         }
         let is_within = fix.span.from <= from && from <= fix.span.to;
-        !is_within
-            && match found {
-                CheckFault::Unknown(_) => true,
-                CheckFault::TwoWriters(_) | CheckFault::TwoReaders(_) => false,
-                _ => fix.span.from >= self.place.begin(),
-            }
+        !is_within && fix.span.from >= self.place.begin()
     }
 
     /// What a change costs that leaves these faults in another text: by their number, then that of sides that weren't looked for. Nothing where
@@ -222,30 +228,32 @@ impl<'p> Trial<'p> {
         let (mut are_known, mut are_behind) = (true, true);
         for found in left {
             let from = origin_of(text, other, fix.span.to, *found);
+            let begin = place.begin_of(from);
             if is_of_sides(*found) && !are_sides {
                 sides = sides.saturating_add(1);
                 are_known = false;
-            } else if is_known(text, faults, other, *found) {
-                count = count.saturating_add(1);
-                let is_same = is_same_fault(text, self.fault, other, *found);
-                if is_same && place.begin_of(from) == own {
-                    return None;
-                }
             } else {
                 count = count.saturating_add(1);
-                let begin = place.begin_of(from);
                 let is_hidden = faults.iter().any(|fault| match check_span(*fault) {
                     Some(span) => begin <= span.from && span.from <= from,
                     None => false,
                 });
-                if !is_hidden {
+                let is_same = is_same_fault(text, self.fault, other, *found);
+                if !is_hidden || is_same && begin == own {
                     return None;
                 }
-                are_known = false;
-                are_behind = are_behind && begin == own && self.is_behind(fix, *found, from);
+                if !is_known(text, faults, other, *found) {
+                    are_known = false;
+                    are_behind = are_behind && begin == own && self.is_behind(fix, from);
+                }
             }
         }
-        let is_fewer = count < faults.len() || count == faults.len() && are_behind;
+        let is_named = matches!(
+            self.fault,
+            CheckFault::Unknown(_) | CheckFault::DeclaredTwice(_)
+        );
+        let is_near = is_named && matches!(way, EditKind::Near);
+        let is_fewer = count < faults.len() || count == faults.len() && (are_behind || is_near);
         let is_less = are_known && left.len() < faults.len()
             || !matches!(way, EditKind::Without) && is_fewer;
         let cost = count.saturating_mul(MOST_SIDES).saturating_add(sides);
@@ -258,6 +266,8 @@ impl<'p> Trial<'p> {
             return Ok(());
         };
         self.tries = rest;
+        let doubt = self.doubt.saturating_add(doubt_of(&way));
+        self.doubt = 0;
         let (first, beside) = parts;
         let (alloc, to) = (self.place.alloc, beside.to);
         let from = match way {
@@ -276,6 +286,7 @@ impl<'p> Trial<'p> {
         };
         if let Some(cost) = self.cost_of(other.as_str(), way, &fix, &faults) {
             let (left, is_one_of) = (faults.len(), false);
+            let cost = cost.saturating_mul(MOST_DOUBTS).saturating_add(doubt);
             let change = Edit {
                 way,
                 fix,
@@ -295,8 +306,15 @@ impl<'p> Trial<'p> {
     }
 
     /// Two parts interchanged, with what stands between them.
-    pub(crate) fn with_swap(&mut self, way: EditKind, first: Span, last: Span) -> Tried {
-        let (place, from, to) = (self.place, first.to, last.from);
+    pub(crate) fn with_swap(&mut self, way: EditKind, one: Span, other: Span) -> Tried {
+        let place = self.place;
+        let is_turned = other.from < one.from;
+        let (first, last) = if is_turned {
+            (other, one)
+        } else {
+            (one, other)
+        };
+        let (from, to) = (first.to, last.from);
         let between = place.part(Span { from, to });
         let pieces = [place.part(last), between, place.part(first)];
         if from > to || place.part(first) == place.part(last) {

@@ -88,11 +88,11 @@ struct TextReading<'n> {
 
 impl<'n> TextReading<'n> {
     /// The input that a word names: by its letters, or else by letters that differ in their case alone; or, in the place of a name, the only
-    /// one without an entry that is near, or else that the text doesn't name. Of a table, a column of no input.
+    /// one without an entry that is near, or else the one that is left. Of a table, a column of no input.
     fn channel(&self, word: &str, is_name: bool, is_table: bool) -> Option<usize> {
         let is_other = channel_named(self.network, word).is_some();
         let is_word = is_plain(word);
-        for rank in 0..5 {
+        for rank in 0..4 {
             let (mut found, mut count) = (None, 0usize);
             for (number, input) in self.inputs.iter().enumerate() {
                 let (letters, name) = (word.as_bytes(), input.name.as_bytes());
@@ -102,8 +102,7 @@ impl<'n> TextReading<'n> {
                     0 => letters == name,
                     1 => !is_other && (is_name || is_word) && is_within(letters, name, 0),
                     2 => is_free && word.len() > 1 && is_within(letters, name, 1),
-                    3 => is_free && word.len() > 3 && is_word && is_within(letters, name, 2),
-                    _ => is_left && !is_table && is_word && !input.is_told,
+                    _ => is_free && word.len() > 3 && is_word && is_within(letters, name, 2),
                 };
                 if fits {
                     count = count.saturating_add(1);
@@ -114,7 +113,24 @@ impl<'n> TextReading<'n> {
                 return found.filter(|_| count == 1);
             }
         }
-        Some(usize::MAX).filter(|_| is_table)
+        if is_table {
+            return Some(usize::MAX);
+        }
+        self.left().filter(|_| is_name && is_word)
+    }
+
+    /// The only input without an entry that the text doesn't name.
+    fn left(&self) -> Option<usize> {
+        let mut left = None;
+        for (number, input) in self.inputs.iter().enumerate() {
+            if input.line.is_empty() && !input.is_told {
+                if left.is_some() {
+                    return None;
+                }
+                left = Some(number);
+            }
+        }
+        left
     }
 
     /// Reads the name of an input, or of a column of no input.
@@ -136,8 +152,9 @@ impl<'n> TextReading<'n> {
 
     /// Reads a value; answers whether it is one.
     fn value(&mut self, word: &str) -> Result<bool, AllocError> {
-        if self.columns.is_empty() && self.inputs.len() == 1 {
-            self.name(0)?;
+        match self.left() {
+            Some(left) if self.columns.is_empty() => self.name(left)?,
+            _ => {}
         }
         let turn = self.count.checked_rem(self.columns.len()).unwrap_or(0);
         self.count = self.count.saturating_add(1);
@@ -204,29 +221,44 @@ impl<'n> TextReading<'n> {
     /// Reads a line, in which a `:` stands apart; answers whether all of its words are understood.
     fn line(&mut self, line: &str) -> Result<bool, AllocError> {
         let (head, rest) = line.split_once(" : ").unwrap_or(("", line));
-        let first = self.channel(head.trim(), true, false);
-        if first.is_none() && channel_named(self.network, head.trim()).is_some() {
+        let head = head.trim();
+        let first = match self.channel(head, true, false) {
+            None if is_spelled(head) => self.left(),
+            first => first,
+        };
+        if first.is_none() && channel_named(self.network, head).is_some() {
             return Ok(self.inputs.iter().all(|input| input.is_told));
         }
-        if let Some(channel) = first {
-            self.name(channel)?;
-        }
         self.is_head = false;
-        let rest = if first.is_some() { rest } else { line };
-        let is_table = first.is_none() && self.is_table(line);
+        let Some(channel) = first else {
+            let is_table = self.is_table(line);
+            return self.words(line, true, is_table);
+        };
+        self.name(channel)?;
+        self.is_head = false;
+        self.words(rest, false, false)
+    }
+
+    /// Reads the words of a line, or those behind its name; answers whether all are understood.
+    fn words(&mut self, line: &str, is_open: bool, is_table: bool) -> Result<bool, AllocError> {
         let mut words = Vec::new(self.alloc);
-        for word in rest.split_whitespace() {
+        for word in line.split_whitespace() {
             words.push(word)?;
+        }
+        let is_value = matches!(words.first(), Some(word) if value_of(word.as_bytes()).is_some());
+        let is_done = self.columns.len() == 1 && self.count > 0;
+        if is_open && is_done && is_value && self.left().is_some() {
+            self.columns.clear();
         }
         for (number, word) in words.iter().enumerate() {
             let next = words.get(number.saturating_add(1));
-            let is_first = number == 0 && first.is_none();
+            let is_first = number == 0 && is_open;
             let is_name = is_first || is_table || matches!(next, Some(next) if *next == ":");
             if *word == ":" && self.count == 0 {
                 self.is_head = false;
             } else if let Some(channel) = self.channel(word, is_name, is_table) {
-                let is_open = self.count == 0 && !self.is_head && !self.columns.is_empty();
-                if self.is_range || is_open && !is_first {
+                let is_bare = self.count == 0 && !self.is_head && !self.columns.is_empty();
+                if self.is_range || is_bare && !is_first {
                     return Ok(false);
                 }
                 self.name(channel)?;
@@ -257,13 +289,16 @@ impl<'n> TextReading<'n> {
     }
 }
 
-/// Whether a word is spelled as a name, and isn't read as a value or as nothing.
-fn is_plain(word: &str) -> bool {
+/// Whether a word is spelled as a name, and is no value.
+fn is_spelled(word: &str) -> bool {
     let letters = word.as_bytes();
-    let is_name = !word.is_empty()
-        && word_bytes(letters) == word.len()
-        && digits_from(letters, 0) == 0;
-    is_name && meant_word(word) == word && value_of(letters).is_none()
+    let is_name = word_bytes(letters) == word.len() && digits_from(letters, 0) == 0;
+    is_name && !word.is_empty() && value_of(letters).is_none()
+}
+
+/// The same, where it isn't read as a value or as nothing either.
+fn is_plain(word: &str) -> bool {
+    is_spelled(word) && meant_word(word) == word
 }
 
 /// The inputs of a network, for which nothing was read of a text.
@@ -310,7 +345,8 @@ fn meant_entries(
     };
     let mut seen: Vec<&str> = Vec::new(alloc);
     for line in text.lines() {
-        let is_again = line.find(":").is_some() && seen.contains(&line);
+        let has_several = line.find(":").is_some() && line.split_whitespace().count() > 2;
+        let is_again = has_several && seen.contains(&line);
         seen.push(line)?;
         let plain = plain_line(alloc, line.trim())?;
         if !is_again && !reading.line(plain.as_str())? {

@@ -50,7 +50,7 @@ const NUMERALS: &str = "
 
 /// The same where more is said.
 const OTHERS: &str = "
--> <- \u{2192} \u{2190} = : | : | ; each name stands at the front of its line, with one `:` behind
+-> <- \u{2192} \u{2190} = =is : | : | ; each name stands at the front of its line, with one `:` behind
 ... .. \u{2026} | .. | ; there are no ranges: each value stands there itself
 =- ^-- | = | ; a `-` stands once, right before its digits; a missing value is left out
 =\\ | _ | ; all values of a channel stand on one line
@@ -88,7 +88,7 @@ a \"a\" 'a' | = | ; a number is written in digits, and a text as a number for ea
 
 /// Of the first word of a line, which no channel has as its name.
 const HEADS: &str = "
-=integer =logical =int =bool =boolean =channel =input =inputs | _ | ; no kind stands before the name
+=integer =logical =int =bool =boolean =channel =input =inputs =in =out | _ | ; no kind stands before the name
 =end =finished =limit =eof =stop =quit =done =. | ~ | ; an input ends with its last line, and is no report
 =begin =send =print =let =var =set =put =export =const =echo =printf | _ | ; an input has no statements: values stand behind the name of their channel
 ";
@@ -347,10 +347,6 @@ pub(crate) fn word_words(
 
 /// The first words that are some.
 pub(crate) fn first_words(all: &[&'static str]) -> &'static str {
-    for words in all {
-        if !words.is_empty() {
-            return *words;
-        }
-    }
-    ""
+    let mut all = all.iter();
+    all.find(|words| !words.is_empty()).copied().unwrap_or("")
 }

@@ -1,5 +1,5 @@
 -- What went out of each stream begins the history of its line.
-use Rattle.kahn_live.proofs.Common.{◌≡◌, ◌∙◌, ℕ, false, append_assoc, List, [], ◌++◌, Some, sym, ap, subst, slice_get, slice_index_or, HeldRun, IsRightSoFar, so_far, Verdict, are_rows, Live, HasHistories, IsShown}
+use Rattle.kahn_live.proofs.Common.{[], ◌≡◌, ◌∙◌, ℕ, false, append_assoc, List, ◌++◌, Some, sym, ap, subst, slice_get, slice_index_or, HeldRun, IsRightSoFar, so_far, Verdict, are_rows, Live, HasHistories, IsShown}
 use Rattle.std.proofs.lemmas.Option.{same_Some}
 use Rattle.kahn_streams.specs.{declared.value.Value.Value, declared.value.Line.Line, Network.network_of, Solution.IsPrefix, Solution.IsWhole, Solution.iterate, Inputs.inputs_of, declared.answer.End.End, declared.answer.Verdict.TheVariants.Finished}
 use Rattle.kahn_sequential.specs.Flows.{flow_lines}

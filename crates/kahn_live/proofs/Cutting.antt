@@ -1,6 +1,7 @@
 -- Where lines are cut.
-use Rattle.kahn_live.proofs.Common.{◌≡◌, ◌≢◌, ◌∙◌, inl, inr, ℕ, zero, suc, ◌+◌, ◌-◌, ◌<◌, ◌≤◌, min, Bool, true, false, eqb, cond, eqb-true, eq-eqb, true≢false, List, [], ◌∷◌, ◌++◌, All, None, Some, Option, IfSome, Result, Ok, Err, IfOk, is_ok, is_err, if◌then◌else◌, get_or, take_all, ⊎_elim, length, take, arith, refl, sym, ap, subst, append_assoc, append-nil, length-append, length-take, All-append, All-cons, All-nil, take_more, Consumes, IsAtEnd, Keeps, DropsThrough, drop_through, CutsLine, IsCutLine, IsNextLine, most_kept, Next, Line, End, Failed, NoMemory, IsLastRead, IsPassed}
-use Rattle.std.proofs.lemmas.Bool.{cases_lt}
+use Rattle.kahn_live.proofs.Common.{[], ◌≡◌, ◌≢◌, ◌∙◌, ℕ, zero, suc, ◌+◌, ◌-◌, ◌<◌, ◌≤◌, min, eqb, cond, not, eqb-true, eq-eqb, false, true≢false, get_or, List, ◌∷◌, ◌++◌, ◌==◌, All, None, Some, Option, IfSome, Result, Ok, Err, IfOk, is_ok, is_err, if◌then◌else◌, take_all, ⊎_elim, length, take, arith, refl, sym, ap, append_assoc, append-nil, length-append, length-take, All-append, take_more, Consumes, IsAtEnd, Keeps, DropsThrough, drop_through, position_or_len, CutsLine}
+use Rattle.std.proofs.{BufReadLemmas.drop_through-append, lemmas.Bool.cases_lt, lemmas.Bool.ne_eqb, lemmas.List.get_or-take, lemmas.List.nil_from_length, lemmas.List.Elements.All-head, lemmas.List.Elements.All-tail, lemmas.List.Sums.fails_before_first, lemmas.List.Sums.passes_at_first}
+use Rattle.std.specs.List.{before_first}
 
 -- what is kept of a text may be cut on the way
 pub kept_more : (n : ℕ) (xs ys : List ℕ) → take n (take n xs ++ ys) ≡ take n (xs ++ ys)
@@ -27,30 +28,49 @@ pub ok_where : {X E : Type 0} (r : Result X E) (P : Type 0) → IfOk r (λ x. P)
 ok_where (Ok x) P p ok = p
 ok_where (Err x) P p ok = absurd (true≢false ok)
 
--- of what was shown all is consumed, or all through a line feed
-pub shown_more : (shown : List ℕ) (end n : ℕ) → end ≡ length shown → n ≡ min (end + 1) (length shown) → take n shown ≡ take end shown ++ []
-shown_more shown end n whole is = ap (λ k. take k shown) (omega (arith, whole, is)) ∙ sym (append-nil (take end shown))
+-- no line feed stands before the first one, and it is the next
+pub no_feed : (bytes : List ℕ) (n : ℕ) → n ≡ position_or_len (λ b. b == 10) bytes → All (λ b. b ≢ 10) (take n bytes)
+no_feed bytes n is k d below = λ same.
+    let within : k < n = omega (arith, below, length-take n bytes) in
+    true≢false (sym (eq-eqb _ 10 same) ∙ ap (λ x. eqb x 10) (get_or-take n bytes k d within) ∙ fails_before_first (λ b. b == 10) bytes k d (omega (arith, within, is)))
 
-pub shown_whole : (shown : List ℕ) (end n : ℕ) → end < length shown → n ≡ min (end + 1) (length shown) → get_or shown end 0 ≡ 10 → take n shown ≡ take end shown ++ (10 ∷ [])
-shown_whole shown end n below is at =
-    ap (λ k. take k shown) (omega (arith, below, is)) ∙ take_more shown end 0 below ∙ ap (λ b. take end shown ++ (b ∷ [])) at
+pub through_feed : (bytes : List ℕ) (n : ℕ) → n ≡ position_or_len (λ b. b == 10) bytes → n < length bytes → take (n + 1) bytes ≡ take n bytes ++ (10 ∷ [])
+through_feed bytes n is below = take_more bytes n 0 below
+    ∙ ap (λ b. take n bytes ++ (b ∷ [])) (eqb-true _ 10 (ap (λ k. eqb (get_or bytes k 0) 10) is ∙ passes_at_first (λ b. b == 10) bytes 0 (omega (arith, below, is))))
+
+-- bytes without a line feed stand before the first one
+before : (front rest : List ℕ) → All (λ x. x ≢ 10) front → before_first (λ b. b == 10) (front ++ rest) ≡ front ++ before_first (λ b. b == 10) rest
+before [] rest all = refl
+before (x ∷ front) rest all =
+    let n = position_or_len (λ b. b == 10) (front ++ rest) in
+    let next : 1 + n ≡ suc n = omega arith in
+    ap (λ b. take (cond (not b) (1 + n) 0) (x ∷ (front ++ rest))) (ne_eqb x 10 (All-head (λ y. y ≢ 10) x front all))
+    ∙ ap (λ k. take k (x ∷ (front ++ rest))) next ∙ ap (λ l. x ∷ l) (before front rest (All-tail (λ y. y ≢ 10) x front all))
+
+cut : (x front rest left : List ℕ) → All (λ y. y ≢ 10) front → x ≡ front ++ rest → 0 < length x → before_first (λ b. b == 10) rest ≡ [] → left ≡ drop_through 10 rest
+    → CutsLine front (Some x) (Some left)
+cut x front rest left all is some none drops = (
+  (some, sym (ap (before_first (λ b. b == 10)) is ∙ before front rest all ∙ ap (λ l. front ++ l) none ∙ append-nil front)),
+  ap Some (drops ∙ sym (ap (drop_through 10) is ∙ drop_through-append 10 front rest all)),
+)
 
 -- bytes without a line feed, and then a line feed
 pub whole_line : (a b c : Option (List ℕ)) (line bytes : List ℕ) → All (λ x. x ≢ 10) line → All (λ x. x ≢ 10) bytes
     → Consumes a b line → Consumes b c (bytes ++ (10 ∷ [])) → CutsLine (line ++ bytes) a c
-whole_line None b c line bytes all more p q = tt
+whole_line None b c line bytes all more p q = (tt, tt)
 whole_line (Some x) None c line bytes all more p q = absurd p
 whole_line (Some x) (Some y) None line bytes all more p q = absurd q
 whole_line (Some x) (Some y) (Some z) line bytes all more p q =
-    (All-append (λ x. x ≢ 10) line bytes all more, inl (p ∙ ap (λ l. line ++ l) (q ∙ append_assoc bytes (10 ∷ []) z) ∙ sym (append_assoc line bytes (10 ∷ z))))
+    let is : x ≡ (line ++ bytes) ++ (10 ∷ z) = p ∙ ap (λ l. line ++ l) (q ∙ append_assoc bytes (10 ∷ []) z) ∙ sym (append_assoc line bytes (10 ∷ z)) in
+    cut x (line ++ bytes) (10 ∷ z) z (All-append (λ x. x ≢ 10) line bytes all more) is (omega (arith, ap length is, length-append (line ++ bytes) (10 ∷ z))) refl refl
 
 -- bytes without a line feed, and then the end
 pub last_line : (a b c : Option (List ℕ)) (line : List ℕ) → All (λ x. x ≢ 10) line → Consumes a b line → IsAtEnd b → Keeps b c → 0 < length line → CutsLine line a c
-last_line None b c line all p end kept some = tt
+last_line None b c line all p end kept some = (tt, tt)
 last_line (Some x) None c line all p end kept some = absurd p
 last_line (Some x) (Some y) None line all p end kept some = absurd kept
 last_line (Some x) (Some y) (Some z) line all p end kept some =
-    (all, inr (p ∙ ap (λ l. line ++ l) end ∙ append-nil line, kept ∙ end, some))
+    cut x line [] z all (p ∙ ap (λ l. line ++ l) end) (omega (arith, ap length p, length-append line y, some)) refl (kept ∙ end)
 
 -- nothing was read, and there is nothing
 pub at_end : (a b : Option (List ℕ)) (line : List ℕ) → Consumes a b line → IsAtEnd b → line ≡ [] → IsAtEnd a
@@ -58,78 +78,21 @@ at_end None b line p end none = tt
 at_end (Some x) None line p end none = absurd p
 at_end (Some x) (Some y) line p end none = p ∙ ap (λ l. l ++ y) none ∙ end
 
--- a test that fails
-different : (x : ℕ) → eqb x 10 ≡ false → x ≢ 10
-different x e same = true≢false (sym (eq-eqb x 10 same) ∙ e)
-
--- a text of one byte
-one : (x : ℕ) (b : Bool) → eqb x 10 ≡ b → (line : List ℕ) × IsCutLine line (x ∷ []) (drop_through 10 (x ∷ []))
-one x true e =
-    ([], (All-nil (λ y. y ≢ 10), inl (ap (λ y. y ∷ []) (eqb-true x 10 e) ∙ ap (λ l. 10 ∷ l) (sym (ap (λ b. cond b [] []) e)))))
-one x false e =
-    (x ∷ [], (All-cons (λ y. y ≢ 10) x [] (different x e) (All-nil (λ y. y ≢ 10)), inr (refl, ap (λ b. cond b [] []) e, omega arith)))
-
--- a byte in front
-front : (x : ℕ) (line xs rest : List ℕ) → x ≢ 10 → IsCutLine line xs rest → IsCutLine (x ∷ line) (x ∷ xs) rest
-front x line xs rest other (all, inl is) = (All-cons (λ y. y ≢ 10) x line other all, inl (ap (λ l. x ∷ l) is))
-front x line xs rest other (all, inr (is, none, some)) = (All-cons (λ y. y ≢ 10) x line other all, inr (ap (λ l. x ∷ l) is, none, omega arith))
-
-more : (x : ℕ) (xs : List ℕ) (b : Bool) → eqb x 10 ≡ b → (line : List ℕ) × IsCutLine line xs (drop_through 10 xs)
-    → (line : List ℕ) × IsCutLine line (x ∷ xs) (drop_through 10 (x ∷ xs))
-more x xs true e other =
-    ([], (All-nil (λ y. y ≢ 10), inl (ap (λ y. y ∷ xs) (eqb-true x 10 e) ∙ ap (λ l. 10 ∷ l) (sym (ap (λ b. cond b xs (drop_through 10 xs)) e)))))
-more x xs false e (line, cut) =
-    (x ∷ line, subst (λ r. IsCutLine (x ∷ line) (x ∷ xs) r) (sym (ap (λ b. cond b xs (drop_through 10 xs)) e)) (front x line xs _ (different x e) cut))
-
--- what stands before the first line feed of a text is a line
-pub cut_front : (x : ℕ) (xs : List ℕ) → (line : List ℕ) × IsCutLine line (x ∷ xs) (drop_through 10 (x ∷ xs))
-cut_front x [] = one x (eqb x 10) refl
-cut_front x (y ∷ ys) = more x (y ∷ ys) (eqb x 10) refl (cut_front y ys)
-
-some_front : (xs : List ℕ) → 0 < length xs → (line : List ℕ) × IsCutLine line xs (drop_through 10 xs)
-some_front [] some = absurd (omega (arith, some))
-some_front (x ∷ xs) some = cut_front x xs
-
 -- a line of which some was read, and the rest passed over
 pub passed : (a b c d : Option (List ℕ)) (line : List ℕ) → All (λ x. x ≢ 10) line → Consumes a b line → IfSome b (λ text. 0 < length text) → Keeps b c → DropsThrough c d 10
     → (whole : List ℕ) × CutsLine whole a d
-passed None b c d line all p some kept drops = ([], tt)
+passed None b c d line all p some kept drops = ([], (tt, tt))
 passed (Some x) None c d line all p some kept drops = absurd p
 passed (Some x) (Some y) None d line all p some kept drops = absurd kept
-passed (Some x) (Some y) (Some z) d line all p some kept drops =
-    let (front, cut) = some_front y some in
-    let text : x ≡ line ++ y = p in
-    let rest : d ≡ Some (drop_through 10 y) = drops ∙ ap (λ l. Some (drop_through 10 l)) kept in
-    (line ++ front, subst (λ r. CutsLine (line ++ front) (Some x) r) (sym rest) (joined front y (drop_through 10 y) cut text))
-  where
-    joined : (front y rest : List ℕ) → IsCutLine front y rest → x ≡ line ++ y → IsCutLine (line ++ front) x rest
-    joined front y rest (more, inl is) text = (All-append (λ x. x ≢ 10) line front all more, inl (text ∙ ap (λ l. line ++ l) is ∙ sym (append_assoc line front (10 ∷ rest))))
-    joined front y rest (more, inr (is, none, some)) text =
-        (All-append (λ x. x ≢ 10) line front all more, inr (text ∙ ap (λ l. line ++ l) is, none, omega (arith, length-append line front, some)))
+passed (Some x) (Some y) (Some z) d line all p some kept drops = (
+  before_first (λ b. b == 10) x,
+  ((omega (arith, ap length p, length-append line y, some), refl), drops ∙ ap (λ l. Some (drop_through 10 l)) kept ∙ ap Some (sym (ap (drop_through 10) p ∙ drop_through-append 10 line y all))),
+)
 
 -- what is kept of a line that has some bytes, or none
-kept_some : (n : ℕ) (line kept : List ℕ) → kept ≡ take n line → 0 < length kept → 0 < length line
-kept_some n line kept is some = omega (arith, ap length is, length-take n line, some)
+pub kept_some : (n : ℕ) (line kept : List ℕ) → kept ≡ take n line → (length kept == 0) ≡ false → 0 < length line
+kept_some n line [] is some = absurd (true≢false some)
+kept_some n line (x ∷ kept) is some = omega (arith, ap length is, length-take n line)
 
-empty : (line : List ℕ) → length line ≡ 0 → line ≡ []
-empty [] none = refl
-empty (x ∷ line) none = absurd (omega (arith, none))
-
-kept_none : (n : ℕ) (line kept : List ℕ) → 0 < n → kept ≡ take n line → length kept ≡ 0 → line ≡ []
-kept_none n line kept many is none = empty line (omega (arith, many, ap length is, length-take n line, none))
-
--- what is read where the input ends
-pub ends : (a b c : Option (List ℕ)) (line kept : List ℕ) (r : Next) → All (λ x. x ≢ 10) line → Consumes a b line → IsAtEnd b → Keeps b c → kept ≡ take most_kept line → IsLastRead kept r
-    → IsNextLine a c kept r
-ends a b c line kept Line all p end same is last = (line, last_line a b c line all p end same (kept_some most_kept line kept is last), is)
-ends a b c line kept End all p end same is last = at_end a b line p end (kept_none most_kept line kept (omega arith) is last)
-ends a b c line kept Failed all p end same is last = absurd last
-ends a b c line kept NoMemory all p end same is last = absurd last
-
--- what is read where memory was refused
-pub passes : (a b c d : Option (List ℕ)) (line kept : List ℕ) (r : Next) → All (λ x. x ≢ 10) line → Consumes a b line → IfSome b (λ text. 0 < length text) → Keeps b c
-    → IsPassed c d r → IsNextLine a d kept r
-passes a b c d line kept Line all p some same went = absurd went
-passes a b c d line kept End all p some same went = absurd went
-passes a b c d line kept Failed all p some same went = went
-passes a b c d line kept NoMemory all p some same went = passed a b c d line all p some same went
+pub kept_none : (n : ℕ) (line kept : List ℕ) → 0 < n → kept ≡ take n line → length kept ≡ 0 → line ≡ []
+kept_none n line kept many is none = nil_from_length line (omega (arith, many, ap length is, length-take n line, none))

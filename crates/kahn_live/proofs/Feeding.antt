@@ -1,25 +1,6 @@
--- Lines that are fed behind those of the input, and that what went out stays right.
-use Rattle.kahn_live.proofs.Common.{arith, ◌≡◌, ◌∙◌, ◌<◌, inl, inr, ℕ, zero, suc, Bool, true, false, true≢false, List, [], ◌∷◌, length, take, Option, None, Some, Result, Ok, Err, refl, sym, ap, subst, Verdict, Fault, list_any, ◌&&◌, nat_lt, HasLetGoAt, are_rows, next_of, row_count, HasTaken, IsMeantLine, IsTakenLine, IsUnfedBy, Live, pace_after, pace_of, TakeFault, at_end_number, HasMissed, IsBrokenOff, IsToldBy, LiveTelling, Point, WasAnswered, WasMet, AreFed, AreRead, AreTaken, IsAnyMet, IsCutOff, IsFirstPart, IsFirstUnmeant, IsReadBy, IsReadIn, is_idle, fed_text, most_kept, unmarked, AreMeant, row_names, AreEachMet, LinesGiven, IsShown}
-use Rattle.kahn_session.specs.{Pace.Pace, declared.fault.TakeFault.TheVariants.TooLong, declared.fault.TakeFault.TheVariants.NotUtf8, declared.fault.TakeFault.TheVariants.BadLine, declared.fault.TakeFault.TheVariants.BadValue, declared.fault.TakeFault.TheVariants.BadRow, declared.fault.TakeFault.TheVariants.Feed, declared.fault.TakeFault.TheVariants.NoMemory, declared.fault.TakeFault.TheVariants.Write}
-
--- one line more was fed
-pub fed_more : (line : List ℕ) (lines rest : List (List ℕ)) (old new : Point) → rest ≡ line ∷ lines → WasAnswered at_end_number line old new → (p : Point) → AreFed lines new p
-    → AreFed rest old p
-fed_more line lines rest old new split met p fed = subst (λ (ls : List (List ℕ)). AreFed ls old p) (sym split) (new, met, fed)
-
--- a line behind stopped the run
-pub cut_more : (line : List ℕ) (lines rest : List (List ℕ)) (old new : Point) → rest ≡ line ∷ lines → WasAnswered at_end_number line old new → (p : Point) (fault : Fault)
-    → IsCutOff lines new p fault → IsCutOff rest old p fault
-cut_more line lines rest old new split met p fault cut = subst (λ (ls : List (List ℕ)). IsCutOff ls old p fault) (sym split) (inr (new, met, cut))
-
--- this one did
-pub cut_here : (line : List ℕ) (lines rest : List (List ℕ)) (old new : Point) (fault : Fault) → rest ≡ line ∷ lines → IsBrokenOff line old new fault → IsCutOff rest old new fault
-cut_here line lines rest old new fault split broken = subst (λ (ls : List (List ℕ)). IsCutOff ls old new fault) (sym split) (inl broken)
-
--- there is an input channel of the name
-pub begun_there : (input : Option (List ℕ)) (old new : Point) (b : Bool) → b ≡ true → IsFirstPart input old new (Ok b) → IsFirstPart input old new (Ok true)
-begun_there input old new true there begun = begun
-begun_there input old new false there begun = absurd (true≢false (sym there))
+-- What went out stays right, line by line.
+use Rattle.kahn_live.proofs.Common.{[], arith, ◌≡◌, ◌∙◌, ◌<◌, inl, inr, ℕ, zero, suc, Bool, true, false, true≢false, List, ◌∷◌, length, map, string_bytes, Global, String, take, Option, None, Some, Result, Ok, Err, sym, ap, subst, Verdict, Fault, list_any, ◌&&◌, nat_lt, HasLetGoAt, are_rows, next_of, row_count, HasTaken, IsTakenLine, Live, pace_after, pace_of, TakeFault, at_end_number, HasMissed, IsToldBy, LiveTelling, Point, WasAnswered, WasMet, AreFed, AreRead, AreTaken, IsAnyMet, IsReadBy, IsReadIn, is_idle, fed_text, most_kept, unmarked, row_names, AreEachMet, IsShown}
+use Rattle.kahn_session.specs.{Pace.Pace, declared.fault.TakeFault.TheVariants.Write}
 
 -- ---- what went out is right after each line
 
@@ -43,14 +24,8 @@ let_go line old new before after v t =
 taken : (number : ℕ) (line : List ℕ) (p q : LiveTelling) (old new : Live) (before after : Option (List ℕ)) (answer : Result Verdict TakeFault) → IsToldBy new number line answer p q
     → IsTakenLine line old new before after answer → IsShown old → IsShown new
 taken number line p q old new before after (Ok v) told t was = let_go line old new before after v t
-taken number line p q old new before after (Err TooLong) told t was = stays old new t.same was
-taken number line p q old new before after (Err NotUtf8) told t was = stays old new t.same was
-taken number line p q old new before after (Err BadLine) told t was = stays old new t.same was
-taken number line p q old new before after (Err BadValue) told t was = stays old new t.same was
-taken number line p q old new before after (Err BadRow) told t was = stays old new t.same was
-taken number line p q old new before after (Err (Feed f)) told t was = stays old new t.same was
-taken number line p q old new before after (Err NoMemory) told t was = stays old new t.same was
 taken number line p q old new before after (Err (Write f)) told t was = absurd (true≢false told.1)
+taken number line p q old new before after (Err f) told t was = stays old new t.same was
 
 answered : (number : ℕ) (line : List ℕ) (old new : Point) → WasAnswered number line old new → IsShown old.session → IsShown new.session
 answered number line old new (answer, (told, (sent, t, kept))) was = taken number line old.told new.told old.session new.session old.out sent answer told t was
@@ -111,22 +86,7 @@ fed [] old new same was = stays old.session new.session (ap (λ (p : Point). p.s
 fed (line ∷ lines) old new (next, a, rest) was = fed lines next new rest (answered at_end_number line old next a was)
 
 -- where all lines were met
-pub all_shown : (f : LinesGiven) (text : Option (List ℕ)) (old new : Point) → AreEachMet f (Ok true) text old new → IsShown new.session
-all_shown f text old new (begun, first, (ready, last, (unchanged, quiet_out, said), (n, rest, ended, are, (quiet, (same, still)), out), behind)) =
-    fed f.at_end last new behind
-    (stays ended.session last.session same (read f.input n text rest ready ended are (stays begun.session ready.session unchanged (first_in (row_names f.input) f.input [] old begun first))))
-
--- ---- the lines behind are tried before
-
--- this one is meant for an input channel
-pub meant_more : (s : Live) (line : List ℕ) (lines rest : List (List ℕ)) → rest ≡ line ∷ lines → IsMeantLine line s.flow.run.network → AreMeant s lines → AreMeant s rest
-meant_more s line lines rest split meant are = subst (λ (ls : List (List ℕ)). AreMeant s ls) (sym split) (meant, are)
-
--- one behind it isn't
-pub unmeant_more : (s : Live) (line : List ℕ) (lines rest : List (List ℕ)) → rest ≡ line ∷ lines → IsMeantLine line s.flow.run.network → (l : List ℕ) (f : TakeFault)
-    → IsFirstUnmeant s lines l f → IsFirstUnmeant s rest l f
-unmeant_more s line lines rest split meant l f first = subst (λ (ls : List (List ℕ)). IsFirstUnmeant s ls l f) (sym split) (inr (meant, first))
-
--- this one isn't
-pub unmeant_here : (s : Live) (line : List ℕ) (lines rest : List (List ℕ)) (f : TakeFault) → rest ≡ line ∷ lines → IsUnfedBy line s.flow f → IsFirstUnmeant s rest line f
-unmeant_here s line lines rest f split why = subst (λ (ls : List (List ℕ)). IsFirstUnmeant s ls line f) (sym split) (inl (refl, why))
+pub all_shown : (input : Option (List ℕ)) (at_end : List (String Global)) (text : Option (List ℕ)) (old new : Point) → AreEachMet input at_end (Ok true) text old new → IsShown new.session
+all_shown input at_end text old new (begun, first, (ready, last, (unchanged, quiet_out, said), (n, rest, ended, are, (quiet, (same, still)), out), behind)) =
+    fed (map string_bytes at_end) last new behind
+    (stays ended.session last.session same (read input n text rest ready ended are (stays begun.session ready.session unchanged (first_in (row_names input) input [] old begun first))))

@@ -1,7 +1,7 @@
 pub mod Begun
 pub mod Cutting
 pub mod Feeding
-mod Kept
+pub mod Kept
 pub mod Meeting
 pub mod Rowing
 pub mod Whole

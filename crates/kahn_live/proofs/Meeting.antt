@@ -1,26 +1,18 @@
 -- What lines make, one after the other.
-use Rattle.kahn_live.proofs.Common.{◌≡◌, ◌∙◌, inl, inr, ℕ, zero, suc, take, Bool, true, false, true≢false, List, [], None, Some, Option, Result, Ok, Err, IfOk, is_err, MatchResult, append-nil, refl, sym, ap, subst, Keeps-refl, ◌||◌, Appends, Verdict, AppendsFront, Writes, Fault, HasVerdict, IsTakenLine, Live, breaks, TakeFault, WasAnswered, WasFed, HasSent, HasWaited, IsAnswerTold, IsFaultPut, IsLineMet, IsNewFault, IsPartTold, IsToldBy, IsVerdictTold, Point, LiveTelling, is_verdict_new, AreRead, IsCome, IsHearing, IsNextMet, IsNoneCome, IsSource, IsStep, IsNextLine, Next, Line, End, Failed, NoMemory}
+use Rattle.kahn_live.proofs.Common.{[], ◌≡◌, ◌∙◌, inl, inr, ℕ, zero, suc, take, Bool, true, false, true≢false, List, None, Some, Option, Result, Ok, Err, IfOk, is_err, MatchResult, append-nil, refl, sym, ap, Keeps-refl, ◌||◌, Appends, Verdict, AppendsFront, Writes, Fault, HasVerdict, IsTakenLine, Live, breaks, TakeFault, WasAnswered, WasFed, HasSent, HasWaited, IsAnswerTold, IsLineMet, IsNewFault, IsPartTold, Point, LiveTelling, is_verdict_new, IsCome, IsSource, IsNextLine, Next, Line, End, Failed, NoMemory}
 use Rattle.kahn_streams.specs.declared.value.Failure.{Failure}
 
 -- what the session made of a line, where no byte more went out since
 fed_since : (line : List ℕ) (answer : Result Verdict TakeFault) (old mid new : Point) → IsTakenLine line old.session mid.session old.out mid.out answer → HasWaited mid new
     → WasFed line answer old new
-fed_since line answer old mid new taken (same, kept) = (mid.out, subst (λ (s : Live). IsTakenLine line old.session s old.out mid.out answer) (sym same) taken, kept)
+fed_since line answer old mid new taken (same, kept) = (mid.out, rw (sym same) at taken, kept)
 
 -- a line that was fed, and what is told of it
 pub line_met : (number : ℕ) (line : List ℕ) (answer : Result Verdict TakeFault) (old mid new : Point) (r : Result (Option TakeFault) Fault) → mid.told ≡ old.told
     → IsTakenLine line old.session mid.session old.out mid.out answer → IsAnswerTold number line answer mid new r → IsLineMet number line old new r
-line_met number line answer old mid new (Ok None) quiet taken ((v, is), told, waited) = (
-  v,
-  (
-    subst (λ (a : Result Verdict TakeFault). IsToldBy new.session number line a old.told new.told) is (subst (λ (t : LiveTelling). IsToldBy new.session number line answer t new.told) quiet told),
-    subst (λ (a : Result Verdict TakeFault). WasFed line a old new) is (fed_since line answer old mid new taken waited),
-  ),
-)
-line_met number line answer old mid new (Ok (Some f)) quiet taken (is, told, waited) = (
-  subst (λ (a : Result Verdict TakeFault). IsToldBy new.session number line a old.told new.told) is (subst (λ (t : LiveTelling). IsToldBy new.session number line answer t new.told) quiet told),
-  subst (λ (a : Result Verdict TakeFault). WasFed line a old new) is (fed_since line answer old mid new taken waited),
-)
+line_met number line answer old mid new (Ok None) quiet taken ((v, is), told, waited) =
+    (v, (rw (quiet, is) at told, rw is at (fed_since line answer old mid new taken waited)))
+line_met number line answer old mid new (Ok (Some f)) quiet taken (is, told, waited) = (rw (quiet, is) at told, rw is at (fed_since line answer old mid new taken waited))
 line_met number line answer old mid new (Err fault) quiet taken (why, (still, waited)) =
     (why, still ∙ quiet, inr (answer, fed_since line answer old mid new taken waited))
 
@@ -33,30 +25,14 @@ settled_by line old new before after (Err f) taken whole = tt
 -- a session is whole after a line that was told of
 pub still_whole : (number : ℕ) (line : List ℕ) (answer : Result Verdict TakeFault) (mid new : Point) (r : Result (Option TakeFault) Fault)
     → MatchResult answer (λ _. mid.session.broken ≡ false) (λ f. mid.session.broken ≡ breaks f) → IsAnswerTold number line answer mid new r → IfOk r (λ _. new.session.broken ≡ false)
-still_whole number line answer mid new (Ok None) whole ((v, is), told, (same, kept)) =
-    ap (λ (s : Live). s.broken) same ∙ subst (λ (a : Result Verdict TakeFault). MatchResult a (λ _. mid.session.broken ≡ false) (λ f. mid.session.broken ≡ breaks f)) is whole
-still_whole number line answer mid new (Ok (Some f)) whole (is, told, (same, kept)) =
-    let named = subst (λ (a : Result Verdict TakeFault). MatchResult a (λ _. mid.session.broken ≡ false) (λ f. mid.session.broken ≡ breaks f)) is whole in
-    let kind = subst (λ (a : Result Verdict TakeFault). IsToldBy new.session number line a mid.told new.told) is told in
-    ap (λ (s : Live). s.broken) same ∙ named ∙ kind.1
+still_whole number line answer mid new (Ok None) whole ((v, is), told, (same, kept)) = ap (λ (s : Live). s.broken) same ∙ (rw is at whole)
+still_whole number line answer mid new (Ok (Some f)) whole (is, told, (same, kept)) = ap (λ (s : Live). s.broken) same ∙ (rw is at whole) ∙ (rw is at told).1
 still_whole number line answer mid new (Err fault) whole told = tt
 
 -- a line that was met, as one behind those of the input
 pub answered_of : (number : ℕ) (line : List ℕ) (old new : Point) (r : Option TakeFault) → IsLineMet number line old new (Ok r) → WasAnswered number line old new
 answered_of number line old new None (v, met) = (Ok v, met)
 answered_of number line old new (Some f) met = (Err f, met)
-
--- one line more
-pub next_read : (input : Option (List ℕ)) (n number : ℕ) (text left rest : Option (List ℕ)) (old last new : Point) (b : Bool) → b ≡ true → number ≡ suc n
-    → AreRead input n text left old last → IsHearing last.session → IsNextMet input number (Ok b) left rest last new → AreRead input (suc n) text rest old new
-next_read input n number text left rest old last new true more is are hearing step = (left, last, are, hearing, subst (λ (k : ℕ). IsStep input k left rest last new) is step)
-next_read input n number text left rest old last new false more is are hearing step = absurd (true≢false (sym more))
-
--- no line more
-pub next_none : (input : Option (List ℕ)) (number : ℕ) (text rest : Option (List ℕ)) (old new : Point) (b : Bool) → b ≡ false → IsNextMet input number (Ok b) text rest old new
-    → IsNoneCome old.session text × HasSent old new
-next_none input number text rest old new false none met = met
-next_none input number text rest old new true none met = absurd (true≢false none)
 
 -- a line that was read, where there is an input channel
 pub come_read : (s : Live) (text rest : Option (List ℕ)) (kept : List ℕ) (r : Next) → IsSource s false → IsNextLine text rest kept r → IsCome s text rest kept r
@@ -75,24 +51,10 @@ unmoved p = (refl, (refl, Keeps-refl p.out))
 
 -- a part of which there is nothing to tell
 pub none_told : (s : Live) (number : ℕ) (line : List ℕ) (v : Verdict) (told : LiveTelling) (first : Option (ℕ × Failure)) (wanted : Bool)
-    → IsNewFault told.complaints.faulted s.flow.run first → wanted ≡ is_verdict_new told.complaints line v → wanted ≡ false → first ≡ None → IsPartTold s number line v told told
-none_told s number line v told first wanted new is not none = (
-  first,
-  told,
-  told,
-  new,
-  subst (λ (b : Bool). IsVerdictTold number b v told told) (sym not ∙ is) refl,
-  subst (λ (f : Option (ℕ × Failure)). IsFaultPut number s.flow.run.network f told told) (sym none) refl,
-  inl refl,
-)
+    → IsNewFault told.faulted s.flow.run first → wanted ≡ is_verdict_new told line v → wanted ≡ false → first ≡ None → IsPartTold s number line v told told
+none_told s number line v told first wanted new is not none = (first, told, told, new, rw (sym is ∙ not) refl, rw none refl, inl refl)
 
 -- ---- what was written is told
-
-pub either : (a b : Bool) → (a || b) ≡ (b || a)
-either true true = refl
-either true false = refl
-either false true = refl
-either false false = refl
 
 neither : (a b : Bool) → (a || b) ≡ false → a ≡ false
 neither true b e = e

@@ -1,5 +1,5 @@
 -- The lines of a row, one after the other.
-use Rattle.kahn_live.proofs.Common.{arith, not, ◌≡◌, ◌∙◌, ◌<◌, inl, inr, ℕ, Bool, true, List, [], ◌∷◌, ◌++◌, length, map, take, drop, Option, None, Some, Result, Ok, Err, refl, sym, ap, ap₂, subst, Verdict, Fault, HeldRun, IsMeantLine, IsStreamOf, Live, TakeFault, IsAloneMet, IsBrokenOff, IsLineMet, Point, WasMet, no_memory, AreTaken, IsTornOff, Global, Vec, length-drop, list_any, position_or_len, ◌==◌, AreCells, AreMeant, HaveStreams, IsRowFront, bare_of, behind_word, bytes_in, row_line, row_names, first_word, from_word, is_row_gap, is_wordless}
+use Rattle.kahn_live.proofs.Common.{[], arith, not, ◌≡◌, ◌∙◌, ◌<◌, inl, ℕ, Bool, true, List, ◌∷◌, ◌++◌, length, map, take, drop, Option, None, Some, Result, Ok, Err, refl, sym, ap, ap₂, subst, Fault, HeldRun, IsMeantLine, Live, stream_of, TakeFault, IsAloneMet, IsBrokenOff, IsLineMet, Point, Global, Vec, length-drop, list_any, position_or_len, ◌==◌, AreCells, AreMeant, HaveStreams, IsRowFront, bare_of, behind_word, bytes_in, row_line, row_names, first_word, from_word, is_row_gap, is_wordless}
 use Rattle.std.proofs.lemmas.List.{length-take}
 use Rattle.std.specs.Prelude.{if◌then◌else◌}
 
@@ -31,39 +31,18 @@ front_more s names row cells new rest left cell (are, meant) some fits is one gr
 
 -- the stream of one name more
 pub streams_more : (h : HeldRun) (names : List ℕ) (numbers new : List ℕ) (rest : List ℕ) (number : ℕ) → HaveStreams h names numbers rest → 0 < length (first_word rest)
-    → IsStreamOf h number (first_word rest) → new ≡ numbers ++ (number ∷ []) → HaveStreams h names new (behind_word rest)
+    → stream_of h (first_word rest) ≡ Some number → new ≡ numbers ++ (number ∷ []) → HaveStreams h names new (behind_word rest)
 streams_more h names numbers new rest number are some here grown =
     subst (λ (ns : List ℕ). HaveStreams h names ns (behind_word rest)) (sym grown) (by names numbers are)
   where
     by : (names numbers : List ℕ) → HaveStreams h names numbers rest → HaveStreams h names (numbers ++ (number ∷ [])) (behind_word rest)
-    by names [] is = (subst (λ (n : List ℕ). 0 < length (first_word n)) is some, subst (λ (n : List ℕ). IsStreamOf h number (first_word n)) is here, ap behind_word is)
+    by names [] is = (subst (λ (n : List ℕ). 0 < length (first_word n)) is some, subst (λ (n : List ℕ). stream_of h (first_word n) ≡ Some number) is here, ap behind_word is)
     by names (n ∷ ns) (some0, here0, more) = (some0, here0, by (behind_word names) ns more)
 
 -- a line that isn't one of a row
 pub alone_met : (number : ℕ) (line fed : List ℕ) (old new : Point) (r : Result (Option TakeFault) Fault) → fed ≡ line → IsLineMet number fed old new r → IsAloneMet number line old new r
 alone_met number line fed old new (Ok r) is met = inl (subst (λ (l : List ℕ). IsLineMet number l old new (Ok r)) is met)
 alone_met number line fed old new (Err fault) is met = subst (λ (l : List ℕ). IsBrokenOff l old new fault) is met
-
--- a line of a row was taken, and those behind it
-pub taken_more : (number : ℕ) (line : List ℕ) (lines rest : List (List ℕ)) (old new : Point) (v : Verdict) → rest ≡ line ∷ lines → WasMet number line (Ok v) old new → (p : Point)
-    → AreTaken number lines new p → AreTaken number rest old p
-taken_more number line lines rest old new v split met p are = subst (λ (ls : List (List ℕ)). AreTaken number ls old p) (sym split) (v, new, met, are)
-
--- one behind it stopped the run
-pub torn_more : (number : ℕ) (line : List ℕ) (lines rest : List (List ℕ)) (old new : Point) (v : Verdict) → rest ≡ line ∷ lines → WasMet number line (Ok v) old new → (p : Point)
-    (fault : Fault) → IsTornOff number lines new p fault → IsTornOff number rest old p fault
-torn_more number line lines rest old new v split met p fault torn = subst (λ (ls : List (List ℕ)). IsTornOff number ls old p fault) (sym split) (inr (inr (v, new, met, torn)))
-
--- this one did, since nothing can be written, or since it was refused
-pub torn_off : (number : ℕ) (line : List ℕ) (lines rest : List (List ℕ)) (old new : Point) (fault : Fault) → rest ≡ line ∷ lines → IsBrokenOff line old new fault
-    → IsTornOff number rest old new fault
-torn_off number line lines rest old new fault split broken = subst (λ (ls : List (List ℕ)). IsTornOff number ls old new fault) (sym split) (inl broken)
-
-pub torn_refused : (number : ℕ) (line : List ℕ) (lines rest : List (List ℕ)) (old new : Point) (o : Option TakeFault) {f : TakeFault} → o ≡ Some f → (fault : Fault)
-    → rest ≡ line ∷ lines → IsLineMet number line old new (Ok o) → fault ≡ no_memory → IsTornOff number rest old new fault
-torn_refused number line lines rest old new (Some f) same fault split met is =
-    subst (λ (ls : List (List ℕ)). IsTornOff number ls old new fault) (sym split) (inr (inl (f, met, is)))
-torn_refused number line lines rest old new None same fault split met is = absurd cc
 
 -- behind a word there are fewer bytes
 split_less : (k : ℕ) (from : List ℕ) → 0 < length (take k from) → length (drop k from) < length from

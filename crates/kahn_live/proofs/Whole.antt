@@ -1,13 +1,7 @@
 -- What a whole run is made of.
-use Rattle.kahn_live.proofs.Common.{◌≡◌, ◌∙◌, inr, ℕ, Bool, true, false, true≢false, eqb, List, [], None, Some, Option, Result, Ok, Err, if◌then◌else◌, refl, sym, ap, subst, reader_buffer, reader_capacity, reader_inner, reader_remaining, prepend_known, Program, Fault, PlainNames, HasOpened, Live, Point, LiveTelling, AreAllMet, LinesGiven, HasServed, IsInForm, IsSetUp}
+use Rattle.kahn_live.proofs.Common.{[], ◌≡◌, ◌∙◌, inr, ℕ, eqb, List, None, Some, Option, Result, Ok, Err, if◌then◌else◌, refl, ap, reader_buffer, reader_capacity, reader_inner, reader_remaining, prepend_known, Program, PlainNames, HasOpened, Live, IsInForm, IsSetUp}
 use Rattle.std.specs.declared.io.buffered.BufReader.{BufReader}
 use Rattle.kahn_streams.specs.{declared.config.Config.Config, declared.fault.RunFault.RunFault}
-use Rattle.kahn_live.specs.declared.serving.RunEnding.{RunEnding}
-
--- there is an input channel of the name
-pub all_there : (f : LinesGiven) (text : Option (List ℕ)) (old new : Point) (b : Bool) → b ≡ true → AreAllMet f (Ok b) text old new → AreAllMet f (Ok true) text old new
-all_there f text old new true there met = met
-all_there f text old new false there met = absurd (true≢false (sym there))
 
 prepend_none : (m : Option (List ℕ)) → prepend_known [] m ≡ m
 prepend_none None = refl
@@ -24,11 +18,3 @@ fresh left r input inner empty room =
 pub set_up : (plain : Option PlainNames) (t : Program) (config : Config) (first : Live) (r : Result Live RunFault) → HasOpened t config first → IsInForm plain first r → IsSetUp plain t config r
 set_up plain t config first (Ok s) opened formed = (first, opened, formed)
 set_up plain t config first (Err f) opened formed = inr (first, opened, formed)
-
--- the same lines, behind the same bytes
-pub served_as : (strict : Bool) (named input : Option (List ℕ)) (at_end : List (List ℕ)) (s : Live) (text before out : Option (List ℕ)) (old : LiveTelling) (last : Point) (r : Result RunEnding Fault)
-    → named ≡ input → before ≡ out → HasServed strict (record { input = named; at_end = at_end }) r text (record { session = s; out = before; told = old }) last
-    → HasServed strict (record { input = input; at_end = at_end }) r text (record { session = s; out = out; told = old }) last
-served_as strict named input at_end s text before out old last r is same served =
-    subst (λ (n : Option (List ℕ)). HasServed strict (record { input = n; at_end = at_end }) r text (record { session = s; out = out; told = old }) last) is
-    (subst (λ (o : Option (List ℕ)). HasServed strict (record { input = named; at_end = at_end }) r text (record { session = s; out = o; told = old }) last) same served)

@@ -1,20 +1,28 @@
 -- Believed. What lines make, one after the other, of a session, of what goes out and of what is told (this project's profile).
-use Rattle.std.specs.Prelude.{◌≡◌, ◌⊎◌, ℕ, ◌-◌, Bool, true, false, not, ◌||◌, ◌&&◌, ◌==◌, List, [], ◌∷◌, Option, None, Some, codes, if◌then◌else◌, string_bytes, Result, Ok, Err}
-use Rattle.std.specs.{Io.KnownBytes.Appends, Io.KnownBytes.Keeps, Option.is_none, Str.bytes_eq, List.before_first, IoError.error_kind, declared.io.Error.Error, declared.io.ErrorKind.TheVariants.BrokenPipe, Io.Buffered.reader_remaining, declared.io.buffered.BufReader.BufReader}
-use Rattle.kahn_streams.specs.{declared.answer.End.End, declared.answer.Verdict.Verdict, declared.answer.Verdict.TheVariants.Finished, declared.answer.Verdict.TheVariants.Bound, declared.answer.Verdict.TheVariants.Memory, declared.fault.RunFault.TheVariants.NoMemory as NoMemoryRun, Written.AppendsFront, declared.feeds.FeedFault.FeedFault, declared.tree.Program.Program as Tree, declared.value.Failure.Failure}
+use Rattle.std.specs.Prelude.{◌≡◌, ◌⊎◌, ℕ, ◌-◌, Bool, true, false, not, ◌||◌, ◌&&◌, ◌==◌, List, [], Option, None, Some, codes, if◌then◌else◌, length, string_bytes, Result, Ok, Err}
+use Rattle.std.specs.{Io.KnownBytes.Appends, Io.KnownBytes.Keeps, Str.bytes_eq, List.before_first, IoError.error_kind, declared.io.Error.Error, declared.io.ErrorKind.TheVariants.BrokenPipe, Io.Buffered.reader_remaining, declared.io.buffered.BufReader.BufReader}
+use Rattle.kahn_streams.specs.{declared.answer.End.End, declared.answer.Verdict.Verdict, declared.answer.Verdict.TheVariants.Finished, declared.answer.Verdict.TheVariants.Bound, declared.answer.Verdict.TheVariants.Memory, declared.fault.RunFault.TheVariants.NoMemory as NoMemoryRun, Written.AppendsFront, declared.tree.Program.Program as Tree, declared.value.Failure.Failure}
 use Rattle.kahn_texts.specs.{declared.bytes.WriteFault.WriteFault, Formats.content, declared.read.ReadFault.TheVariants.Failed as FailedRead}
 use Rattle.kahn_sequential.specs.HeldRuns.{HeldRun, IsRightSoFar}
 use Rattle.kahn_inputs.specs.{declared.refused.RefusedPart.RefusedPart, Fitting.line_name, Refused.IsHeadPart, Refused.IsKindPart, Refused.IsValuePart}
 use Rattle.kahn_hints.specs.Inputs.{input_names, inputs_words, unknown_input}
 use Rattle.kahn_fault.specs.{declared.work.WorkFault.TheVariants.Run as RunWork, declared.work.WorkFault.TheVariants.Write as WriteWork, declared.fault.Fault.Fault, declared.fault.Fault.TheVariants.Program, declared.fault.Fault.TheVariants.Work}
-use Rattle.kahn_session.specs.{Live.IsFirstFault, Live.IsFirstInput, Live.IsRinged, Live.IsTakenLine, Live.Live, Live.breaks, Refusals.alike_text, Refusals.failed_text, Refusals.is_want, Refusals.line_note, Refusals.refusal_text, Refusals.take_words, declared.fault.TakeFault.TakeFault, declared.fault.TakeFault.TheVariants.BadLine, declared.fault.TakeFault.TheVariants.BadValue, declared.fault.TakeFault.TheVariants.Feed, declared.fault.TakeFault.TheVariants.NoMemory}
+use Rattle.kahn_session.specs.{Live.IsFirstFault, Live.IsFirstInput, Live.IsRinged, Live.IsTakenLine, Live.Live, Live.breaks, Refusals.alike_text, Refusals.bare_line, Refusals.failed_text, Refusals.is_want, Refusals.line_note, Refusals.refusal_line, Refusals.take_words, declared.fault.TakeFault.TakeFault, declared.fault.TakeFault.TheVariants.BadLine, declared.fault.TakeFault.TheVariants.BadValue, declared.fault.TakeFault.TheVariants.Feed, declared.fault.TakeFault.TheVariants.NoMemory}
 use Rattle.kahn_why.specs.Why.{AreCauses}
-use Rattle.kahn_live.specs.{Lines.is_bare_line, declared.stage.LiveStage.LiveStage, declared.telling.Teller.Teller}
+use Rattle.kahn_live.specs.{Lines.is_bare_line, declared.taking.LiveStage.LiveStage, declared.telling.Teller.Teller}
 use Rattle.kahn_streams.specs.declared.feeds.FeedFault.TheVariants as feed
 
--- the lines that were refused so far; those refused in a row for one reason are told of by the first, and by how many they are more
-pub record Complaints : Type 0 where
-  -- why the last one was
+-- what is told on standard error; lines that are refused in a row for one reason are told of by the first, and by how many they are more
+pub record LiveTelling : Type 0 where
+  pub bytes : Option (List ℕ)
+  -- whether a write failed: then not all that is told stands there
+  pub failed : Bool
+  -- whether a refused line leaves the status as it is, if it isn't lost for want of memory, and whether one counts
+  pub keep_going : Bool
+  pub refused : Bool
+  -- the program's file
+  pub path : List ℕ
+  -- why the last line that was refused was
   pub last : Option TakeFault
   -- the number of the one that was told, and that of the last one
   pub first : ℕ
@@ -30,21 +38,6 @@ pub record Complaints : Type 0 where
   -- whether it was told that processes wait on one another in a ring
   pub ringed : Bool
 
--- what is told on standard error
-pub record LiveTelling : Type 0 where
-  pub bytes : Option (List ℕ)
-  -- whether a write failed: then not all that is told stands there
-  pub failed : Bool
-  -- whether a refused line leaves the status as it is, if it isn't lost for want of memory, and whether one counts
-  pub keep_going : Bool
-  pub refused : Bool
-  -- the program's file
-  pub path : List ℕ
-  pub complaints : Complaints
-
-abbrev pub complaints_of : {E : Type 0} → Teller E → Complaints
-complaints_of t = record { last = t.last; first = t.first; number = t.number; hinted = t.hinted; stepped = t.stepped; waited = t.waited; faulted = t.faulted; ringed = t.ringed }
-
 abbrev pub telling_of : {E : Type 0} → (E → Option (List ℕ)) → Teller E → LiveTelling
 telling_of contents t = record {
   bytes = contents t.errors;
@@ -52,7 +45,14 @@ telling_of contents t = record {
   keep_going = t.keep_going;
   refused = t.refused;
   path = string_bytes t.path;
-  complaints = complaints_of t;
+  last = t.last;
+  first = t.first;
+  number = t.number;
+  hinted = t.hinted;
+  stepped = t.stepped;
+  waited = t.waited;
+  faulted = t.faulted;
+  ringed = t.ringed;
 }
 
 -- a session, the bytes that were written for it, and what is told
@@ -70,26 +70,24 @@ abbrev pub Across : {I A W E : Type 0} → (I → Option (List ℕ)) → (W → 
 Across left written said before after old new holds =
     holds (reader_remaining left before) (reader_remaining left after) (point_of written said old) (point_of written said new)
 
+-- the same, whatever is left after
+abbrev pub Through : {I A W E : Type 0} → (I → Option (List ℕ)) → (W → Option (List ℕ)) → (E → Option (List ℕ)) → BufReader I A → LiveStage W E → LiveStage W E
+    → (Option (List ℕ) → Point → Point → Type 0) → Type 0
+Through left written said before old new holds = holds (reader_remaining left before) (point_of written said old) (point_of written said new)
+
 -- this holds of the points
 abbrev pub AcrossStage : {W E : Type 0} → (W → Option (List ℕ)) → (E → Option (List ℕ)) → LiveStage W E → LiveStage W E → (Point → Point → Type 0) → Type 0
 AcrossStage written said old new holds = holds (point_of written said old) (point_of written said new)
 
--- the text was told, or after a fault of the writer a prefix of it; and a line counts as refused from here on, or none does
-pub record WasToldOf (text : List ℕ) (counts : Bool) (known : Complaints) (old new : LiveTelling) : Type 0 where
+-- the text was told, or after a fault of the writer a prefix of it; nothing else changed
+pub record WasTold (text : List ℕ) (old new : LiveTelling) : Type 0 where
   pub front : AppendsFront old.bytes new.bytes text
   pub whole : new.failed ≡ false → (old.failed ≡ false) × Appends old.bytes new.bytes text
-  pub keep_going : new.keep_going ≡ old.keep_going
-  pub refused : new.refused ≡ (counts || old.refused)
-  pub path : new.path ≡ old.path
-  pub complaints : new.complaints ≡ known
-
--- the same, and no line was refused
-abbrev pub WasTold : List ℕ → LiveTelling → LiveTelling → Type 0
-WasTold text old new = WasToldOf text false old.complaints old new
+  pub rest : new ≡ record old { bytes = new.bytes; failed = new.failed }
 
 -- how many lines more were refused was told
 abbrev pub IsMoreTold : LiveTelling → LiveTelling → Type 0
-IsMoreTold old new = WasToldOf (alike_text old.path (old.complaints.number - old.complaints.first)) false (record old.complaints { first = old.complaints.number }) old new
+IsMoreTold old new = WasTold (alike_text old.path (old.number - old.first)) (record old { first = old.number }) new
 
 -- ---- a line that is refused
 
@@ -103,38 +101,31 @@ abbrev pub is_next : ℕ → ℕ → Bool
 is_next number before = not (number == 0) && number - 1 == before
 
 -- whether the line of this number is refused as the one before it, and nothing more is to be said of it
-abbrev pub is_again : Complaints → ℕ → TakeFault → Option (List ℕ) → Bool
-is_again k number f hint = (is_none hint && is_next number k.number) && is_alike k.last f
+abbrev pub is_again : LiveTelling → ℕ → TakeFault → Option (List ℕ) → Bool
+is_again k number f None = is_next number k.number && is_alike k.last f
+is_again k number f (Some hint) = false
 
 -- whether a refused line counts: not where refused lines leave the status as it is, unless it was lost for want of memory
 abbrev pub does_count : Bool → TakeFault → Bool
 does_count keep_going f = not keep_going || is_want f
 
--- one line more was refused, and nothing was told
-pub record IsTallied (number : ℕ) (f : TakeFault) (old new : LiveTelling) : Type 0 where
-  pub bytes : new.bytes ≡ old.bytes
-  pub failed : new.failed ≡ old.failed
-  pub keep_going : new.keep_going ≡ old.keep_going
-  pub refused : new.refused ≡ (does_count old.keep_going f || old.refused)
-  pub path : new.path ≡ old.path
-  pub complaints : new.complaints ≡ record old.complaints { number = number }
+-- what is known behind one line more that was refused
+abbrev pub tallied : ℕ → TakeFault → LiveTelling → LiveTelling
+tallied number f k = record k { refused = k.refused || does_count k.keep_going f; number = number }
 
--- whether it was told how bare numbers are taken, now or before
-abbrev pub is_hinted : Option (List ℕ) → Bool → Bool
-is_hinted None before = before
-is_hinted (Some input) before = true
+-- it was counted, and nothing was told
+abbrev pub IsTallied : ℕ → TakeFault → LiveTelling → LiveTelling → Type 0
+IsTallied number f old new = new ≡ tallied number f old
 
--- why the line was refused was told, with a part of it and more words, and this is known then
-abbrev pub IsNewPut : Complaints → ℕ → TakeFault → RefusedPart → Option (List ℕ) → LiveTelling → LiveTelling → Type 0
-IsNewPut known number f part hint old new = WasToldOf (refusal_text old.path number f part.word.now part.words.now hint) (does_count old.keep_going f) known old new
+-- how bare numbers are taken was told, where an input channel is named
+abbrev pub IsHintTold : Option (List ℕ) → LiveTelling → LiveTelling → Type 0
+IsHintTold None old new = new ≡ old
+IsHintTold (Some input) old new = WasTold (bare_line old.path input) (record old { hinted = true }) new
 
-abbrev pub IsNewTold : ℕ → TakeFault → RefusedPart → Option (List ℕ) → LiveTelling → LiveTelling → Type 0
-IsNewTold number f part hint old new =
-    IsNewPut (record old.complaints { last = Some f; first = number; number = number; hinted = is_hinted hint old.complaints.hinted }) number f part hint old new
-
--- the same, behind how many lines more were refused as the one that was told before it
+-- why the line was refused was told, with a part of it and more words, behind how many lines more were refused as the one before it
 abbrev pub IsNextTold : ℕ → TakeFault → RefusedPart → Option (List ℕ) → LiveTelling → LiveTelling → Type 0
-IsNextTold number f part hint old new = (mid : LiveTelling) × IsMoreTold old mid × IsNewTold number f part hint mid new
+IsNextTold number f part hint old new = (mid : LiveTelling) × (last : LiveTelling) × IsMoreTold old mid
+    × WasTold (refusal_line mid.path number f part.word.now part.words.now) (record (tallied number f mid) { last = Some f; first = number }) last × IsHintTold hint last new
 
 -- the part of the line that is at fault, and what is wanted there
 abbrev pub IsNoPart : List ℕ → List ℕ → Type 0
@@ -151,28 +142,24 @@ abbrev pub IsNameWords : Tree → List ℕ → TakeFault → List ℕ → Type 0
 IsNameWords t line f words = (words ≡ channel_tail t (line_name (content line)) f) ⊎ (words ≡ [])
 
 -- the line's name
-abbrev pub IsNamePart : Tree → List ℕ → FeedFault → List ℕ → List ℕ → Type 0
-IsNamePart t line f part more = (part ≡ line_name (content line)) × IsNameWords t line (Feed f) more
-
-abbrev pub IsFedPart : Tree → List ℕ → FeedFault → List ℕ → List ℕ → Type 0
-IsFedPart t line feed.UnknownName part more = IsNamePart t line feed.UnknownName part more
-IsFedPart t line feed.NotAnInput part more = IsNamePart t line feed.NotAnInput part more
-IsFedPart t line feed.WrongKind part more = IsKindPart t (content line) part more
-IsFedPart t line f part more = IsNoPart part more
+abbrev pub IsNamePart : Tree → List ℕ → TakeFault → List ℕ → List ℕ → Type 0
+IsNamePart t line f part more = (part ≡ line_name (content line)) × IsNameWords t line f more
 
 abbrev pub IsRefusedPart : Tree → List ℕ → TakeFault → List ℕ → List ℕ → Type 0
 IsRefusedPart t line BadLine part more = IsHeadPart (content line) part more
 IsRefusedPart t line BadValue part more = IsValuePart (content line) part more
-IsRefusedPart t line (Feed f) part more = IsFedPart t line f part more
+IsRefusedPart t line (Feed feed.UnknownName) part more = IsNamePart t line (Feed feed.UnknownName) part more
+IsRefusedPart t line (Feed feed.NotAnInput) part more = IsNamePart t line (Feed feed.NotAnInput) part more
+IsRefusedPart t line (Feed feed.WrongKind) part more = IsKindPart t (content line) part more
 IsRefusedPart t line f part more = IsNoPart part more
 
 abbrev pub is_bad_line : TakeFault → Bool
 is_bad_line BadLine = true
 is_bad_line f = false
 
--- whether it is told how bare numbers are taken: where one is refused, and where the line of number 0 is, which names a channel alone
-abbrev pub wants_hint : ℕ → List ℕ → TakeFault → Bool
-wants_hint number line f = if number == 0 then not (is_want f) else is_bad_line f && is_bare_line line
+-- whether it is told now how bare numbers are taken: once, where one is refused, or the line of number 0, which names a channel alone
+abbrev pub wants_hint : Bool → ℕ → List ℕ → TakeFault → Bool
+wants_hint hinted number line f = not hinted && (if number == 0 then not (is_want f) else is_bad_line f && is_bare_line line)
 
 -- the input channel that is named in that
 abbrev pub IsHintBy : Bool → Live → Option (List ℕ) → Type 0
@@ -188,8 +175,8 @@ IsComplaint s number line f hint false old new =
 -- the line that was fed was refused, and that was told
 pub record IsRefused (s : Live) (number : ℕ) (line : List ℕ) (f : TakeFault) (old new : LiveTelling) : Type 0 where
   pub hint : Option (List ℕ)
-  pub named : IsHintBy (not old.complaints.hinted && wants_hint number line f) s hint
-  pub told : IsComplaint s number line f hint (is_again old.complaints number f hint) old new
+  pub named : IsHintBy (wants_hint old.hinted number line f) s hint
+  pub told : IsComplaint s number line f hint (is_again old number f hint) old new
 
 -- what was put off may have been sent: no byte more was written
 abbrev pub HasWaited : Point → Point → Type 0
@@ -199,38 +186,20 @@ HasWaited old new = (new.session ≡ old.session) × Keeps old.out new.out
 abbrev pub HasSent : Point → Point → Type 0
 HasSent old new = (new.told ≡ old.told) × HasWaited old new
 
--- whether it is told that a line wants more events than a part may do: once, and of no empty line, which lets a run go on
-abbrev pub is_step_new : Complaints → List ℕ → Bool
-is_step_new k [] = false
-is_step_new k (b ∷ bs) = not k.stepped
-
--- that the line wants more events than a part may do was told
-abbrev pub IsStepPut : ℕ → LiveTelling → LiveTelling → Type 0
-IsStepPut number old new =
-    WasToldOf (line_note old.path number (codes "wants more events than --step allows, and goes on with the next line")) false (record old.complaints { stepped = true }) old new
-
--- that the part of the line waits for memory was told
-abbrev pub IsWaitPut : ℕ → LiveTelling → LiveTelling → Type 0
-IsWaitPut number old new = WasToldOf (line_note old.path number (codes "waits for memory")) false (record old.complaints { waited = true }) old new
-
--- this was told where it is new
-abbrev pub IsPutWhere : Bool → (LiveTelling → LiveTelling → Type 0) → LiveTelling → LiveTelling → Type 0
-IsPutWhere true put old new = put old new
-IsPutWhere false put old new = new ≡ old
-
--- whether something of its verdict is told now of the part of a line: each once in a run
-abbrev pub is_verdict_new : Complaints → List ℕ → Verdict → Bool
+-- whether something of its verdict is told now of the part of a line: each once in a run, and of an empty line, which lets a run go on, not
+-- that it wants more events
+abbrev pub is_verdict_new : LiveTelling → List ℕ → Verdict → Bool
 is_verdict_new k line Finished = false
-is_verdict_new k line Bound = is_step_new k line
+is_verdict_new k line Bound = not (length line == 0) && not k.stepped
 is_verdict_new k line Memory = not k.waited
 
-abbrev pub IsVerdictPut : ℕ → Verdict → LiveTelling → LiveTelling → Type 0
-IsVerdictPut number Finished old new = new ≡ old
-IsVerdictPut number Bound old new = IsStepPut number old new
-IsVerdictPut number Memory old new = IsWaitPut number old new
-
+-- it was told where it is new
 abbrev pub IsVerdictTold : ℕ → Bool → Verdict → LiveTelling → LiveTelling → Type 0
-IsVerdictTold number wanted v old new = IsPutWhere wanted (IsVerdictPut number v) old new
+IsVerdictTold number false v old new = new ≡ old
+IsVerdictTold number true Finished old new = new ≡ old
+IsVerdictTold number true Bound old new =
+    WasTold (line_note old.path number (codes "wants more events than --step allows, and goes on with the next line")) (record old { stepped = true }) new
+IsVerdictTold number true Memory old new = WasTold (line_note old.path number (codes "waits for memory")) (record old { waited = true }) new
 
 -- the first process that has a fault after the part, unless it was told before that one has: once in a run
 abbrev pub IsNewFault : Bool → HeldRun → Option (ℕ × Failure) → Type 0
@@ -240,8 +209,7 @@ IsNewFault false h first = IsFirstFault h first
 -- that it has one was told
 abbrev pub IsFaultPut : ℕ → Tree → Option (ℕ × Failure) → LiveTelling → LiveTelling → Type 0
 IsFaultPut number t None old new = new ≡ old
-IsFaultPut number t (Some (instance, kind)) old new =
-    WasToldOf (failed_text old.path number t instance kind) false (record old.complaints { faulted = true }) old new
+IsFaultPut number t (Some (instance, kind)) old new = WasTold (failed_text old.path number t instance kind) (record old { faulted = true }) new
 
 -- these words tell what came of the run and its causes; none do where it finished without a fault and a ring
 abbrev pub AreCausesOf : HeldRun → List ℕ → Type 0
@@ -251,19 +219,15 @@ AreCausesOf h words = (v : Verdict) × (ends : List End) × (h.verdict ≡ Some 
 abbrev pub first_line : List ℕ → List ℕ
 first_line lines = before_first (λ b. b == 10) lines
 
--- that processes wait on one another in a ring was told in these words
-abbrev pub IsRingPut : ℕ → List ℕ → LiveTelling → LiveTelling → Type 0
-IsRingPut number words old new = WasToldOf (line_note old.path number words) false (record old.complaints { ringed = true }) old new
-
--- that some do was told, where they do and it wasn't told before; or nothing was
+-- that processes wait on one another in a ring was told, where they do and it wasn't told before; or nothing was
 abbrev pub IsRingTold : ℕ → HeldRun → LiveTelling → LiveTelling → Type 0
-IsRingTold number h old new = (new ≡ old)
-    ⊎ ((old.complaints.ringed ≡ false) × IsRinged h true × ((words : List ℕ) × AreCausesOf h words × IsRingPut number (first_line words) old new))
+IsRingTold number h old new = (new ≡ old) ⊎ ((old.ringed ≡ false) × IsRinged h true
+    × ((words : List ℕ) × AreCausesOf h words × WasTold (line_note old.path number (first_line words)) (record old { ringed = true }) new))
 
 -- what is told of the part of a line: its verdict, then a fault, and then a ring
 abbrev pub IsPartTold : Live → ℕ → List ℕ → Verdict → LiveTelling → LiveTelling → Type 0
-IsPartTold s number line v old new = (first : Option (ℕ × Failure)) × (mid : LiveTelling) × (late : LiveTelling) × IsNewFault old.complaints.faulted s.flow.run first
-    × IsVerdictTold number (is_verdict_new old.complaints line v) v old mid × IsFaultPut number s.flow.run.network first mid late
+IsPartTold s number line v old new = (first : Option (ℕ × Failure)) × (mid : LiveTelling) × (late : LiveTelling) × IsNewFault old.faulted s.flow.run first
+    × IsVerdictTold number (is_verdict_new old line v) v old mid × IsFaultPut number s.flow.run.network first mid late
     × IsRingTold number s.flow.run late new
 
 -- what is told of a line with this answer

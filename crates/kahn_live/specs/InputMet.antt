@@ -1,10 +1,10 @@
--- Believed. The lines of the input, the part before them and the lines behind them, of a run on lines (this project's profile).
-use Rattle.std.specs.Prelude.{◌≡◌, ◌⊎◌, ⊤, ℕ, zero, suc, ◌-◌, ◌^◌, ◌==◌, ◌&&◌, not, length, Bool, true, false, List, [], ◌∷◌, take, Option, None, Some, Result, Ok, Err}
-use Rattle.std.specs.Io.KnownBytes.{IsAtEnd}
+-- Believed. All lines of a run: the part before them, those of the input, and those behind these (this project's profile).
+use Rattle.std.specs.Prelude.{◌≡◌, ◌⊎◌, ⊤, ℕ, zero, suc, ◌-◌, ◌^◌, ◌==◌, ◌&&◌, not, length, Bool, true, false, List, [], ◌∷◌, map, take, Option, None, Some, Result, Ok, Err, string_bytes}
+use Rattle.std.specs.{Io.KnownBytes.IsAtEnd, declared.alloc.Global.Global, declared.string.String.String}
 use Rattle.kahn_streams.specs.{declared.answer.Verdict.Verdict, declared.answer.Verdict.TheVariants.Finished, declared.answer.Verdict.TheVariants.Memory}
 use Rattle.kahn_fault.specs.declared.fault.Fault.{Fault}
-use Rattle.kahn_session.specs.{Live.HasVerdict, Live.IsDeaf, Live.IsFirstInput, Live.IsMeantLine, Live.IsOtherInput, Live.IsUnfedBy, Live.Live, Refusals.alone_text, Refusals.at_end_number, Refusals.is_want, declared.fault.TakeFault.TakeFault}
-use Rattle.kahn_live.specs.{Lines.CutsLine, Lines.fed_text, Lines.most_kept, Lines.unmarked, declared.lines.Next.Next, declared.lines.Next.TheVariants.Line, declared.lines.Next.TheVariants.End, declared.lines.Next.TheVariants.Failed, declared.lines.Next.TheVariants.NoMemory, Rows.AreMeant, Rows.AreRowCells, Rows.IsBadRow, Rows.row_names}
+use Rattle.kahn_session.specs.{Live.HasVerdict, Live.IsDeaf, Live.IsFirstInput, Live.IsMeantLine, Live.IsOtherInput, Live.IsUnfedBy, Live.Live, Refusals.alone_line, Refusals.at_end_number, Refusals.is_want, declared.fault.TakeFault.TakeFault}
+use Rattle.kahn_live.specs.{Lines.CutsLine, Lines.fed_text, Lines.most_kept, Lines.unmarked, declared.lines.Next.Next, declared.lines.Next.TheVariants.Line, declared.lines.Next.TheVariants.End, declared.lines.Next.TheVariants.Failed, declared.lines.Next.TheVariants.NoMemory, Rows.AreMeant, Rows.AreRowCells, Rows.IsBadRow, Rows.bare_of, Rows.row_names}
 use Rattle.kahn_live.specs.Course.{HasMissed, HasSent, HasWaited, IsAloneMet, IsBrokenOff, IsReadFailed, IsRefused, IsWriteFault, LiveTelling, Point, WasAnswered, WasMet, WasTold, no_memory}
 
 -- ---- a row
@@ -153,7 +153,8 @@ IsFirstPart input old new (Err fault) = IsReadMet input 0 [] old new (Err fault)
 
 -- that no line is for another input channel was told, where values of one stand alone and there is another
 abbrev pub IsAlonePut : List ℕ → Option (List ℕ) → LiveTelling → LiveTelling → Type 0
-IsAlonePut input other old new = WasTold (alone_text old.path input other) old new
+IsAlonePut input None old new = new ≡ old
+IsAlonePut input (Some other) old new = WasTold (alone_line old.path input other) old new
 
 abbrev pub IsAloneSaid : Option (List ℕ) → Live → LiveTelling → LiveTelling → Type 0
 IsAloneSaid None s old new = new ≡ old
@@ -196,3 +197,24 @@ IsUnmeantTold s lines old new r = (line : List ℕ) × (f : TakeFault) × IsFirs
 -- before any is fed, all were tried
 abbrev pub AreLastTried : Live → List (List ℕ) → LiveTelling → LiveTelling → Result Bool Fault → Type 0
 AreLastTried s lines old new r = ((r ≡ Ok true) × AreMeant s lines × (new ≡ old)) ⊎ IsUnmeantTold s lines old new r
+
+-- ---- all lines
+
+-- behind the part before the first line: the lines of the input stopped the run, or those behind them
+abbrev pub AreStopped : Option (List ℕ) → List (String Global) → Fault → Option (List ℕ) → Point → Point → Type 0
+AreStopped input at_end fault text old new =
+    IsInputStopped input fault text old new ⊎ ((last : Point) × AreAllRead input text old last × IsCutOff (map string_bytes at_end) last new fault)
+
+-- the part before the first line, the lines of the input, and the lines behind these, as far as the run came; where there is no
+-- input channel of the name no line is read
+abbrev pub AreEachMet : Option (List ℕ) → List (String Global) → Result Bool Fault → Option (List ℕ) → Point → Point → Type 0
+AreEachMet input at_end (Ok true) text old new = (begun : Point) × IsFirstPart input old begun (Ok true)
+    × ((ready : Point) × (last : Point) × IsAloneTold (bare_of input) begun ready × AreAllRead input text ready last × AreFed (map string_bytes at_end) last new)
+AreEachMet input at_end (Ok false) text old new = IsFirstPart input old new (Ok false)
+AreEachMet input at_end (Err fault) text old new = IsFirstPart input old new (Err fault)
+    ⊎ ((begun : Point) × (ready : Point) × IsFirstPart input old begun (Ok true) × IsAloneTold (bare_of input) begun ready × AreStopped input at_end fault text ready new)
+
+-- all that, where each of the lines behind is meant for an input channel; else the first that isn't is told, and nothing else is done
+abbrev pub AreAllMet : Option (List ℕ) → List (String Global) → Result Bool Fault → Option (List ℕ) → Point → Point → Type 0
+AreAllMet input at_end r text old new = (AreMeant old.session (map string_bytes at_end) × AreEachMet input at_end r text old new)
+    ⊎ (IsUnmeantTold old.session (map string_bytes at_end) old.told new.told r × (new.session ≡ old.session) × (new.out ≡ old.out))

@@ -2,7 +2,6 @@ pub mod Lines
 pub mod Rows
 pub mod Course
 pub mod InputMet
-pub mod LinesMet
 pub mod Histories
 pub mod Running
 pub mod inner

@@ -1,19 +1,12 @@
 -- Believed. The lines of standard input: where each is cut, and what is fed of it (this project's profile).
-use Rattle.std.specs.Prelude.{◌≡◌, ◌≢◌, ◌⊎◌, ◌==◌, ◌&&◌, ◌||◌, ℕ, Bool, true, false, ◌+◌, ◌<◌, ⊤, List, [], ◌∷◌, ◌++◌, length, slice_index, take, drop, All, Option, None, Some, if◌then◌else◌}
-use Rattle.std.specs.{Char.is_ascii_digit, Io.KnownBytes.IsAtEnd, Cmp.Lexicographic.pointwise, List.list_any}
+use Rattle.std.specs.Prelude.{◌≡◌, ◌⊎◌, ◌==◌, ◌&&◌, ◌||◌, ℕ, Bool, true, false, ◌+◌, ◌<◌, ⊤, List, [], ◌∷◌, ◌++◌, length, slice_index, take, drop, Option, None, Some, IfSome, if◌then◌else◌}
+use Rattle.std.specs.{Char.is_ascii_digit, Io.BufRead.DropsThrough, Io.KnownBytes.IsAtEnd, Cmp.Lexicographic.pointwise, List.before_first, List.list_any}
 use Rattle.kahn_texts.specs.Formats.{most_input_bytes}
 use Rattle.kahn_live.specs.{declared.lines.Next.Next, declared.lines.Next.TheVariants.Line, declared.lines.Next.TheVariants.End, declared.lines.Next.TheVariants.Failed, declared.lines.Next.TheVariants.NoMemory, declared.outlet.DeferredWriter.DeferredWriter}
 
--- the line stands before the first line feed of the text; or it is the whole text, which has none and isn't empty
-abbrev pub IsCutLine : List ℕ → List ℕ → List ℕ → Type 0
-IsCutLine line text rest =
-    All (λ b. b ≢ 10) line × ((text ≡ line ++ (10 ∷ rest)) ⊎ ((text ≡ line) × (rest ≡ []) × (0 < length line)))
-
--- the same of what a reader has left, where it is known
+-- the line stands before the first line feed of what a reader has left, which isn't empty, or is all of it; behind that feed this is left
 abbrev pub CutsLine : List ℕ → Option (List ℕ) → Option (List ℕ) → Type 0
-CutsLine line None new = ⊤
-CutsLine line (Some text) None = ⊥
-CutsLine line (Some text) (Some rest) = IsCutLine line text rest
+CutsLine line old new = IfSome old (λ text. (0 < length text) × (line ≡ before_first (λ b. b == 10) text)) × DropsThrough old new 10
 
 -- whether a line begins as a number does
 abbrev pub is_bare_line : List ℕ → Bool

@@ -4,7 +4,7 @@ use Rattle.std.specs.{List.list_any, List.position_or_len, declared.alloc.Global
 use Rattle.kahn_texts.specs.Formats.{is_blank}
 use Rattle.kahn_streams.specs.{declared.fault.RunFault.RunFault, declared.fault.RunFault.TheVariants.NoMemory as NoMemoryRun, declared.fault.RunFault.TheVariants.UnknownWatch}
 use Rattle.kahn_sequential.specs.HeldRuns.{HeldRun}
-use Rattle.kahn_session.specs.{Live.IsMeantLine, Live.IsStreamOf, Live.IsUnfedBy, Live.Live, declared.fault.TakeFault.TakeFault, declared.fault.TakeFault.TheVariants.BadRow, declared.fault.TakeFault.TheVariants.NoMemory}
+use Rattle.kahn_session.specs.{Live.IsMeantLine, Live.IsUnfedBy, Live.Live, Live.stream_of, declared.fault.TakeFault.TakeFault, declared.fault.TakeFault.TheVariants.BadRow, declared.fault.TakeFault.TheVariants.NoMemory}
 
 -- the names of several channels, with commas (44) between them: then each line is a row
 abbrev pub row_names : Option (List ℕ) → Option (List ℕ)
@@ -86,10 +86,10 @@ IsRowTried s names row (Err r) = IsBadRow s names row r.0 (bytes_in r.1)
 abbrev pub HaveStreams : HeldRun → List ℕ → List ℕ → List ℕ → Type 0
 HaveStreams h names [] rest = rest ≡ names
 HaveStreams h names (number ∷ numbers) rest =
-    (0 < length (first_word names)) × IsStreamOf h number (first_word names) × HaveStreams h (behind_word names) numbers rest
+    (0 < length (first_word names)) × (stream_of h (first_word names) ≡ Some number) × HaveStreams h (behind_word names) numbers rest
 
 -- these are all of them; or there is no name, or behind the first ones there is no stream of the next; or memory was refused
 abbrev pub AreNumbered : HeldRun → List ℕ → Result (Vec ℕ Global) RunFault → Type 0
 AreNumbered h names (Ok numbers) = (is_wordless names ≡ false) × ((rest : List ℕ) × HaveStreams h names numbers.items rest × (is_wordless rest ≡ true))
 AreNumbered h names (Err f) = (f ≡ NoMemoryRun) ⊎ ((f ≡ UnknownWatch) × ((is_wordless names ≡ true)
-    ⊎ ((numbers : List ℕ) × (rest : List ℕ) × HaveStreams h names numbers rest × (0 < length (first_word rest)) × ((n : ℕ) → ¬ IsStreamOf h n (first_word rest)))))
+    ⊎ ((numbers : List ℕ) × (rest : List ℕ) × HaveStreams h names numbers rest × (0 < length (first_word rest)) × (stream_of h (first_word rest) ≡ None))))

@@ -1,5 +1,5 @@
 -- Believed. A run on lines, from the program text to the status (this project's profile).
-use Rattle.std.specs.Prelude.{◌≡◌, ◌⊎◌, ◌==◌, ℕ, Bool, true, false, List, [], ◌∷◌, map, Option, None, Some, Result, Ok, Err, option_map, option_copied, codes, is_some, string_bytes}
+use Rattle.std.specs.Prelude.{◌≡◌, ◌⊎◌, ◌==◌, ℕ, Bool, true, false, List, [], ◌∷◌, Option, None, Some, Result, Ok, Err, option_map, codes, is_some, string_bytes}
 use Rattle.std.specs.{List.before_first, declared.alloc.Global.Global, declared.vec.Vec.Vec, declared.string.String.String, Io.KnownBytes.Keeps}
 use Rattle.kahn_streams.specs.{declared.config.Config.Config, declared.tree.Program.Program, declared.answer.Verdict.Verdict, declared.answer.Verdict.TheVariants.Finished, declared.fault.RunFault.RunFault, declared.fault.RunFault.TheVariants.NoMemory as NoMemoryRun, declared.fault.RunFault.TheVariants.UnknownWatch}
 use Rattle.kahn_sequential.specs.HeldRuns.{HeldRun}
@@ -8,7 +8,7 @@ use Rattle.kahn_line.specs.{declared.live.LiveOptions.LiveOptions, declared.part
 use Rattle.kahn_hints.specs.Inputs.{names_of_channels, unknown_channel}
 use Rattle.kahn_session.specs.{Refusals.unknown_text, Refusals.path_line, Live.HasOpened, Live.IsFaulty, Live.IsLastText, Live.IsRinged, Live.IsUnopened, Live.Live, Live.has_left}
 use Rattle.kahn_live.specs.Course.{AreCausesOf, HasSent, HasWaited, IsMoreTold, IsWriteFault, Point, LiveTelling, WasTold, no_memory, telling_of}
-use Rattle.kahn_live.specs.{LinesMet.AreAllMet, LinesMet.LinesGiven, Rows.AreNumbered, declared.running.Requested.Requested, declared.serving.Amiss.Amiss, declared.serving.Amiss.TheVariants.Faulted, declared.serving.Amiss.TheVariants.Ringed, declared.serving.RunEnding.RunEnding, declared.serving.RunEnding.TheVariants.Reached, declared.serving.RunEnding.TheVariants.Gone, declared.serving.RunEnding.TheVariants.Refused, declared.telling.Teller.Teller}
+use Rattle.kahn_live.specs.{InputMet.AreAllMet, Rows.AreNumbered, declared.serving.Amiss.Amiss, declared.serving.Amiss.TheVariants.Faulted, declared.serving.Amiss.TheVariants.Ringed, declared.serving.RunEnding.RunEnding, declared.serving.RunEnding.TheVariants.Reached, declared.serving.RunEnding.TheVariants.Gone, declared.serving.RunEnding.TheVariants.Refused, declared.telling.Teller.Teller}
 
 -- ---- the start
 
@@ -107,20 +107,20 @@ abbrev pub IsClosing : Bool → Option Amiss → Point → Point → Result Verd
 IsClosing strict amiss old new r = IsJudged strict old.session.flow.run amiss × IsEnded amiss old new r
 
 -- all lines were met and then the end, or one of these stopped the run
-abbrev pub HasServedAll : Bool → LinesGiven → Result RunEnding Fault → Option (List ℕ) → Point → Point → Type 0
-HasServedAll strict f (Ok (Reached v amiss)) text old new =
-    (last : Point) × AreAllMet f (Ok true) text old last × IsClosing strict amiss last new (Ok v)
-HasServedAll strict f (Ok Refused) text old new = AreAllMet f (Ok false) text old new
-HasServedAll strict f (Ok Gone) text old new = ⊥
-HasServedAll strict f (Err fault) text old new = AreAllMet f (Err fault) text old new
-    ⊎ ((last : Point) × (amiss : Option Amiss) × AreAllMet f (Ok true) text old last × IsClosing strict amiss last new (Err fault))
+abbrev pub HasServedAll : Bool → Option (List ℕ) → List (String Global) → Result RunEnding Fault → Option (List ℕ) → Point → Point → Type 0
+HasServedAll strict input at_end (Ok (Reached v amiss)) text old new =
+    (last : Point) × AreAllMet input at_end (Ok true) text old last × IsClosing strict amiss last new (Ok v)
+HasServedAll strict input at_end (Ok Refused) text old new = AreAllMet input at_end (Ok false) text old new
+HasServedAll strict input at_end (Ok Gone) text old new = ⊥
+HasServedAll strict input at_end (Err fault) text old new = AreAllMet input at_end (Err fault) text old new
+    ⊎ ((last : Point) × (amiss : Option Amiss) × AreAllMet input at_end (Ok true) text old last × IsClosing strict amiss last new (Err fault))
 
 -- nothing was done, since memory was refused
 abbrev pub IsLacking : {X P : Type 0} → Result X Fault → P → P → Type 0
 IsLacking r old new = (r ≡ Err no_memory) × (new ≡ old)
 
-abbrev pub HasServed : Bool → LinesGiven → Result RunEnding Fault → Option (List ℕ) → Point → Point → Type 0
-HasServed strict f r text old new = HasServedAll strict f r text old new ⊎ IsLacking r old new
+abbrev pub HasServed : Bool → Option (List ℕ) → List (String Global) → Result RunEnding Fault → Option (List ℕ) → Point → Point → Type 0
+HasServed strict input at_end r text old new = HasServedAll strict input at_end r text old new ⊎ IsLacking r old new
 
 -- whether the lines of a run ended since a write failed
 abbrev pub is_unwritten : Result RunEnding Fault → Bool
@@ -153,22 +153,6 @@ abbrev pub Gives : {W E : Type 0} → (W → Option (List ℕ)) → (E → Optio
     → (Option (List ℕ) → LiveTelling → LiveTelling → Result RunEnding Fault → Type 0) → Type 0
 Gives written said old done holds = holds (written done.1) (telling_of said old) (telling_of said done.2) done.0
 
--- the lines were served from a session on; this went out in all, and this was told
-abbrev pub HasRunSession : Bool → LinesGiven → Live → Option (List ℕ) → Option (List ℕ) → Option (List ℕ) → LiveTelling → LiveTelling → Result RunEnding Fault → Type 0
-HasRunSession strict f s text out made old new r = (last : Point) × (ending : Result RunEnding Fault)
-    × HasServed strict f ending text (record { session = s; out = out; told = old }) last × WasSent ending r × Keeps last.out made × (new ≡ last.told)
-
--- what is asked for: the channels whose values stand alone, those that have to have streams, the lines behind those of the input, and whether
--- the run is judged
-pub record Request : Type 0 where
-  pub plain : Option PlainNames
-  pub shown : Option (List ℕ)
-  pub at_end : List (List ℕ)
-  pub strict : Bool
-
-abbrev pub request_of : Requested → Request
-request_of a = record { plain = option_copied a.plain; shown = option_copied a.shown; at_end = map string_bytes a.at_end.now; strict = a.strict }
-
 -- the channel whose values stand alone in the lines of input, where one is named
 abbrev pub named_input : List ℕ → Option (List ℕ)
 named_input [] = None
@@ -193,21 +177,26 @@ IsUnknownTold of_plain None t f old new r = (r ≡ Err (Work (RunWork f))) × (n
 IsUnknownTold of_plain (Some name) t f old new r =
     (r ≡ Ok Refused) × ((words : List ℕ) × IsChannelWords t name words × WasTold (unknown_text old.path of_plain name words) old new)
 
-abbrev pub IsUnstartedTold : Request → Program → RunFault → LiveTelling → LiveTelling → Result RunEnding Fault → Type 0
-IsUnstartedTold a t f old new r = IsUnknownTold (is_some a.plain) (unknown_shown f a.shown) t f old new r
+abbrev pub IsUnstartedTold : LiveOptions → Program → RunFault → LiveTelling → LiveTelling → Result RunEnding Fault → Type 0
+IsUnstartedTold o t f old new r = IsUnknownTold (is_some o.plain) (unknown_shown f (names_shown o.plain o.config.watch)) t f old new r
+
+-- the lines were served from a session on; this went out in all, and this was told
+abbrev pub HasRunSession : LiveOptions → Live → Option (List ℕ) → Option (List ℕ) → Option (List ℕ) → LiveTelling → LiveTelling → Result RunEnding Fault → Type 0
+HasRunSession o s text out made old new r = (last : Point) × (ending : Result RunEnding Fault)
+    × HasServed o.strict (input_of o.plain) o.at_end.items ending text (record { session = s; out = out; told = old }) last
+    × WasSent ending r × Keeps last.out made × (new ≡ last.told)
 
 -- a session of the network was set up and run, or why not: the run is refused, and nothing went out
-abbrev pub HasRunNetwork : Request → Program → Config → Option (List ℕ) → Option (List ℕ) → Option (List ℕ) → LiveTelling → LiveTelling → Result RunEnding Fault → Type 0
-HasRunNetwork a t config text out made old new r =
-    ((f : RunFault) × IsSetUp a.plain t config (Err f) × IsUnstartedTold a t f old new r × (made ≡ out))
-    ⊎ ((s : Live) × IsSetUp a.plain t config (Ok s) × HasRunSession a.strict (record { input = input_of a.plain; at_end = a.at_end }) s text out made old new r)
+abbrev pub HasRunNetwork : LiveOptions → Program → Config → Option (List ℕ) → Option (List ℕ) → Option (List ℕ) → LiveTelling → LiveTelling → Result RunEnding Fault → Type 0
+HasRunNetwork o t config text out made old new r =
+    ((f : RunFault) × IsSetUp o.plain t config (Err f) × IsUnstartedTold o t f old new r × (made ≡ out))
+    ⊎ ((s : Live) × IsSetUp o.plain t config (Ok s) × HasRunSession o s text out made old new r)
 
 -- the network of the program text was run on this text of input, or why not: memory was refused, or the program text is
 abbrev pub HasRunText : List ℕ → LiveOptions → Option (List ℕ) → Option (List ℕ) → Option (List ℕ) → LiveTelling → LiveTelling → Result RunEnding Fault → Type 0
 HasRunText program o text out made old new r = (IsLacking r old new × (made ≡ out))
     ⊎ (((f : WorkFault) × IsUnchecked program f × (r ≡ Err (Work f)) × (new ≡ old) × (made ≡ out))
-    ⊎ ((t : Program) × (config : Config) × IsChecked program t × Watches (name_watched o.plain o.config.watch) o.config config
-    × HasRunNetwork (record { plain = o.plain; shown = names_shown o.plain o.config.watch; at_end = map string_bytes o.at_end.items; strict = o.strict }) t config text out made old new r))
+    ⊎ ((t : Program) × (config : Config) × IsChecked program t × Watches (name_watched o.plain o.config.watch) o.config config × HasRunNetwork o t config text out made old new r))
 
 -- ---- the status
 
@@ -236,7 +225,14 @@ untold bytes keep_going path = record {
   keep_going = keep_going;
   refused = false;
   path = path;
-  complaints = record { last = None; first = 0; number = 0; hinted = false; stepped = false; waited = false; faulted = false; ringed = false };
+  last = None;
+  first = 0;
+  number = 0;
+  hinted = false;
+  stepped = false;
+  waited = false;
+  faulted = false;
+  ringed = false;
 }
 
 -- that `--watch` does nothing was told, where values stand alone

@@ -1,10 +1,9 @@
 //! What is said of a line that isn't taken.
 
-ghost use Rattle.std.specs.Prelude.{◌≡◌, ◌&&◌, not, IfOk, None, false, option_copied, string_bytes};
+ghost use Rattle.std.specs.Prelude.{◌≡◌, IfOk, option_copied, string_bytes};
 ghost use Rattle.kahn_texts.specs.Formats.{content};
 ghost use Rattle.kahn_inputs.specs.Fitting.{line_name};
-ghost use Rattle.kahn_session.specs.declared.fault.TakeFault.TheVariants.{Feed};
-ghost use Rattle.kahn_live.specs.Course.{IsComplaint, IsFedPart, IsNameWords, channel_tail, IsHintBy, IsRefused, IsRefusedPart, is_bad_line, telling_of, wants_hint};
+ghost use Rattle.kahn_live.specs.Course.{IsHintBy, IsNameWords, IsRefused, IsRefusedPart, channel_tail, is_bad_line, telling_of, wants_hint};
 
 use crate::lines::is_bare_line;
 use crate::telling::Teller;
@@ -29,31 +28,24 @@ fn is_bad_line(fault: TakeFault) -> bool
     matches!(fault, TakeFault::BadLine)
 }
 
-/// Whether it is told how bare numbers are taken, with the fault of the line of that number.
-fn wants_hint(number: u64, line: &[u8], fault: TakeFault) -> bool
-    ensures { result ≡ wants_hint number line.now fault }
+/// Whether it is told now how bare numbers are taken, with the fault of the line of that number.
+fn wants_hint(hinted: bool, number: u64, line: &[u8], fault: TakeFault) -> bool
+    ensures { result ≡ wants_hint hinted number line.now fault }
 {
+    if hinted {
+        return false;
+    }
     if number == 0 {
         return !is_want(fault);
     }
     is_bad_line(fault) && is_bare_line(line)
 }
 
-/// Whether it is told now, where it was told or wasn't.
-fn is_hint_wanted(hinted: bool, number: u64, line: &[u8], fault: TakeFault) -> bool
-    ensures { result ≡ (not hinted && wants_hint number line.now fault) }
-{
-    !hinted && wants_hint(number, line, fault)
-}
-
 /// The input channel that is named in that.
 fn hint_of<'s>(session: &'s Session<'_>, wanted: bool) -> Option<&'s str>
     ensures { IsHintBy wanted session.now (option_copied result) }
 {
-    if wanted {
-        return session.first_input();
-    }
-    None
+    if wanted { session.first_input() } else { None }
 }
 
 /// What is said of the name of a line that no input channel has: the nearest input channel, or else which there are.
@@ -82,25 +74,6 @@ fn words_of(alloc: Global, network: &Network, line: &[u8], fault: TakeFault) -> 
     }
 }
 
-/// The part of a line that is at fault where its values aren't fed, and what is wanted there; of a name these words.
-fn fed_part<'l>(
-    network: &Network,
-    line: &'l [u8],
-    fault: FeedFault,
-    words: &'l str,
-) -> RefusedPart<'l>
-    requires { IsNameWords network.now line.now (Feed fault) words.now }
-    ensures { IsFedPart network.now line.entry.now fault result.word.now result.words.now }
-{
-    match fault {
-        FeedFault::UnknownName => name_part(line, words),
-        FeedFault::NotAnInput => name_part(line, words),
-        FeedFault::WrongKind => kind_part(network, line),
-        FeedFault::TooMany => NO_PART,
-        FeedFault::NoMemory => NO_PART,
-    }
-}
-
 /// The part of a line that is at fault where it isn't taken, and what is wanted there; of a name these words.
 fn refused_part<'l>(
     network: &Network,
@@ -114,33 +87,14 @@ fn refused_part<'l>(
     match fault {
         TakeFault::BadLine => head_part(line),
         TakeFault::BadValue => value_part(line),
-        TakeFault::BadRow => NO_PART,
-        TakeFault::Feed(fault) => fed_part(network, line, fault, words),
-        TakeFault::TooLong => NO_PART,
-        TakeFault::NotUtf8 => NO_PART,
-        TakeFault::NoMemory => NO_PART,
-        TakeFault::Write(_) => NO_PART,
+        TakeFault::Feed(FeedFault::UnknownName) => name_part(line, words),
+        TakeFault::Feed(FeedFault::NotAnInput) => name_part(line, words),
+        TakeFault::Feed(FeedFault::WrongKind) => kind_part(network, line),
+        _ => NO_PART,
     }
 }
 
-/// Tells a fault of the line of that number, and the part of it that is at fault.
-fn tell_new_refusal<E: Write>(
-    session: &Session<'_>,
-    teller: &mut Teller<E>,
-    number: u64,
-    line: &[u8],
-    fault: TakeFault,
-    hint: Option<&str>,
-)
-    ensures { IsComplaint session.now number line.now fault (option_copied hint.entry) false (telling_of E.contents teller.old) (telling_of E.contents teller.new) }
-{
-    let network = session.network();
-    let words = words_of(teller.alloc, network, line, fault);
-    let part = refused_part(network, line, fault, words.as_str());
-    teller.tell(number, fault, part, hint);
-}
-
-/// Tells a fault of the line of that number, or counts the line where it is refused as the one before it.
+/// Tells a fault of the line of that number, and the part at fault; or counts the line where it is refused as the one before it.
 pub(crate) fn tell_refused<E: Write>(
     session: &Session<'_>,
     teller: &mut Teller<E>,
@@ -150,11 +104,14 @@ pub(crate) fn tell_refused<E: Write>(
 )
     ensures { IsRefused session.now number line.now fault (telling_of E.contents teller.old) (telling_of E.contents teller.new) }
 {
-    let wanted = is_hint_wanted(teller.hinted, number, line, fault);
+    let wanted = wants_hint(teller.hinted, number, line, fault);
     let input = hint_of(session, wanted);
     if teller.is_again(number, fault, input) {
         teller.count(number, fault);
         return;
     }
-    tell_new_refusal(session, teller, number, line, fault, input);
+    let network = session.network();
+    let words = words_of(teller.alloc, network, line, fault);
+    let part = refused_part(network, line, fault, words.as_str());
+    teller.tell(number, fault, part, input);
 }

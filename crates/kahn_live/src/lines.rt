@@ -1,8 +1,8 @@
 //! The lines of standard input, one at a time.
 
-ghost use Rattle.std.specs.Prelude.{◌≡◌, ◌≢◌, ◌==◌, ◌<◌, ◌≤◌, ◌++◌, All, IfOk, length, option_copied, slice_index, take, vec_len};
-ghost use Rattle.std.specs.{List.list_any, Io.Buffered.reader_buffer, Io.Buffered.reader_remaining};
-ghost use Rattle.kahn_live.specs.{Lines.IsNextLine, Lines.IsReadyToRead, Lines.fed_text, Lines.is_bare_line, Lines.most_kept, Lines.unmarked, inner.Parts.IsLastRead, inner.Parts.IsLinePart, inner.Parts.IsPassed};
+ghost use Rattle.std.specs.Prelude.{◌≡◌, ◌==◌, ◌≤◌, ◌++◌, IfOk, length, option_copied, take, vec_len};
+ghost use Rattle.std.specs.{List.list_any, List.position, List.position_or_len, Io.Buffered.reader_buffer, Io.Buffered.reader_remaining};
+ghost use Rattle.kahn_live.specs.{Lines.IsNextLine, Lines.IsReadyToRead, Lines.fed_text, Lines.is_bare_line, Lines.most_kept, Lines.unmarked, inner.Parts.IsLinePart};
 
 use crate::outlet::DeferredWriter;
 use kahn_texts::MOST_BYTES;
@@ -24,20 +24,6 @@ pub(crate) enum Next {
     /// A read failed.
     Failed,
     /// Memory was refused for the line. It is passed over.
-    NoMemory,
-}
-
-/// What was read of a line.
-enum LinePart {
-    /// Bytes of it, or none.
-    More,
-    /// The rest of it, and its line feed.
-    Whole,
-    /// Nothing: the input ends here.
-    End,
-    /// A read failed.
-    Failed,
-    /// Memory was refused for it. It is still to be read.
     NoMemory,
 }
 
@@ -71,45 +57,33 @@ pub(crate) fn next_line<R: Read, W: Write>(
     read_line(reader, line)
 }
 
-/// Reads a line into an empty list.
+/// Reads a line into an empty list. The rest of one for which memory is refused is passed over.
 fn read_line<B: BufRead>(reader: &mut B, line: &mut Vec<u8>) -> Next
     requires { vec_len line.old ≡ 0 }
     ensures { IsNextLine (B.remaining reader.old) (B.remaining reader.new) line.new.items result }
 {
     for _ in 0..u64::MAX {
         match read_part(reader, line) {
-            LinePart::More => {}
-            LinePart::Whole => return Next::Line,
-            LinePart::End => return last_line(line),
-            LinePart::Failed => return Next::Failed,
-            LinePart::NoMemory => return pass_line(reader),
+            None => {}
+            Some(Next::Line) => return Next::Line,
+            Some(Next::End) => {
+                if line.is_empty() {
+                    return Next::End;
+                }
+                return Next::Line;
+            }
+            Some(Next::Failed) => return Next::Failed,
+            Some(Next::NoMemory) => match reader.skip_until(b'\n') {
+                Ok(_) => return Next::NoMemory,
+                Err(_) => return Next::Failed,
+            },
         }
     }
     Next::Failed
 }
 
-/// What was read where the input ends.
-fn last_line(line: &[u8]) -> Next
-    ensures { IsLastRead line.now result }
-{
-    if line.is_empty() {
-        return Next::End;
-    }
-    Next::Line
-}
-
-/// Passes over the rest of a line for which memory was refused.
-fn pass_line<B: BufRead>(reader: &mut B) -> Next
-    ensures { IsPassed (B.remaining reader.old) (B.remaining reader.new) result }
-{
-    match reader.skip_until(b'\n') {
-        Ok(_) => Next::NoMemory,
-        Err(_) => Next::Failed,
-    }
-}
-
-/// Reads what has come of a line, or waits for it, and keeps it.
-fn read_part<B: BufRead>(reader: &mut B, line: &mut Vec<u8>) -> LinePart
+/// Reads what has come of a line, or waits for it, and keeps it; nothing is told where more may come, and nothing read without memory.
+fn read_part<B: BufRead>(reader: &mut B, line: &mut Vec<u8>) -> Option<Next>
     requires { vec_len line.old ≤ most_kept }
     ensures { IsLinePart (B.remaining reader.old) (B.remaining reader.new) line.old.items line.new.items result }
 {
@@ -117,41 +91,42 @@ fn read_part<B: BufRead>(reader: &mut B, line: &mut Vec<u8>) -> LinePart
         Ok(shown) => shown,
         Err(error) => {
             return if error.kind() == ErrorKind::Interrupted {
-                LinePart::More
+                None
             } else {
-                LinePart::Failed
+                Some(Next::Failed)
             };
         }
     };
     let length = shown.len();
-    let end = length_before(shown, b'\n');
+    let end = length_before(shown);
     if length == 0 {
-        return LinePart::End;
+        return Some(Next::End);
     }
     if keep(line, &shown[..end]).is_err() {
-        return LinePart::NoMemory;
+        return Some(Next::NoMemory);
     }
-    reader.consume((end + 1).min(length));
     if end == length {
-        return LinePart::More;
+        reader.consume(length);
+        return None;
     }
-    LinePart::Whole
+    reader.consume(end + 1);
+    Some(Next::Line)
 }
 
-/// The length of the bytes before the first such byte, or of all.
-fn length_before(bytes: &[u8], byte: u8) -> usize
-    ensures bound { result ≤ length bytes.now }
-    ensures before { All (λ b. b ≢ byte) (take result bytes.now) }
-    ensures at { result < length bytes.now → slice_index bytes.now result ≡ byte }
+/// Where the first line feed stands.
+fn first_feed(bytes: &[u8]) -> Option<usize>
+    ensures { result ≡ position (λ b. b == 10) bytes.now }
 {
-    let mut place = 0;
-    while place < bytes.len() {
-        if bytes[place] == byte {
-            return place;
-        }
-        place += 1;
-    }
-    place
+    bytes.iter().position(|byte| *byte == b'\n')
+}
+
+/// The length of the bytes before the first line feed, or of all.
+#[tactic(auto, using(kahn_texts::proofs::Scanned::stop_of))]
+fn length_before(bytes: &[u8]) -> usize
+    ensures within { result ≤ length bytes.now }
+    ensures stop { result ≡ position_or_len (λ b. b == 10) bytes.now }
+{
+    first_feed(bytes).unwrap_or(bytes.len())
 }
 
 /// Adds the bytes to those that were kept, up to the most that are.

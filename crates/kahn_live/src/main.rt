@@ -11,8 +11,6 @@ mod patient;
 mod rows;
 mod running;
 mod serving;
-mod source;
-mod stage;
 mod taking;
 mod telling;
 
@@ -48,11 +46,8 @@ fn tell_unwatched<W: Write>(unwatched: bool, writer: &mut W)
 {
     if unwatched {
         // What can't be written here changes no status.
-        let _told = tell_reason(
-            "kahn_live",
-            "--watch does nothing with --plain; write --plain INPUT,NAME",
-            writer,
-        );
+        let words = "--watch does nothing with --plain; write --plain INPUT,NAME";
+        let _told = tell_reason("kahn_live", words, writer);
     }
 }
 

@@ -30,13 +30,6 @@ impl<W: Write> DeferredWriter<W> {
         }
     }
 
-    /// Whether a write failed since nobody reads any more.
-    pub(crate) fn gone(&self) -> bool
-        ensures { result ≡ self.now.gone }
-    {
-        self.gone
-    }
-
     /// Sends what was written.
     pub(crate) fn send(&mut self) -> Result<(), Fault>
         ensures kept { Keeps (W.contents self.old.writer) (W.contents self.new.writer) }

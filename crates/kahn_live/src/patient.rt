@@ -36,6 +36,7 @@ fn would_wait<T>(done: &io::Result<T>) -> bool
 impl<S: Read, C: Clock> Read for Patient<'_, S, C> {
     ghost remaining = { λ p. S.remaining p.stream };
 
+    #[tactic(auto, using(crate::proofs::Kept::none_done))]
     fn read(&mut self, buf: &mut [u8]) -> io::Result<usize> {
         for _ in 0..u64::MAX {
             let done = self.stream.read(buf);
@@ -51,6 +52,7 @@ impl<S: Read, C: Clock> Read for Patient<'_, S, C> {
 impl<S: Write, C: Clock> Write for Patient<'_, S, C> {
     ghost contents = { λ p. S.contents p.stream };
 
+    #[tactic(auto, using(crate::proofs::Kept::none_done))]
     fn write(&mut self, buf: &[u8]) -> io::Result<usize> {
         for _ in 0..u64::MAX {
             let done = self.stream.write(buf);

@@ -17,29 +17,25 @@ fn is_several(names: &str) -> bool
 }
 
 /// The names of several channels, where commas stand between them: then each line is a row.
+#[tactic(auto, using(crate::proofs::Rowing::several))]
 pub(crate) fn row_names(input: Option<&str>) -> Option<&str>
     ensures { option_copied result ≡ row_names (option_copied input.entry) }
 {
     let Some(names) = input else {
         return None;
     };
-    if is_several(names) {
-        return Some(names);
-    }
-    None
+    if is_several(names) { Some(names) } else { None }
 }
 
 /// The name of one channel, where no comma stands in it.
+#[tactic(auto, using(crate::proofs::Rowing::not_one))]
 pub(crate) fn bare_of(input: Option<&str>) -> Option<&str>
     ensures { option_copied result ≡ bare_of (option_copied input.entry) }
 {
     let Some(name) = input else {
         return None;
     };
-    if is_several(name) {
-        return None;
-    }
-    Some(name)
+    if is_several(name) { None } else { Some(name) }
 }
 
 /// Whether a byte stands between words.
@@ -64,6 +60,7 @@ fn first_between(bytes: &[u8]) -> Option<usize>
 }
 
 /// How many bytes stand before the first word.
+#[tactic(auto, using(kahn_texts::proofs::Scanned::stop_of))]
 fn word_start(bytes: &[u8]) -> usize
     ensures within { result ≤ length bytes.now }
     ensures stop { result ≡ position_or_len (λ b. not (is_row_gap b)) bytes.now }
@@ -72,6 +69,7 @@ fn word_start(bytes: &[u8]) -> usize
 }
 
 /// How many bytes stand before the first one that is between words.
+#[tactic(auto, using(kahn_texts::proofs::Scanned::stop_of))]
 fn word_length(bytes: &[u8]) -> usize
     ensures within { result ≤ length bytes.now }
     ensures stop { result ≡ position_or_len is_row_gap bytes.now }
@@ -131,8 +129,7 @@ fn tried_cell(
     }
 }
 
-/// The lines of a row, one for each of the names, each of which is meant for an input channel; a blank row has no values for them. Else
-/// why there are none, and which line isn't.
+/// The lines of a row, one for each of the names and meant for an input channel; else why there are none, and which line isn't.
 pub(crate) fn row_cells(
     alloc: Global,
     session: &Session<'_>,

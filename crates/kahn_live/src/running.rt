@@ -1,18 +1,17 @@
 //! A run on lines, from the program text to the status.
 
-ghost use Rattle.std.specs.Prelude.{◌≡◌, IfOk, false, is_some, option_copied, option_map, string_bytes};
-ghost use Rattle.kahn_live.specs.{Course.telling_of, Running.IsEndingTold, Running.IsUnstartedTold, Running.ending_status, Running.input_of, Running.named_input, Running.request_of, Running.unknown_shown};
-ghost use Rattle.kahn_live.specs.Running.{EndsAs, Gives, HasRunAs, HasRunNetwork, HasRunText, ArePlainStreams, IsChannelWords, IsFirstStream, IsInForm, IsSetUp, Tells, Watches, first_shown, name_watched, names_shown};
+ghost use Rattle.std.specs.Prelude.{◌≡◌, IfOk, option_copied, option_map, string_bytes};
+ghost use Rattle.kahn_live.specs.{Course.telling_of, Running.IsEndingTold, Running.IsUnstartedTold, Running.ending_status, Running.input_of, Running.named_input, Running.unknown_shown};
+ghost use Rattle.kahn_live.specs.Running.{EndsAs, Gives, HasRunAs, HasRunNetwork, HasRunText, ArePlainStreams, IsChannelWords, IsInForm, IsSetUp, Tells, Watches, first_shown, name_watched, names_shown};
 
 use crate::outlet::DeferredWriter;
 use crate::rows::stream_numbers;
 use crate::serving::{RunEnding, reached_status, sent, work};
-use crate::stage::LiveStage;
-use crate::taking::{Fed, wants_memory};
+use crate::taking::{LiveStage, wants_memory};
 use crate::telling::Teller;
 use kahn_fault::{Fault, WorkFault, checked};
 use kahn_hints::add_unknown_channel;
-use kahn_line::{LiveOptions, PlainNames, parted};
+use kahn_line::{LiveOptions, PlainNames, copied, parted};
 use kahn_session::Session;
 use kahn_streams::{Config, Network, RunFault, Verdict};
 use std::alloc::{AllocError, Global};
@@ -41,34 +40,23 @@ fn first_shown(plain: &PlainNames) -> Option<&str>
     }
 }
 
-/// The name of the channel that is watched: where values stand alone, of the first one whose values are shown, so that it has a
-/// stream, and of no other one, whose stream may be the first.
-fn name_watched<'o>(watch: &'o Option<String>, plain: Option<&'o PlainNames>) -> Option<&'o str>
-    ensures { option_copied result ≡ name_watched (option_copied plain.entry) watch.entry.now }
+/// The name of the channel that is watched: where values stand alone, of the first one whose values are shown, which so has a stream.
+fn name_watched(options: &LiveOptions) -> Option<&str>
+    ensures { option_copied result ≡ name_watched options.now.plain options.now.config.watch }
 {
-    match plain {
+    match &options.plain {
         Some(plain) => first_shown(plain),
-        None => named(watch),
+        None => named(&options.config.watch),
     }
 }
 
 /// The names of the channels that have to have streams.
-fn names_shown<'o>(watch: &'o Option<String>, plain: Option<&'o PlainNames>) -> Option<&'o str>
-    ensures { option_copied result ≡ names_shown (option_copied plain.entry) watch.entry.now }
+fn names_shown(options: &LiveOptions) -> Option<&str>
+    ensures { option_copied result ≡ names_shown options.now.plain options.now.config.watch }
 {
-    match plain {
+    match &options.plain {
         Some(plain) => named(&plain.output),
-        None => named(watch),
-    }
-}
-
-/// Copies a name, if there is one.
-fn copied(alloc: Global, name: Option<&str>) -> Result<Option<String>, AllocError>
-    ensures { IfOk result (λ copy. option_map string_bytes copy ≡ option_copied name.entry) }
-{
-    match name {
-        Some(name) => Ok(Some(String::from_str(alloc, name)?)),
-        None => Ok(None),
+        None => named(&options.config.watch),
     }
 }
 
@@ -84,18 +72,7 @@ fn watching(alloc: Global, config: &Config, name: Option<&str>) -> Result<Config
     })
 }
 
-/// The first stream alone.
-fn first_stream(alloc: Global) -> Result<Vec<usize>, RunFault>
-    ensures { IsFirstStream result }
-{
-    let mut columns = Vec::new(alloc);
-    match columns.push(0) {
-        Ok(()) => Ok(columns),
-        Err(_) => Err(RunFault::NoMemory),
-    }
-}
-
-/// The numbers of the streams of which the values alone are shown.
+/// The numbers of the streams of which the values alone are shown: of those that are named, or else of the first.
 fn plain_streams(
     alloc: Global,
     session: &Session<'_>,
@@ -105,7 +82,7 @@ fn plain_streams(
 {
     match &plain.output {
         Some(output) => stream_numbers(alloc, session, output.as_bytes()),
-        None => first_stream(alloc),
+        None => vec![in alloc; 0; 1].map_err(|_| RunFault::NoMemory),
     }
 }
 
@@ -113,9 +90,9 @@ fn plain_streams(
 fn in_form<'n>(
     alloc: Global,
     mut session: Session<'n>,
-    plain: Option<&PlainNames>,
+    plain: &Option<PlainNames>,
 ) -> Result<Session<'n>, RunFault>
-    ensures { IsInForm (option_copied plain.entry) session.entry result }
+    ensures { IsInForm plain.now session.entry result }
 {
     let Some(plain) = plain else {
         return Ok(session);
@@ -134,24 +111,11 @@ fn started<'n>(
     alloc: Global,
     network: &'n Network,
     config: Config,
-    plain: Option<&PlainNames>,
+    plain: &Option<PlainNames>,
 ) -> Result<Session<'n>, RunFault>
-    ensures { IsSetUp (option_copied plain.entry) network.now config result }
+    ensures { IsSetUp plain.now network.now config result }
 {
     in_form(alloc, Session::start(alloc, network, config)?, plain)
-}
-
-/// What the command line asks for of a run that is set up.
-#[derive(Clone, Copy)]
-struct Requested<'a> {
-    /// The channels whose values stand alone in the lines of input and output, where they do.
-    plain: Option<&'a PlainNames>,
-    /// The names of the channels that have to have streams.
-    shown: Option<&'a str>,
-    /// The lines behind those of the input.
-    at_end: &'a [String],
-    /// Whether the run is judged.
-    strict: bool,
 }
 
 /// The names of the channels that have to have streams, where a run is refused since one has none.
@@ -175,30 +139,20 @@ fn channel_words(alloc: Global, network: &Network, name: &str) -> String
     }
 }
 
-/// Whether values stand alone.
-fn is_plain(plain: Option<&PlainNames>) -> bool
-    ensures { result ≡ is_some (option_copied plain.entry) }
-{
-    match plain {
-        Some(_) => true,
-        None => false,
-    }
-}
-
 /// How a run without a session ends. That a channel that is to be shown has no stream is told.
 fn unstarted<E: Write + Drop>(
     network: &Network,
     fault: RunFault,
-    asked: Requested<'_>,
+    options: &LiveOptions,
     mut teller: Teller<E>,
 ) -> (Result<RunEnding, Fault>, Teller<E>)
-    ensures { Tells E.contents teller result (IsUnstartedTold (request_of asked.entry) network.now fault) }
+    ensures { Tells E.contents teller result (IsUnstartedTold options.now network.now fault) }
 {
-    match unknown_shown(fault, asked.shown) {
+    match unknown_shown(fault, names_shown(options)) {
         None => (Err(Fault::Work(WorkFault::Run(fault))), teller),
         Some(name) => {
             let words = channel_words(teller.alloc, network, name);
-            teller.tell_unknown(is_plain(asked.plain), name, words.as_str());
+            teller.tell_unknown(options.plain.is_some(), name, words.as_str());
             (Ok(RunEnding::Refused), teller)
         }
     }
@@ -210,17 +164,17 @@ fn run_network<I: Read + Drop, W: Write + Drop, E: Write + Drop>(
     program: &str,
     network: &Network,
     config: Config,
-    asked: Requested<'_>,
+    options: &LiveOptions,
     input: I,
     output: W,
     teller: Teller<E>,
 ) -> (Result<RunEnding, Fault>, W, Teller<E>)
-    ensures { Gives W.contents E.contents teller result (HasRunNetwork (request_of asked.entry) network.now config (I.remaining input) (W.contents output)) }
+    ensures { Gives W.contents E.contents teller result (HasRunNetwork options.now network.now config (I.remaining input) (W.contents output)) }
 {
-    let session = match started(alloc, network, config, asked.plain) {
+    let session = match started(alloc, network, config, &options.plain) {
         Ok(session) => session,
         Err(fault) => {
-            let (ending, teller) = unstarted(network, fault, asked, teller);
+            let (ending, teller) = unstarted(network, fault, options, teller);
             return (ending, output, teller);
         }
     };
@@ -229,11 +183,10 @@ fn run_network<I: Read + Drop, W: Write + Drop, E: Write + Drop>(
         outlet: DeferredWriter::new(output),
         teller,
     };
-    let fed = Fed {
-        input: input_of(asked.plain),
-        at_end: asked.at_end,
-    };
-    let ending = work(alloc, program, &mut stage, input, fed, asked.strict);
+    let named = input_of(&options.plain);
+    let at_end = options.at_end.as_slice();
+    let strict = options.strict;
+    let ending = work(program, &mut stage, input, named, at_end, strict);
     let ending = sent(&mut stage.outlet, ending);
     let LiveStage { outlet, teller, .. } = stage;
     let output = outlet.writer;
@@ -244,15 +197,12 @@ fn run_network<I: Read + Drop, W: Write + Drop, E: Write + Drop>(
 fn named_input(name: &str) -> Option<&str>
     ensures { option_copied result ≡ named_input name.now }
 {
-    if name.is_empty() {
-        return None;
-    }
-    Some(name)
+    if name.is_empty() { None } else { Some(name) }
 }
 
 /// The name of the channel whose values stand alone in the lines of input, where one is named.
-fn input_of(plain: Option<&PlainNames>) -> Option<&str>
-    ensures { option_copied result ≡ input_of (option_copied plain.entry) }
+fn input_of(plain: &Option<PlainNames>) -> Option<&str>
+    ensures { option_copied result ≡ input_of plain.now }
 {
     match plain {
         Some(plain) => named_input(plain.input.as_str()),
@@ -271,27 +221,12 @@ fn run<I: Read + Drop, W: Write + Drop, E: Write + Drop>(
 ) -> (Result<RunEnding, Fault>, W, Teller<E>)
     ensures { Gives W.contents E.contents teller result (HasRunText program.now options (I.remaining input) (W.contents output)) }
 {
-    let LiveOptions {
-        config,
-        at_end,
-        plain,
-        strict,
-        ..
-    } = options;
-    let columns = plain.as_ref();
-    let watch = name_watched(&config.watch, columns);
-    let asked = Requested {
-        plain: columns,
-        shown: names_shown(&config.watch, columns),
-        at_end: &at_end,
-        strict,
-    };
-    let Ok(config) = watching(alloc, &config, watch) else {
+    let Ok(config) = watching(alloc, &options.config, name_watched(&options)) else {
         return (Err(wants_memory()), output, teller);
     };
     match checked(alloc, program) {
         Ok(network) => run_network(
-            alloc, program, &network, config, asked, input, output, teller,
+            alloc, program, &network, config, &options, input, output, teller,
         ),
         Err(fault) => (Err(Fault::Work(fault)), output, teller),
     }
@@ -314,8 +249,7 @@ fn told<E: Write>(ending: Result<RunEnding, Fault>, program: &str, teller: &mut 
     }
 }
 
-/// Runs a program text, of that file, on the input as the options say, writes what is new, and tells what isn't taken and a
-/// fault of the run to the writer of faults. It gives the status, and both writers back.
+/// Runs a program text, of that file, on the input as the options say, and gives the status, and both writers back.
 pub(crate) fn ran<I: Read + Drop, W: Write + Drop, E: Write + Drop>(
     alloc: Global,
     program: &str,

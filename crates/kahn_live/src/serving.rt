@@ -1,19 +1,17 @@
 //! A session on lines, to the end of its run.
 
-ghost use Rattle.std.specs.Prelude.{◌≡◌, IfErr, false, is_err};
+ghost use Rattle.std.specs.Prelude.{◌≡◌, IfErr, false, is_err, option_copied};
 ghost use Rattle.std.specs.Io.KnownBytes.{Keeps};
 ghost use Rattle.kahn_session.specs.Live.{HasVerdict, has_left};
-ghost use Rattle.kahn_live.specs.{Course.Across, Course.AcrossStage, Course.IsWriteFault, Course.point_of, Course.telling_of, LinesMet.lines_given};
+ghost use Rattle.kahn_live.specs.{Course.AcrossStage, Course.IsWriteFault, Course.Through, Course.point_of, Course.telling_of};
 ghost use Rattle.kahn_live.specs.Running.{HasServed, HasServedAll, IsEndWanted, IsEnded, IsJudged, IsLeftTold, IsSent, IsVerdictMet, WasSent, is_unwritten, reached_status};
 
 use crate::outlet::DeferredWriter;
-use crate::stage::LiveStage;
-use crate::taking::{Fed, take_all, wants_memory};
+use crate::taking::{LiveStage, take_all, wants_memory};
 use crate::telling::Teller;
 use kahn_fault::{Fault, WorkFault, live_status};
 use kahn_session::Session;
 use kahn_streams::Verdict;
-use std::alloc::Global;
 use std::io::{BufReader, Read, Write};
 
 /// What is amiss with a run that is judged.
@@ -129,17 +127,17 @@ fn close<W: Write, E: Write>(
 
 /// Takes the lines of the reader, and then those behind them, judges the run where it is to be, and closes the session of the program.
 fn serve<I: Read, W: Write, E: Write>(
-    alloc: Global,
     program: &str,
     stage: &mut LiveStage<'_, W, E>,
     reader: &mut BufReader<I>,
-    fed: Fed<'_>,
+    input: Option<&str>,
+    at_end: &[String],
     strict: bool,
 ) -> Result<RunEnding, Fault>
     requires { stage.old.session.broken ≡ false }
-    ensures { Across I.remaining W.contents E.contents reader.old reader.new stage.old stage.new (λ s t. HasServedAll strict (lines_given fed.entry) result s) }
+    ensures { Through I.remaining W.contents E.contents reader.old stage.old stage.new (HasServedAll strict (option_copied input.entry) at_end.now result) }
 {
-    if !take_all(alloc, stage, reader, fed)? {
+    if !take_all(stage, reader, input, at_end)? {
         return Ok(RunEnding::Refused);
     }
     let amiss = judged(&stage.session, strict);
@@ -149,20 +147,20 @@ fn serve<I: Read, W: Write, E: Write>(
 
 /// Takes the lines of the input, and writes what is new.
 pub(crate) fn work<I: Read + Drop, W: Write, E: Write>(
-    alloc: Global,
     program: &str,
     stage: &mut LiveStage<'_, W, E>,
-    input: I,
-    fed: Fed<'_>,
+    text: I,
+    input: Option<&str>,
+    at_end: &[String],
     strict: bool,
 ) -> Result<RunEnding, Fault>
     requires { stage.old.session.broken ≡ false }
-    ensures { AcrossStage W.contents E.contents stage.old stage.new (HasServed strict (lines_given fed.entry) result (I.remaining input)) }
+    ensures { AcrossStage W.contents E.contents stage.old stage.new (HasServed strict (option_copied input.entry) at_end.now result (I.remaining text)) }
 {
-    let Ok(mut reader) = BufReader::new(alloc, input) else {
+    let Ok(mut reader) = BufReader::new(stage.teller.alloc, text) else {
         return Err(wants_memory());
     };
-    serve(alloc, program, stage, &mut reader, fed, strict)
+    serve(program, stage, &mut reader, input, at_end, strict)
 }
 
 /// Whether a run ended since a write failed.
@@ -198,5 +196,5 @@ pub(crate) fn sent<W: Write>(
     ensures sent { WasSent ending result }
 {
     let sent = outlet.send();
-    ended(outlet.gone(), sent, ending)
+    ended(outlet.gone, sent, ending)
 }

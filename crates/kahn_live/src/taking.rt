@@ -1,32 +1,29 @@
 //! The lines of a run: those of the input, and those that are fed at its end.
 
 ghost use Rattle.std.specs.Prelude.{◌≡◌, ◌&&◌, IfErr, IfOk, IsTrue, None, false, map, option_copied, string_bytes, true};
-ghost use Rattle.std.specs.Io.Buffered.{reader_buffer};
+ghost use Rattle.std.specs.Io.Buffered.{reader_buffer, reader_remaining};
 ghost use Rattle.kahn_session.specs.{Live.HasVerdict, Live.breaks, Pace.MayBeSlow};
-ghost use Rattle.kahn_live.specs.Course.{Across, AcrossStage, HasSent, IsAloneMet, IsAnswerTold, IsLineMet, IsRefusalTold, IsPartMet, IsWriteFault, no_memory, point_of, telling_of};
-ghost use Rattle.kahn_live.specs.InputMet.{AreCellsMet, AreLastMet, AreLastTried, IsFirstPart, IsInputMet, IsLastRefused, IsAloneTold, IsNextMet, IsReadMet, IsRowMet, has_finished, is_idle};
-ghost use Rattle.kahn_live.specs.{LinesMet.AreAllMet, LinesMet.AreEachMet, LinesMet.lines_given, Histories.HasHistories, Lines.IsReadyToRead, Lines.fed_text, Rows.bytes_in};
+ghost use Rattle.kahn_live.specs.Course.{Across, AcrossStage, HasSent, IsAloneMet, IsAnswerTold, IsLineMet, IsRefusalTold, IsPartMet, IsWriteFault, Through, no_memory, point_of, telling_of};
+ghost use Rattle.kahn_live.specs.InputMet.{AreAllMet, AreCellsMet, AreEachMet, AreLastMet, AreLastTried, IsFirstPart, IsInputMet, IsLastRefused, IsAloneTold, IsCome, IsDeafNow, IsNextMet, IsReadMet, IsRowMet, has_finished, is_idle, lacks_memory};
+ghost use Rattle.kahn_live.specs.{Histories.HasHistories, Lines.IsReadyToRead, Lines.fed_text, Rows.bytes_in};
 
 use crate::complaint::tell_refused;
-use crate::lines::{Next, fed_line, has_line, without_mark};
+use crate::lines::{Next, fed_line, has_line, next_line, without_mark};
+use crate::outlet::DeferredWriter;
 use crate::rows::{bare_of, row_cells, row_names};
-use crate::source::{come, is_over};
-use crate::stage::LiveStage;
 use crate::telling::Teller;
 use kahn_fault::{Fault, WorkFault};
 use kahn_session::{AT_END, Session, TakeFault, is_want};
 use kahn_streams::{Failure, Open, RunFault, Verdict};
 use kahn_texts::ReadFault;
-use std::alloc::Global;
 use std::io::{BufReader, Read, Write};
 
-/// Which lines are fed.
-#[derive(Clone, Copy)]
-pub(crate) struct Fed<'a> {
-    /// The name of the channel whose values stand alone in the lines of the input, where they do.
-    pub(crate) input: Option<&'a str>,
-    /// The lines behind those of the input.
-    pub(crate) at_end: &'a [String],
+/// What the lines of a run change: a session, where it writes what is new, and where is told what isn't taken.
+#[derive(Drop)]
+pub(crate) struct LiveStage<'n, W: Write, E: Write> {
+    pub(crate) session: Session<'n>,
+    pub(crate) outlet: DeferredWriter<W>,
+    pub(crate) teller: Teller<E>,
 }
 
 /// Want of memory, as a fault of the run.
@@ -90,8 +87,7 @@ fn is_quiet(wanted: bool, first: Option<(usize, Failure)>, ringed: bool) -> bool
     }
 }
 
-/// Tells what there is to tell of the part of the line of that number, which had this verdict. It fails where what is new can't be
-/// written.
+/// Tells what there is to tell of the part of the line of that number, which had this verdict, behind what is new.
 fn tell_part<W: Write, E: Write>(
     stage: &mut LiveStage<'_, W, E>,
     verdict: Verdict,
@@ -110,14 +106,12 @@ fn tell_part<W: Write, E: Write>(
     }
     stage.outlet.send()?;
     stage.teller.tell_verdict(number, wanted, verdict);
-    let network = stage.session.network();
-    stage.teller.tell_faulty(number, network, first);
+    stage.teller.tell_faulty(number, &stage.session, first);
     stage.teller.tell_ring(number, &stage.session);
     Ok(())
 }
 
-/// Tells what there is to tell of the line of that number by its answer, and gives why it was refused. It fails where nothing
-/// can be written.
+/// Tells what there is to tell of the line of that number by its answer, and gives why it was refused.
 fn tell_answer<W: Write, E: Write>(
     stage: &mut LiveStage<'_, W, E>,
     answer: Result<Verdict, TakeFault>,
@@ -142,8 +136,7 @@ fn tell_answer<W: Write, E: Write>(
     }
 }
 
-/// Takes a line of that number, and tells where it is refused, and gives why, or where its part wants memory. It fails where
-/// nothing can be written.
+/// Takes a line of that number, tells what there is to tell of it, and gives why it was refused.
 fn take_line<W: Write, E: Write>(
     stage: &mut LiveStage<'_, W, E>,
     line: &[u8],
@@ -176,8 +169,7 @@ fn take_alone<W: Write, E: Write>(
     take_line(stage, fed, number)
 }
 
-/// Takes the lines of a row, each of which is meant for an input channel. One that is refused all the same ends the run, since those
-/// before it were taken.
+/// Takes the lines of a row, each meant for an input channel. One that is refused all the same ends the run: others were taken.
 fn take_cells<W: Write, E: Write>(
     stage: &mut LiveStage<'_, W, E>,
     cells: &[Vec<u8>],
@@ -190,7 +182,7 @@ fn take_cells<W: Write, E: Write>(
     for cell in cells {
         match take_line(stage, cell, number) {
             Ok(None) => {}
-            Ok(Some(_)) => return Err(wants_memory()),
+            Ok(Some(_refused)) => return Err(wants_memory()),
             Err(fault) => return Err(fault),
         }
     }
@@ -263,12 +255,51 @@ fn tell_alone<W: Write, E: Write>(stage: &mut LiveStage<'_, W, E>, input: Option
     let Some(input) = input else {
         return;
     };
-    let other = stage.session.other_input(input);
+    let Some(other) = stage.session.other_input(input) else {
+        return;
+    };
     stage.teller.tell_alone(input, other);
 }
 
-/// Reads the next line, of that number, and takes it, and tells whether there was one. What is new goes out before, unless the
-/// read doesn't wait.
+/// Whether no line can change the run any more.
+pub(crate) fn is_over(session: &Session<'_>) -> bool
+    ensures { IsDeafNow session.now result }
+{
+    if !session.settled() {
+        return false;
+    }
+    session.is_deaf()
+}
+
+/// Whether memory was refused for the last part.
+fn lacks_memory(session: &Session<'_>) -> bool
+    ensures { result ≡ lacks_memory session.now.flow.run.verdict }
+{
+    matches!(session.verdict(), Some(Verdict::Memory))
+}
+
+/// Reads the next line, without its line feed; of a program without an input channel it is a blank one, and there is none where memory
+/// was refused for the last part. What is new went out before, or the read doesn't wait.
+pub(crate) fn come<I: Read, W: Write>(
+    session: &Session<'_>,
+    reader: &mut BufReader<I>,
+    line: &mut Vec<u8>,
+    outlet: &DeferredWriter<W>,
+) -> Next
+    requires { IsReadyToRead (reader_buffer reader.old) outlet.now }
+    ensures { IsCome session.now (reader_remaining I.remaining reader.old) (reader_remaining I.remaining reader.new) line.new.items result }
+{
+    if let Some(_name) = session.first_input() {
+        return next_line(reader, line, outlet);
+    }
+    line.clear();
+    if lacks_memory(session) {
+        return Next::End;
+    }
+    Next::Line
+}
+
+/// Reads and takes the next line, and tells whether there was one. What is new goes out before, unless the read doesn't wait.
 fn take_next<I: Read, W: Write, E: Write>(
     stage: &mut LiveStage<'_, W, E>,
     reader: &mut BufReader<I>,
@@ -298,17 +329,16 @@ fn take_next<I: Read, W: Write, E: Write>(
 
 /// Takes the lines of the reader as long as one can change the run.
 fn take_lines<I: Read, W: Write, E: Write>(
-    alloc: Global,
     stage: &mut LiveStage<'_, W, E>,
     reader: &mut BufReader<I>,
     input: Option<&str>,
 ) -> Result<(), Fault>
     requires { stage.old.session.broken ≡ false }
     ensures broken { IfOk result (λ _. stage.new.session.broken ≡ false) }
-    ensures met { Across I.remaining W.contents E.contents reader.old reader.new stage.old stage.new (λ s t. IsInputMet (option_copied input.entry) result s) }
+    ensures met { Through I.remaining W.contents E.contents reader.old stage.old stage.new (IsInputMet (option_copied input.entry) result) }
 {
-    let mut line = Vec::new(alloc);
-    let mut room = Vec::new(alloc);
+    let mut line = Vec::new(stage.teller.alloc);
+    let mut room = Vec::new(stage.teller.alloc);
     for number in 1..u64::MAX {
         if is_over(&stage.session) {
             return Ok(());
@@ -337,7 +367,6 @@ fn take_last<W: Write, E: Write>(
 
 /// Runs the part before the first line, and tells whether there are input channels of the names whose values stand alone.
 fn begin<W: Write, E: Write>(
-    alloc: Global,
     stage: &mut LiveStage<'_, W, E>,
     input: Option<&str>,
 ) -> Result<bool, Fault>
@@ -345,7 +374,7 @@ fn begin<W: Write, E: Write>(
     ensures broken { IfOk result (λ _. stage.new.session.broken ≡ false) }
     ensures begun { AcrossStage W.contents E.contents stage.old stage.new (λ p q. IsFirstPart (option_copied input.entry) p q result) }
 {
-    let mut room = Vec::new(alloc);
+    let mut room = Vec::new(stage.teller.alloc);
     match take_read(stage, input, b"", 0, &mut room) {
         Ok(None) => Ok(true),
         Ok(Some(fault)) => {
@@ -358,25 +387,24 @@ fn begin<W: Write, E: Write>(
     }
 }
 
-/// Takes all lines, after a part before the first, and tells whether there is an input channel of the name whose values stand
-/// alone; else no line is taken.
+/// Takes all lines, after a part before the first, and tells whether the names whose values stand alone are of input channels.
 fn take_each<I: Read, W: Write, E: Write>(
-    alloc: Global,
     stage: &mut LiveStage<'_, W, E>,
     reader: &mut BufReader<I>,
-    fed: Fed<'_>,
+    input: Option<&str>,
+    at_end: &[String],
 ) -> Result<bool, Fault>
     requires { stage.old.session.broken ≡ false }
     ensures settled { IfOk result (λ there. there ≡ true → HasVerdict stage.new.session) }
     ensures histories { IfOk result (λ there. there ≡ true → HasHistories stage.new.session) }
-    ensures met { Across I.remaining W.contents E.contents reader.old reader.new stage.old stage.new (λ s t. AreEachMet (lines_given fed.entry) result s) }
+    ensures met { Through I.remaining W.contents E.contents reader.old stage.old stage.new (AreEachMet (option_copied input.entry) at_end.now result) }
 {
-    if !begin(alloc, stage, fed.input)? {
+    if !begin(stage, input)? {
         return Ok(false);
     }
-    tell_alone(stage, bare_of(fed.input));
-    take_lines(alloc, stage, reader, fed.input)?;
-    take_last(stage, fed.at_end)?;
+    tell_alone(stage, bare_of(input));
+    take_lines(stage, reader, input)?;
+    take_last(stage, at_end)?;
     Ok(true)
 }
 
@@ -413,21 +441,20 @@ fn try_last<E: Write>(
     Ok(true)
 }
 
-/// Takes all lines, after a part before the first, and tells whether those that are to be fed at the end are meant for input channels,
-/// and there is an input channel of the name whose values stand alone; else no line is taken.
+/// The same, if those that are to be fed at the end are meant for input channels; else no line is taken.
 pub(crate) fn take_all<I: Read, W: Write, E: Write>(
-    alloc: Global,
     stage: &mut LiveStage<'_, W, E>,
     reader: &mut BufReader<I>,
-    fed: Fed<'_>,
+    input: Option<&str>,
+    at_end: &[String],
 ) -> Result<bool, Fault>
     requires { stage.old.session.broken ≡ false }
     ensures settled { IfOk result (λ there. there ≡ true → HasVerdict stage.new.session) }
     ensures histories { IfOk result (λ there. there ≡ true → HasHistories stage.new.session) }
-    ensures met { Across I.remaining W.contents E.contents reader.old reader.new stage.old stage.new (λ s t. AreAllMet (lines_given fed.entry) result s) }
+    ensures met { Through I.remaining W.contents E.contents reader.old stage.old stage.new (AreAllMet (option_copied input.entry) at_end.now result) }
 {
-    match try_last(&stage.session, &mut stage.teller, fed.at_end) {
-        Ok(true) => take_each(alloc, stage, reader, fed),
+    match try_last(&stage.session, &mut stage.teller, at_end) {
+        Ok(true) => take_each(stage, reader, input, at_end),
         Ok(false) => Ok(false),
         Err(fault) => Err(fault),
     }

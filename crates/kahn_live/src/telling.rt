@@ -1,20 +1,16 @@
 //! What is told of lines that aren't taken, and of the end.
 
 ghost use Rattle.std.specs.Prelude.{◌≡◌, IfOk, IsTrue, false, option_copied, string_bytes, true};
-ghost use Rattle.std.specs.Option.{is_none};
-ghost use Rattle.kahn_session.specs.{Refusals.unknown_text, Refusals.path_line, Live.HasVerdict, Live.IsRinged};
+ghost use Rattle.kahn_session.specs.{Refusals.alone_line, Refusals.sentence_text, Refusals.unknown_text, Live.HasVerdict, Live.IsRinged};
 ghost use Rattle.kahn_fault.specs.{Status.live_status_of, Telling.pointer_text, Telling.told_text};
-ghost use Rattle.kahn_live.specs.Course.{AreCausesOf, IsTallied, IsMoreTold, IsNewPut, IsNewTold, IsNextTold, IsFaultPut, IsNewFault, IsStepPut, IsRingPut, IsRingTold, IsVerdictPut, IsVerdictTold, IsWaitPut, WasTold, complaints_of, does_count, is_again, is_alike, is_hinted, is_next, is_step_new, is_verdict_new, telling_of};
-ghost use Rattle.kahn_live.specs.{InputMet.IsAlonePut, Running.IsEndPut, Running.IsEndTold, Running.IsLastTold, Running.IsLeftTold, Running.IsWhyTold, Running.untold};
+ghost use Rattle.kahn_live.specs.Course.{AreCausesOf, IsFaultPut, IsHintTold, IsMoreTold, IsNewFault, IsNextTold, IsRingTold, IsTallied, IsVerdictTold, WasTold, does_count, is_again, is_alike, is_next, is_verdict_new, telling_of};
+ghost use Rattle.kahn_live.specs.Running.{IsEndPut, IsEndTold, IsLastTold, IsLeftTold, IsWhyTold, untold};
 
 use kahn_fault::{Fault, live_status, tell, tell_explain};
 use kahn_inputs::RefusedPart;
 use kahn_line::parted;
-use kahn_session::{
-    Session, TakeFault, is_want, take_words, write_alone, write_fault, write_more, write_note,
-    write_refusal, write_unknown, write_words,
-};
-use kahn_streams::{Failure, Network, Verdict};
+use kahn_session::{Sentence, Session, TakeFault, is_want, take_words, write_sentence};
+use kahn_streams::{Failure, Verdict};
 use kahn_texts::write_line;
 use kahn_why::causes;
 use std::alloc::{AllocError, Global};
@@ -25,26 +21,6 @@ fn is_next(number: u64, before: u64) -> bool
     ensures { result ≡ is_next number before }
 {
     number != 0 && number - 1 == before
-}
-
-/// Whether no input channel is named.
-fn is_unnamed(input: Option<&str>) -> bool
-    ensures { result ≡ is_none (option_copied input.entry) }
-{
-    match input {
-        None => true,
-        Some(_) => false,
-    }
-}
-
-/// Whether it was told how bare numbers are taken, now or before.
-fn is_hinted(input: Option<&str>, before: bool) -> bool
-    ensures { result ≡ is_hinted (option_copied input.entry) before }
-{
-    match input {
-        None => before,
-        Some(_) => true,
-    }
 }
 
 /// Whether a fault is told in the words of another.
@@ -136,9 +112,20 @@ impl<E: Write> Teller<E> {
 
     /// Whether the line of that number is refused as the one before it, and nothing more is to be said of it.
     pub(crate) fn is_again(&self, number: u64, fault: TakeFault, input: Option<&str>) -> bool
-        ensures { result ≡ is_again (complaints_of self.now) number fault (option_copied input.entry) }
+        ensures { result ≡ is_again (telling_of E.contents self.now) number fault (option_copied input.entry) }
     {
-        is_unnamed(input) && is_next(number, self.number) && is_alike(self.last, fault)
+        match input {
+            None => is_next(number, self.number) && is_alike(self.last, fault),
+            Some(_) => false,
+        }
+    }
+
+    /// Tells a sentence.
+    pub(crate) fn say(&mut self, sentence: Sentence<'_>)
+        ensures { WasTold (sentence_text (string_bytes self.old.path) sentence.entry) (telling_of E.contents self.old) (telling_of E.contents self.new) }
+    {
+        let told = write_sentence(&mut self.errors, self.path.as_str(), sentence);
+        self.failed |= told.is_err();
     }
 
     /// Tells how many lines more were refused as the one that was told.
@@ -146,9 +133,8 @@ impl<E: Write> Teller<E> {
         ensures { IsMoreTold (telling_of E.contents self.old) (telling_of E.contents self.new) }
     {
         let more = self.number.saturating_sub(self.first);
-        let told = write_more(&mut self.errors, self.path.as_str(), more);
-        self.failed |= told.is_err();
         self.first = self.number;
+        self.say(Sentence::More(more));
     }
 
     /// Counts the line of that number.
@@ -159,44 +145,19 @@ impl<E: Write> Teller<E> {
         self.number = number;
     }
 
+    /// Tells how bare numbers are taken, where an input channel is named.
+    fn tell_hint(&mut self, input: Option<&str>)
+        ensures { IsHintTold (option_copied input.entry) (telling_of E.contents self.old) (telling_of E.contents self.new) }
+    {
+        let Some(input) = input else {
+            return;
+        };
+        self.hinted = true;
+        self.say(Sentence::Bare(input));
+    }
+
     /// Tells why the line of that number is refused, by the part of it that is at fault, and how bare numbers are taken, where an
-    /// input channel is named.
-    fn tell_new(
-        &mut self,
-        number: u64,
-        fault: TakeFault,
-        part: RefusedPart<'_>,
-        input: Option<&str>,
-    )
-        ensures { IsNewTold number fault part.entry (option_copied input.entry) (telling_of E.contents self.old) (telling_of E.contents self.new) }
-    {
-        let hinted = is_hinted(input, self.hinted);
-        self.put_new(number, fault, part, input);
-        self.last = Some(fault);
-        self.first = number;
-        self.number = number;
-        self.hinted = hinted;
-    }
-
-    /// Writes it.
-    fn put_new(&mut self, number: u64, why: TakeFault, part: RefusedPart<'_>, hint: Option<&str>)
-        ensures { IsNewPut (complaints_of self.old) number why part.entry (option_copied hint.entry) (telling_of E.contents self.old) (telling_of E.contents self.new) }
-    {
-        let told = write_refusal(
-            &mut self.errors,
-            self.path.as_str(),
-            number,
-            why,
-            part.word,
-            part.words,
-            hint,
-        );
-        self.failed |= told.is_err();
-        self.refused |= does_count(self.keep_going, why);
-    }
-
-    /// Tells why the line of that number isn't taken, as `tell_new` does, behind how many lines more were refused as the last one that
-    /// was told.
+    /// input channel is named; behind how many lines more were refused as the last one that was told.
     pub(crate) fn tell(
         &mut self,
         number: u64,
@@ -207,81 +168,56 @@ impl<E: Write> Teller<E> {
         ensures { IsNextTold number fault part.entry (option_copied input.entry) (telling_of E.contents self.old) (telling_of E.contents self.new) }
     {
         self.tell_more();
-        self.tell_new(number, fault, part, input);
+        self.count(number, fault);
+        self.last = Some(fault);
+        self.first = number;
+        self.say(Sentence::Refused(number, fault, part.word, part.words));
+        self.tell_hint(input);
     }
 
-    /// Tells that all lines are for one input channel and none is for another, where there is another.
-    pub(crate) fn tell_alone(&mut self, input: &str, other: Option<&str>)
-        ensures { IsAlonePut input.now (option_copied other.entry) (telling_of E.contents self.old) (telling_of E.contents self.new) }
+    /// Tells that all lines are for one input channel and none is for another.
+    pub(crate) fn tell_alone<'a>(&mut self, input: &'a str, other: &'a str)
+        ensures { WasTold (alone_line (string_bytes self.old.path) input.now other.now) (telling_of E.contents self.old) (telling_of E.contents self.new) }
     {
-        let told = write_alone(&mut self.errors, self.path.as_str(), input, other);
-        self.failed |= told.is_err();
+        self.say(Sentence::Alone(input, other));
     }
 
     /// Tells that no channel has the name of `--plain` or `--watch` for the values that are shown, and more words.
-    pub(crate) fn tell_unknown(&mut self, of_plain: bool, name: &str, words: &str)
+    pub(crate) fn tell_unknown<'a>(&mut self, of_plain: bool, name: &'a str, words: &'a str)
         ensures { WasTold (unknown_text (string_bytes self.old.path) of_plain name.now words.now) (telling_of E.contents self.old) (telling_of E.contents self.new) }
     {
-        let path = self.path.as_str();
-        let told = write_unknown(&mut self.errors, path, of_plain, name, words);
-        self.failed |= told.is_err();
+        self.say(Sentence::Unknown(of_plain, name, words));
     }
 
-    /// Tells that the part of the line of that number waits for memory. The line isn't refused.
-    fn tell_waiting(&mut self, number: u64)
-        ensures { IsWaitPut number (telling_of E.contents self.old) (telling_of E.contents self.new) }
-    {
-        let words = "waits for memory";
-        let told = write_note(&mut self.errors, self.path.as_str(), number, words);
-        self.failed |= told.is_err();
-        self.waited = true;
-    }
-
-    /// Whether it is told now that this line wants more events than a part may do.
-    fn is_step_new(&self, line: &[u8]) -> bool
-        ensures { result ≡ is_step_new (complaints_of self.now) line.now }
-    {
-        !line.is_empty() && !self.stepped
-    }
-
-    /// Tells it of the line of that number. The line isn't refused.
-    fn tell_step(&mut self, number: u64)
-        ensures { IsStepPut number (telling_of E.contents self.old) (telling_of E.contents self.new) }
-    {
-        let words = "wants more events than --step allows, and goes on with the next line";
-        let told = write_note(&mut self.errors, self.path.as_str(), number, words);
-        self.failed |= told.is_err();
-        self.stepped = true;
-    }
-
-    /// Whether something of this verdict is told now of the part of this line.
+    /// Whether something of this verdict is told now of the part of this line: each once in a run, and of an empty line no want of events.
     pub(crate) fn is_verdict_new(&self, verdict: Verdict, line: &[u8]) -> bool
-        ensures { result ≡ is_verdict_new (complaints_of self.now) line.now verdict }
+        ensures { result ≡ is_verdict_new (telling_of E.contents self.now) line.now verdict }
     {
         match verdict {
             Verdict::Finished => false,
-            Verdict::Bound => self.is_step_new(line),
+            Verdict::Bound => !line.is_empty() && !self.stepped,
             Verdict::Memory => !self.waited,
         }
     }
 
-    /// Tells it of the part of the line of that number.
-    fn put_verdict(&mut self, number: u64, verdict: Verdict)
-        ensures { IsVerdictPut number verdict (telling_of E.contents self.old) (telling_of E.contents self.new) }
-    {
-        match verdict {
-            Verdict::Finished => {}
-            Verdict::Bound => self.tell_step(number),
-            Verdict::Memory => self.tell_waiting(number),
-        }
-    }
-
-    /// Tells it where that is wanted.
+    /// Tells it of the part of the line of that number, where that is wanted. The line isn't refused.
     pub(crate) fn tell_verdict(&mut self, number: u64, wanted: bool, verdict: Verdict)
         ensures { IsVerdictTold number wanted verdict (telling_of E.contents self.old) (telling_of E.contents self.new) }
     {
-        if wanted {
-            self.put_verdict(number, verdict);
+        if !wanted {
+            return;
+        }
+        match verdict {
+            Verdict::Finished => {}
+            Verdict::Bound => {
+                let words = "wants more events than --step allows, and goes on with the next line";
+                self.stepped = true;
+                self.say(Sentence::Note(number, words));
+            }
+            Verdict::Memory => {
+                self.waited = true;
+                self.say(Sentence::Note(number, "waits for memory"));
+            }
         }
     }
 
@@ -300,22 +236,19 @@ impl<E: Write> Teller<E> {
     pub(crate) fn tell_faulty(
         &mut self,
         number: u64,
-        network: &Network,
+        session: &Session<'_>,
         first: Option<(usize, Failure)>,
     )
-        ensures { IsFaultPut number network.now first (telling_of E.contents self.old) (telling_of E.contents self.new) }
+        ensures { IsFaultPut number session.now.flow.run.network first (telling_of E.contents self.old) (telling_of E.contents self.new) }
     {
         let Some((instance, kind)) = first else {
             return;
         };
-        let path = self.path.as_str();
-        let told = write_fault(&mut self.errors, path, number, network, instance, kind);
-        self.failed |= told.is_err();
         self.faulted = true;
+        self.say(Sentence::Failed(number, session.network(), instance, kind));
     }
 
-    /// Whether processes wait on one another in a ring after a part, and it wasn't told before that some do. Behind the last part that isn't
-    /// asked: the end tells it.
+    /// Whether processes wait on one another in a ring, which wasn't told. Behind the last part that isn't asked: the end tells it.
     pub(crate) fn is_ring_new(&self, session: &Session<'_>) -> bool
         requires { HasVerdict session.now }
         ensures { IsTrue result → (self.now.ringed ≡ false) × IsRinged session.now.flow.run true }
@@ -338,26 +271,12 @@ impl<E: Write> Teller<E> {
             return;
         }
         match cause_words(self.alloc, "", "", session) {
-            Ok(words) => self.put_ring(number, parted(words.as_str(), '\n').0),
+            Ok(words) => {
+                self.ringed = true;
+                self.say(Sentence::Note(number, parted(words.as_str(), '\n').0));
+            }
             Err(_) => {}
         }
-    }
-
-    /// Tells it in these words.
-    fn put_ring(&mut self, number: u64, words: &str)
-        ensures { IsRingPut number words.now (telling_of E.contents self.old) (telling_of E.contents self.new) }
-    {
-        let told = write_note(&mut self.errors, self.path.as_str(), number, words);
-        self.failed |= told.is_err();
-        self.ringed = true;
-    }
-
-    /// Tells words behind the program's file.
-    fn put_words(&mut self, words: &str)
-        ensures { WasTold (path_line (string_bytes self.old.path) words.now) (telling_of E.contents self.old) (telling_of E.contents self.new) }
-    {
-        let told = write_words(&mut self.errors, self.path.as_str(), words);
-        self.failed |= told.is_err();
     }
 
     /// Tells that values are left without the others of their row, behind how many lines more were refused.
@@ -365,7 +284,7 @@ impl<E: Write> Teller<E> {
         ensures { IsLeftTold true (telling_of E.contents self.old) (telling_of E.contents self.new) }
     {
         self.tell_more();
-        self.put_words("values are left without the others of their row");
+        self.say(Sentence::Words("values are left without the others of their row"));
     }
 
     /// Tells lines that are made.
@@ -383,7 +302,7 @@ impl<E: Write> Teller<E> {
     {
         match cause_words(self.alloc, self.path.as_str(), program, session) {
             Ok(words) => self.put_lines(words.as_str()),
-            Err(_) => self.put_words("no memory to say why it ended so"),
+            Err(_) => self.say(Sentence::Words("no memory to say why it ended so")),
         }
     }
 

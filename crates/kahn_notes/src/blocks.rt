@@ -4,7 +4,7 @@ ghost use Rattle.std.specs.Prelude.{Contains, IfSome};
 
 use crate::changes::offered;
 use crate::foreign::closing_word;
-use crate::mending::mending;
+use crate::mending::{Fixed, mending};
 use crate::place::{Place, before, front, near};
 use crate::said::{Saying, Words, line_of, put_at, put_behind, sentence, spot_words};
 use crate::table::{finds, has_word, may_stand};
@@ -168,6 +168,26 @@ fn open_there(begins: &[Lexeme], span: Span) -> Option<Lexeme>
     None
 }
 
+/// The `end` before a lexeme with which a place is mended, before a semicolon there or with one.
+fn closing(place: Place, seats: &[LineLexeme], number: usize) -> Fixed {
+    let last = number.saturating_sub(1);
+    let is_ended = seats.get(last).is_some_and(|last| last.word == ";");
+    let first = if is_ended {
+        last.saturating_sub(1)
+    } else {
+        last
+    };
+    for (at, put) in [(first, "end"), (last, "end"), (last, "end;")] {
+        let part = seats.get(at).map_or(place.span, |seat| seat.span);
+        let fix = put_behind(place.alloc, place.text, part, put)?;
+        let fix = mending(place.alloc, place.text, place.span, Some(fix))?;
+        if fix.is_some() {
+            return Ok(fix);
+        }
+    }
+    Ok(None)
+}
+
 /// What is said of the `begin` that has no `end`: by its indentation its block ends before a line, or on that of the `begin`; one that stands
 /// beside another one is left out.
 fn unclosed(place: Place, seats: &[LineLexeme]) -> Saying {
@@ -199,7 +219,8 @@ fn unclosed(place: Place, seats: &[LineLexeme]) -> Saying {
     let at = spot_words(alloc, text, from)?;
     let ending = sentence(alloc, words, line_of(at.as_str()), at.as_str())?;
     let words = sentence(alloc, "`begin` has no `end`: @", ending.as_str(), "")?;
-    Ok(Some((Some((one.span, words)), None, None)))
+    let fix = closing(place, seats, end)?;
+    Ok(Some((Some((one.span, words)), fix, None)))
 }
 
 /// The lexeme that leads to several statements, to the `end` with a number.

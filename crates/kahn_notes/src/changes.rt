@@ -9,11 +9,16 @@ use kahn_syntax::Class;
 use kahn_wanted::{Change, Reach};
 use std::alloc::{AllocError, Global};
 
+/// How many lexemes a text has to go on with a change that is as good as one with which it is a program.
+const GOOD: usize = 16;
+
 /// The changes that are offered at a place.
 #[derive(Drop)]
 pub(crate) struct Offers {
     /// Whether the text is a program with them.
     pub(crate) whole: bool,
+    /// Whether it is, or goes on far.
+    pub(crate) far: bool,
     /// Those, or else those that go farthest.
     pub(crate) best: Vec<Change>,
     /// How far the text goes with each change that can stand there.
@@ -24,14 +29,20 @@ pub(crate) struct Offers {
 pub(crate) fn offers_of(alloc: Global, all: Vec<Reach>, at: usize) -> Result<Offers, AllocError> {
     let whole = all.iter().any(|reach| reach.whole);
     let most = all.iter().map(|reach| reach.to).max().unwrap_or(0);
-    let far = most.max(at.saturating_add(3));
+    let to = most.max(at.saturating_add(3));
     let mut best = Vec::new(alloc);
     for reach in &all {
-        if reach.whole || (!whole && reach.to == far) {
+        if reach.whole || (!whole && reach.to == to) {
             best.push(reach.change)?;
         }
     }
-    Ok(Offers { whole, best, all })
+    let far = whole || at.saturating_add(GOOD) < most;
+    Ok(Offers {
+        whole,
+        far,
+        best,
+        all,
+    })
 }
 
 /// Whether two lexemes that stand so many behind a place are the same, and not numbers, `+` or `-`, which may stand side by side.
@@ -76,9 +87,9 @@ pub(crate) fn is_slip(place: Place, count: isize, word: &str) -> bool {
     let lexemes = place.lexemes.iter();
     let same = lexemes.filter(|one| part_of(place.text, one.span) == name);
     let may_slip = match name.len() {
-        0 | 1 => place.offers.whole && same.count() == 1,
+        0 | 1 => place.offers.far && same.count() == 1,
         2 | 3 => same.count() == 1,
-        _ => place.offers.whole || row_of_foreign(name).is_none(),
+        _ => place.offers.far || row_of_foreign(name).is_none(),
     };
     is_within(name.as_bytes(), word.as_bytes(), 1)
         && !is_declared(place, name)
@@ -89,9 +100,7 @@ pub(crate) fn is_slip(place: Place, count: isize, word: &str) -> bool {
 /// The change that puts a keyword in the place of a name one slip away from it, at a place or before it: with which the text is a program,
 /// or else the one that goes farthest.
 pub(crate) fn slip(place: Place) -> Option<Change> {
-    let whole = place.offers.whole;
-    let all = place.offers.all.iter();
-    let slips = all.filter(|one| one.whole == whole).filter(|one| {
+    let slips = place.offers.all.iter().filter(|one| {
         let (change, back) = (one.change, place.number.saturating_sub(one.change.at));
         change.out == 1
             && back < 2

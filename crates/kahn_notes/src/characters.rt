@@ -7,10 +7,9 @@ use crate::foreign::line_help;
 use crate::mending::{Fixed, mending};
 use crate::rewriting::{KINDS, rewritten};
 use crate::said::put_at;
-use crate::spaced::nearest;
 use crate::table::{cell, has_word, row_of};
 use kahn_marks::{Fix, is_within, part_of};
-use kahn_syntax::{Span, SyntaxFault, lex};
+use kahn_syntax::{Span, SyntaxFault};
 use kahn_wanted::is_of_word;
 use std::alloc::{AllocError, Global};
 
@@ -36,9 +35,9 @@ _ |  | ; a name begins with a letter
 \" \u{2018} \u{2019} \u{201C} \u{201D} |  | ; there are no texts
 ' | ; | ; there are no texts, and a name has letters, digits and `_`
 ] | ) | ; brackets are `(` and `)`
-[ |  | ; brackets are `(` and `)`, and there are no arrays; a channel that one process writes and reads is a queue
+[ | ( | ; brackets are `(` and `)`, and there are no arrays; a channel that one process writes and reads is a queue
 { | begin | ; a block goes from `begin` to `end`, a comment from `comment` to `;`
-} | end | ; a block goes from `begin` to `end`, a comment from `comment` to `;`
+} | end ) | ; a block goes from `begin` to `end`, a comment from `comment` to `;`
 : |  | ; a choice among values is `if X = 0 then S else if X = 1 then T` | label
 & |  | ; a remainder is `X mod 8`, and `and` is of logicals | number
 && | and par | ; it is the word `and`, and between instances `par`
@@ -169,39 +168,6 @@ pub(crate) fn remark_before(
     Ok(Some(put_at(alloc, text, span, span, "comment")?))
 }
 
-/// The word round a character, or before the blank before it.
-fn word_round(text: &str, span: Span) -> Span {
-    let (before, behind) = (
-        text.get(..span.from).unwrap_or(""),
-        text.get(span.to..).unwrap_or(""),
-    );
-    let is_of = |one: char| one.is_ascii_alphanumeric() || one == '_';
-    let front = before.strip_suffix(" ").unwrap_or(before);
-    let (from, to) = (
-        front.trim_end_matches(is_of).len(),
-        behind.trim_start_matches(is_of).len(),
-    );
-    let to = text.len().saturating_sub(to);
-    Span { from, to }
-}
-
-/// The keyword or the name of the text from which the word round a character is one slip away, and that word in its place.
-fn blurred_word(alloc: Global, text: &str, plain: &str, span: Span) -> Fixed {
-    let word = word_round(text, span);
-    match lex(alloc, plain) {
-        Ok(lexemes) => {
-            let name = nearest(plain, &lexemes, part_of(text, word));
-            let put = name.map_or("", |name| name);
-            Ok(if put.is_empty() {
-                None
-            } else {
-                Some(put_at(alloc, text, word, word, put)?)
-            })
-        }
-        Err(_fault) => Ok(None),
-    }
-}
-
 /// What is put in the place of a character that isn't of the language: the first that mends the place, in the text and in that with blanks
 /// for such characters.
 pub(crate) fn character_fix(alloc: Global, text: &str, plain: &str, span: Span) -> Fixed
@@ -209,7 +175,6 @@ pub(crate) fn character_fix(alloc: Global, text: &str, plain: &str, span: Span) 
 {
     for fix in [
         remark_before(alloc, text, span.from)?,
-        blurred_word(alloc, text, plain, span)?,
         rewritten(alloc, text, plain, span.from)?,
     ] {
         let fix = mending(alloc, text, span, fix)?;

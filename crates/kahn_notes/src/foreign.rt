@@ -11,7 +11,7 @@ until | none | ; `repeat S` goes on for ever, and a loop with a test is `while n
 for foreach | none | ; a loop that counts is `while I < N do begin S; I := I + 1 end`, and one without an end `repeat S`
 goto | none | ; a loop is `while E do S`, or `repeat S`, which has no end
 break exit continue stop halt | none | ; a loop ends where the test of its `while` is false
-return yield | none | ; a process has no result: `send E on C` gives a value to another one
+return yield | send | ; a process has no result: `send E on C` gives a value to another one | +:=
 int ints long short unsigned | integer | ; the kinds are `integer` and `logical`; one stands before its names
 bool boolean booleans | logical | ; the kinds are `integer` and `logical`; one stands before its names
 real float string char array | none | ; the kinds are `integer` and `logical`; one stands before its names

@@ -9,11 +9,12 @@ use kahn_streams::NoMemory;
 use kahn_syntax::{Span, SyntaxFault, parse};
 use std::alloc::Global;
 
-/// Whether less stands behind a place of a text than behind one of another text.
-fn is_less(new: &str, at: Span, text: &str, span: Span) -> bool
+/// Whether less stands behind a place of a text than behind one of another text, and than behind a change of that.
+fn is_less(new: &str, at: Span, text: &str, span: Span, part: Span) -> bool
     ensures { IsTrue result → length new.now - at.from < length text.now - span.from }
 {
-    new.len().saturating_sub(at.from) < text.len().saturating_sub(span.from)
+    let left = new.len().saturating_sub(at.from);
+    left < text.len().saturating_sub(span.from) && left < text.len().saturating_sub(part.to)
 }
 
 /// Where a lexeme of a text can't stand, or a character isn't of the language, by the fault of the text.
@@ -28,19 +29,19 @@ fn place_of(_text: &str, fault: SyntaxFault) -> Option<Span>
     }
 }
 
-/// Whether less stands behind the fault of a text than behind a place of another text.
-fn is_later(new: &str, fault: SyntaxFault, text: &str, span: Span) -> bool
+/// Whether less stands behind the fault of a text than behind a place of another text, and than behind a change of that.
+fn is_later(new: &str, fault: SyntaxFault, text: &str, span: Span, part: Span) -> bool
     requires { IsTextFault new.now fault }
     ensures { IsTrue result → MendsText text.now span new.now }
 {
     match place_of(new, fault) {
-        Some(at) => is_less(new, at, text, span),
+        Some(at) => is_less(new, at, text, span, part),
         None => false,
     }
 }
 
-/// Whether a text is a program, or less stands behind its fault than behind a place of another text.
-fn goes_on(alloc: Global, new: &str, text: &str, span: Span) -> Result<bool, NoMemory>
+/// Whether a text is a program, or less stands behind its fault than behind a place of another text, and than behind a change of that.
+fn goes_on(alloc: Global, new: &str, text: &str, span: Span, part: Span) -> Result<bool, NoMemory>
     ensures { IfOk result (λ mends. IsTrue mends → MendsText text.now span new.now) }
 {
     match parse(alloc, new) {
@@ -49,9 +50,16 @@ fn goes_on(alloc: Global, new: &str, text: &str, span: Span) -> Result<bool, NoM
             if fault == SyntaxFault::NoMemory {
                 return Err(NoMemory);
             }
-            Ok(is_later(new, fault, text, span))
+            Ok(is_later(new, fault, text, span, part))
         }
     }
+}
+
+/// Whether a semicolon stands right before a part of a text, or right behind it.
+fn stands_at(text: &str, part: &Span) -> bool {
+    let (before, behind) = (text.get(..part.from), text.get(part.to..));
+    before.is_some_and(|before| before.trim_end().ends_with(";"))
+        || behind.is_some_and(|behind| behind.trim_start().starts_with(";"))
 }
 
 /// A change, where there is one.
@@ -64,10 +72,13 @@ pub(crate) fn mending(alloc: Global, text: &str, span: Span, fix: Option<Fix>) -
     let Some(fix) = fix else {
         return Ok(None);
     };
+    if fix.put.as_str() == ";" && stands_at(text, &fix.span) {
+        return Ok(None);
+    }
     let Some(new) = applied(alloc, text, &fix)? else {
         return Ok(None);
     };
-    if goes_on(alloc, new.as_str(), text, span)? {
+    if goes_on(alloc, new.as_str(), text, span, fix.span)? {
         return Ok(Some(fix));
     }
     Ok(None)

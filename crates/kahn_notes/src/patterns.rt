@@ -5,11 +5,12 @@
 /// for `wait`, `S` one for `send`, `P` one that starts, `E` to `G` expressions, `N` names alone, `L` names with commas between, and `T` what
 /// stands there to the end of the line; `|` without blanks stands between words of which there is one.
 pub(crate) const PATTERNS: &str = "\
-A := wait(B) | A = receive|recv|read|get|take|await ( B ) | A = < - B | A : = < - B | V A from B | let A = V B | A < - V B | A , C : = < - B
-B := wait(A) | V ( A , B ) | A ? B | V ( A ) : = B
-wait(A) | V [|{ A ]|} | V ) A ( | V on|for|from|of A | V A | A . V ( )
+A := wait(B) | A = receive|recv|read|get|take|await ( B ) | A = < - B | A : = < - B | V A from|on B | let A = V B | A < - V B | A , C : = < - B
+B := wait(A) | V ( A , B ) | A ? B | V ( A ) : = B | V ( A ) - > B
+wait(A) | A ? | V ( ( A ) ) | V [|{ A ]|} | V ) A ( | V on|for|from|of A | V A | A . V ( )
 send E on O | S ( E , O ) | S ( O , E ) | S E D O | S E - > O | S O , E | S O : = E | S O < - E | S O E | O . S ( E ) | O ! E | O < - E
 send E on A | on A S E | S on A E
+print E | printf|println|puts|echo|display ( E ) | System . out . println ( E ) | console|fmt|io . A ( E ) | cout < < E
 A := wait(U) | A < - U
 A := E | A < - E
 B := wait(U) | U - > B | U > > B
@@ -45,9 +46,9 @@ or | or else | orelse
 - | minus
 on A | on ( A )
 A := E | let mut A = E | let mut A : = E | let A : = E | let|set A = E | set A to E
-A := A + E | A + = E | add E to A | inc ( A , E )
-A := A - E | A - = E | dec ( A , E )
-A := A * (E) | A * = E
+A := A + E | A + = E | A + : = E | add E to A | inc ( A , E )
+A := A - E | A - = E | A - : = E | dec ( A , E )
+A := A * (E) | A * = E | A * : = E
 A := B + 1 | A : = B + +
 A := E | A = = E
 repeat | repeat - > | repeat forever
@@ -60,17 +61,21 @@ K in A | A < - chan K | K input channel A | input K A
 K D L | D L : K | L : K D
 ); | ) - > | ) is|do|=
 ); begin | ) = | ) {
-K A | K ( A ) | let A : K = 0 | A : : K | var A K | K : A | K A = 0|false | K A : = 0 | K value|val|const A
+K A | K ( A ) | let A : K = 0 | A : : K | var A K | K : A | K A = 0|false | K A : = 0 | const K A
 K A) | K A : = E ) | K A = E )
+K L) | K value|val|const L )
+K L; | K variable L ;
 K D A | D A K | D K A | K A D | A D K | A K D | K D channel A | K channel D A
 K R channel A | A : K R channel | R channel K A | channel K R A | channel A : K R | R A : K | R K channel A | channel K A R | A = R ( K ) | channel R K A | R K A
-K channel L | channel L : K | signal L : K
+K channel L | channel L : K | L : K channel | signal L : K
 K D L | L : D K
 (K in L | ( L : K
 ; K out L) | ; L : K )
 ; K out A) | , A : K )
 K L | var L : K | var L K | variable L : K | variable L : K : = E
-K L | L : K
+K A; A := E; | K A : = E ;
+integer L; | var|let|local|declare L ;
+K L | L : K | L K | K L : = 0|false | K L = 0|false
 integer D A | D channel A
 ; integer D A | , D A
 ; K D A) | ) - > K D A
@@ -81,7 +86,8 @@ K channel A | A : = make ( chan K ) | channel|chan of K A | channel < K > A | ch
 K channel A, B; | K channel A ; B ;
 K channel L; | chan|channel of K L :
 K R channel A, B; | K R channel A ; B ;
-integer channel A | channel A | var A = channel ( ) | A = channel ( )
+integer channel L | channel|chan L
+integer channel A | var A = channel ( ) | A = channel ( )
 A(T | process A ( T
 process A( | process A [ | process A = (
 process A(K | int A ( K
@@ -95,6 +101,8 @@ A( | P A (
 (A | ( K A | ( D A
 , A | , K A | , D A
 integer D A | D A
+integer out A | output A
+integer in A | input A
 (B | ( A = B | ( A : B | ( A = > B
 , B | , A = B | , A : B | , A = > B
 comment N; | { N }
@@ -114,6 +122,7 @@ repeat begin | for|loop {
  | import|package|program|use|uses|unit A ; | import|package|use A | import|program|module A | # define T
 W | W :
 repeat begin | repeat :
+end; process A( | endprocess|endproc A (
 end | end program|process|procedure|function | end process|procedure|function A
 ; comment T; | ; % T
 end comment T; | end % T

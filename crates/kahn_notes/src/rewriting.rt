@@ -130,8 +130,8 @@ fn end_of(window: Window, from: usize, piece: &str, next: &str) -> Option<usize>
                 break;
             }
             depth = match word {
-                "(" | "[" => depth.saturating_add(1),
-                ")" | "]" => depth.saturating_sub(1),
+                "(" | "[" | "if" => depth.saturating_add(1),
+                ")" | "]" | "else" => depth.saturating_sub(1),
                 _ => depth,
             };
             end = number.saturating_add(1);

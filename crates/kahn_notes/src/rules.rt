@@ -8,12 +8,12 @@ use crate::habits::RULES;
 use crate::mending::{Fixed, mending};
 use crate::place::{Place, before, near};
 use crate::rewriting::rewritten;
-use crate::said::{Saying, filled, fix_of, put_behind, sentence, told};
-use crate::spaced::{blurred, decimal, parted, shifted};
+use crate::said::{Saying, filled, fix_of, sentence, told};
+use crate::spaced::{blurred, parted, shifted};
 use crate::table::{cell, finds, fits, has_word};
+use crate::words::class_word;
 use kahn_marks::part_of;
-use kahn_syntax::{Class, Sign};
-use kahn_wanted::Change;
+use kahn_wanted::{CLASSES, Change};
 
 /// How many lexemes before a place a change may stand.
 pub(crate) const FAR: usize = 8;
@@ -52,8 +52,12 @@ fn foreign_said(place: Place) -> Saying {
     };
     let (alloc, text) = (place.alloc, place.text);
     let fix = match offered(before(place, count.unsigned_abs()), 1, "nothing") {
-        Some(change) if closing_word(place).is_some() || finds("integer logical", near(place, 0)) =>
-            fix_of(place, change)?,
+        Some(change)
+            if closing_word(place).is_some()
+                || finds("integer logical", near(place, 0))
+                || (cell(row, 3) == "+:=" && finds("; end", near(place, 0))) => fix_of(
+            place, change,
+        )?,
         _ => None,
     };
     let head = match (count, near(place, count)) {
@@ -103,19 +107,17 @@ fn said_by(row: &'static str, place: Place) -> Saying {
     }
     let (alloc, text) = (place.alloc, place.text);
     match what {
-        "decimal" => told(place, decimal(place)?),
         "shifted" => told(place, shifted(place)?),
         "parted" => told(place, parted(place, cell(row, 4) == "likely")?),
         "blurred" => told(place, blurred(place)?),
-        "group" => {
-            let (at, out) = (place.number.wrapping_sub(1), 1);
-            let (put, then) = (Some(Class::Sign(Sign::Semicolon)), None);
-            let change = Change { at, out, put, then };
-            told_change(place, Some(change))
-        }
-        "insist" => {
-            let last = near(place, -1).map_or(place.span, |last| last.span);
-            told(place, Some(put_behind(alloc, text, last, cell(row, 4))?))
+        "last" | "this" | "behind" => {
+            let at = place
+                .number
+                .saturating_sub(if what == "last" { 1 } else { 0 });
+            let mut classes = CLASSES.iter();
+            let put = classes.find(|class| class_word(**class) == cell(row, 4));
+            let (out, put, then) = (if what == "behind" { 0 } else { 1 }, put.copied(), None);
+            told_change(place, Some(Change { at, out, put, then }))
         }
         "words" => told(place, rewritten(alloc, text, text, place.span.from)?),
         "slip" => told_change(place, slip(place)),

@@ -1,52 +1,14 @@
-//! Words that were parted, grew together or lost a letter to a neighbour, and numbers of other languages.
+//! Words that were parted, grew together or lost a letter to a neighbour.
 
 use crate::mending::{Fixed, mending};
-use crate::place::{Place, front, near};
-use crate::said::{filled, replacing, sentence};
-use itoa::Buffer;
+use crate::place::{Place, front, name_at, near};
+use crate::said::{replacing, sentence};
 use kahn_marks::{is_within, part_of};
 use kahn_syntax::{Class, Keyword, Lexeme, Span};
 use kahn_wanted::{CLASSES, is_of_word};
 
 /// How many lexemes are looked at for a name.
 const MOST_NAMES: usize = 8192;
-
-/// A number of another language, which begins with digits.
-fn value_of(digits: &str, word: &str) -> Option<i64> {
-    let (sort, rest) = word.split_at_checked(1)?;
-    match (digits, sort) {
-        ("0", "x" | "X") => i64::from_str_radix(rest, 16).ok(),
-        ("0", "o" | "O") => i64::from_str_radix(rest, 8).ok(),
-        ("0", "b" | "B") => i64::from_str_radix(rest, 2).ok(),
-        (_, "e" | "E") => {
-            let power = 10i64.checked_pow(rest.parse::<u32>().ok()?)?;
-            digits.parse::<i64>().ok()?.checked_mul(power)
-        }
-        (_, _) => None,
-    }
-}
-
-/// A number of another language at a place or before it as it is written here, if the text is read past the place then.
-pub(crate) fn decimal(place: Place) -> Fixed {
-    let Some((one, other)) = near(place, -1).zip(near(place, 0)) else {
-        return Ok(None);
-    };
-    let (digits, word) = (
-        part_of(place.text, one.span),
-        part_of(place.text, other.span),
-    );
-    let Some(number) = value_of(digits, word) else {
-        return Ok(None);
-    };
-    if one.span.to < other.span.from {
-        return Ok(None);
-    }
-    let mut buffer = Buffer::new();
-    let put = String::from_str(place.alloc, buffer.format(number))?;
-    let to = other.span.to;
-    let fix = replacing(Span { to, ..one.span }, put);
-    mending(place.alloc, place.text, place.span, Some(fix))
-}
 
 /// Whether a word is a keyword.
 fn is_keyword(word: &str) -> bool {
@@ -70,7 +32,7 @@ fn is_near(word: &str, other: &str) -> bool {
 }
 
 /// The keyword or the name of some lexemes from which a word is one slip away; none if it is one of them but for what ends it.
-pub(crate) fn nearest<'t>(text: &'t str, lexemes: &[Lexeme], word: &str) -> Option<&'t str> {
+fn nearest<'t>(text: &'t str, lexemes: &[Lexeme], word: &str) -> Option<&'t str> {
     let bare = word.trim_end_matches(|one: char| !one.is_ascii_alphanumeric());
     for one in front(lexemes, MOST_NAMES) {
         if bare.len() < word.len() && part_of(text, one.span) == bare {
@@ -107,9 +69,22 @@ fn part_at(place: Place, first: isize, last: isize) -> Option<Span> {
     }
 }
 
+/// Whether the name so many behind a place stands elsewhere too.
+fn is_used(place: Place, count: isize) -> bool {
+    let Some(name) = name_at(place, count) else {
+        return false;
+    };
+    let lexemes = front(place.lexemes, MOST_NAMES).iter();
+    let same = lexemes.filter(|one| part_of(place.text, one.span) == name);
+    same.count() > 1
+}
+
 /// Two or three lexemes round a place that are one slip away from a keyword, or from a name of the text, and that word in their place.
 pub(crate) fn blurred(place: Place) -> Fixed {
     for (first, last) in [(-1, 0), (-1, 1), (-2, 0), (-2, -1), (0, 1), (0, 2)] {
+        if is_used(place, first) && is_used(place, last) {
+            continue;
+        }
         if let Some(span) = part_at(place, first, last) {
             let word = part_of(place.text, span);
             if let Some(name) = nearest(place.text, place.lexemes, word) {
@@ -136,17 +111,28 @@ fn are_parts(place: Place, one: &str, other: &str, likely: bool) -> bool {
     first != second && is_there(place, one) && is_there(place, other)
 }
 
+/// A part of the text as a word cut in two behind so many letters, if that mends the place.
+fn cut_at(place: Place, span: Span, word: &str, cut: usize) -> Fixed {
+    let (one, other) = word.split_at_checked(cut).unwrap_or(("", ""));
+    let put = sentence(place.alloc, "@ #", one, other)?;
+    mending(
+        place.alloc,
+        place.text,
+        place.span,
+        Some(replacing(span, put)),
+    )
+}
+
 /// A lexeme at a place or before it as two words.
 pub(crate) fn parted(place: Place, likely: bool) -> Fixed {
     for count in [-1, 0, -2] {
         let span = near(place, count).map_or(place.span, |lexeme| lexeme.span);
         let word = part_of(place.text, span);
-        for cut in 1..word.len() {
+        let end = if is_keyword(word) { 0 } else { word.len() };
+        for cut in 1..end {
             let (one, other) = word.split_at_checked(cut).unwrap_or(("", ""));
             if are_parts(place, one, other, likely) {
-                let put = sentence(place.alloc, "@ #", one, other)?;
-                let fix = Some(replacing(span, put));
-                let fix = mending(place.alloc, place.text, place.span, fix)?;
+                let fix = cut_at(place, span, word, cut)?;
                 if fix.is_some() {
                     return Ok(fix);
                 }
@@ -160,26 +146,13 @@ pub(crate) fn parted(place: Place, likely: bool) -> Fixed {
 pub(crate) fn shifted(place: Place) -> Fixed {
     for (first, last) in [(-1, 0), (0, 1), (-2, -1)] {
         let span = part_at(place, first, last).unwrap_or(place.span);
-        let (one, other) = part_of(place.text, span)
-            .split_once(" ")
-            .unwrap_or(("", ""));
-        let last = one.len().saturating_sub(1);
-        let (start, end) = one.split_at_checked(last).unwrap_or(("", ""));
-        let (letter, rest) = other.split_at_checked(1).unwrap_or(("", ""));
-        let names = [
-            (b'a', one),
-            (b'b', letter),
-            (b'c', rest),
-            (b'd', start),
-            (b'e', end),
-            (b'f', other),
-        ];
-        for form in ["ab c", "d ef"] {
-            let put = filled(place.alloc, form, false, &names)?;
-            let (one, other) = put.as_str().split_once(" ").unwrap_or(("", ""));
+        let part = part_of(place.text, span);
+        let (one, other) = part.split_once(" ").unwrap_or(("", ""));
+        let word = sentence(place.alloc, "@#", one, other)?;
+        for cut in [one.len().saturating_add(1), one.len().saturating_sub(1)] {
+            let (one, other) = word.as_str().split_at_checked(cut).unwrap_or(("", ""));
             if is_there(place, one) && is_there(place, other) {
-                let fix = Some(replacing(span, put));
-                let fix = mending(place.alloc, place.text, place.span, fix)?;
+                let fix = cut_at(place, span, word.as_str(), cut)?;
                 if fix.is_some() {
                     return Ok(fix);
                 }

@@ -1,7 +1,8 @@
 //! Tables of words, a row a line, with cells between bars; and what stands at a place, by such words.
 
 use crate::changes::{are_twice, offered};
-use crate::place::{Place, is_declared, name_at, near};
+use crate::place::{Place, before, front, is_declared, name_at, near};
+use crate::said::is_capital;
 use crate::words::class_word;
 use kahn_marks::part_of;
 use kahn_syntax::{Class, Lexeme, Span};
@@ -79,6 +80,7 @@ fn is_so(test: &str, place: Place) -> bool {
         "here" => place.back == 0,
         "near" => place.back < 2,
         "whole" => place.offers.whole,
+        "far" => place.offers.far,
         "twice" => are_twice(place, -1, 0),
         "chained" => finds(":=", near(place, -2)) && finds("name", near(place, -3)),
         "waiting" => finds("wait", near(place, -3)),
@@ -86,6 +88,10 @@ fn is_so(test: &str, place: Place) -> bool {
         "named" => is_word(place) && offered(place, 1, "name").is_some(),
         "opens" => best.any(|one| one.put.is_some_and(|class| class_word(class) == "(")),
         "declared" => is_known(place, 0),
+        "given" => is_known(place, -1),
+        "loud" => is_loud(place),
+        "handed" => stands_as(place, "handed"),
+        "grouped" => is_grouped(place),
         "unknown" => name_at(place, 0).is_some() && !is_known(place, 0),
         "assigned" => may_be_given(place),
         _ => true,
@@ -95,6 +101,46 @@ fn is_so(test: &str, place: Place) -> bool {
 /// Whether a keyword stands at a place.
 fn is_word(place: Place) -> bool {
     near(place, 0).is_some_and(|lexeme| matches!(lexeme.what, Class::Word(_)))
+}
+
+/// Whether the name at a place stands elsewhere as a channel that is written or read, or among arguments.
+fn stands_as(place: Place, what: &str) -> bool {
+    let Some(name) = name_at(place, 0) else {
+        return false;
+    };
+    for (number, lexeme) in place.lexemes.iter().enumerate() {
+        let at = Place { number, ..place };
+        let waits = finds("wait", near(at, -2));
+        let stands = match what {
+            "handed" => !waits && finds("( ,", near(at, -1)) && finds(") ,", near(at, 1)),
+            _ => waits || finds("on", near(at, -1)),
+        };
+        if stands && part_of(place.text, lexeme.span) == name {
+            return true;
+        }
+    }
+    false
+}
+
+/// Whether the name behind a semicolon goes with the parameters before that: they have no direction, or it is a channel too.
+fn is_grouped(place: Place) -> bool {
+    let earlier = front(place.lexemes, place.number.saturating_sub(1));
+    for lexeme in earlier.iter().rev() {
+        if !finds("name ,", Some(*lexeme)) {
+            return !finds("in out", Some(*lexeme)) || stands_as(place, "wired");
+        }
+    }
+    false
+}
+
+/// Whether the lexeme before a place is a keyword in capitals among others in small letters, where a name may stand.
+fn is_loud(place: Place) -> bool {
+    let last = before(place, 1);
+    let word = near(last, 0).map_or("", |last| part_of(place.text, last.span));
+    is_word(last)
+        && !is_capital(place.text)
+        && word.bytes().all(|byte| byte.is_ascii_uppercase())
+        && offered(last, 1, "name").is_some()
 }
 
 /// Whether a test holds of a place: behind `+` stands what may stand there, behind `-` what may not, and behind `>` what stands behind the

@@ -60,7 +60,7 @@ fn said_of(
         if let Some(said) = unended_said(alloc, text, span, it)? {
             return Ok(Some(said));
         }
-        if at.number == 0 && !offers.whole {
+        if at.number == 0 && !offers.far {
             let fix = mending(alloc, text, span, rewritten(alloc, text, text, span.from)?)?;
             return Ok(fix.map(|fix| (None, Some(fix), None)));
         }

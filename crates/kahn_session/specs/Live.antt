@@ -1,6 +1,6 @@
 -- Believed. A session: a run that is fed line by line, and what it has shown of its streams (this project's profile).
 use Rattle.std.specs.Prelude.{◌≡◌, ◌⊎◌, ℕ, suc, ◌<◌, ◌≤◌, Bool, true, false, List, [], ◌∷◌, map, length, replicate, slice_get, slice_index_or, Option, None, Some, is_some, Result, Ok, Err, ◌&&◌, not, nat_lt, ◌++◌}
-use Rattle.std.specs.{Io.KnownBytes.Appends, List.list_any, Str.IsUtf8, Str.bytes_eq}
+use Rattle.std.specs.{Io.KnownBytes.Appends, List.list_any, List.position, Str.IsUtf8, Str.bytes_eq}
 use Rattle.kahn_streams.specs.{declared.config.Config.Config, declared.tree.Program.Program, declared.tree.Role.Role, declared.value.Failure.Failure, declared.value.Value.Value, declared.value.Line.Line, Network.Schema, Network.channel_names, Network.network_of, Network.role_at, declared.value.Line.TheVariants.Channel, Feeds.IsMeant, Inputs.Entry, Inputs.inputs_of, Answers.Settles, declared.answer.End.End, declared.answer.Outcome.Outcome, declared.answer.Outcome.TheVariants.Faulted, declared.answer.Outcome.TheVariants.Waits, declared.answer.Verdict.Verdict, declared.answer.Verdict.TheVariants.Finished, declared.fault.RunFault.RunFault, Written.AppendsFront}
 use Rattle.kahn_streams.specs.declared.tree.Role.TheVariants as role
 use Rattle.kahn_chain.specs.Chain.{HasRing, stands}
@@ -45,17 +45,14 @@ IsUnopened t config fault.NoMemory = Unit {0}
 IsUnopened t config fault.NoThread = ⊥
 IsUnopened t config fault.Stalled = ⊥
 
--- the line is that of a channel of this name
-abbrev pub IsNamedLine : Program → Line → List ℕ → Type 0
-IsNamedLine t line name = (channel : ℕ) × (line ≡ Channel channel) × (channel_name t channel ≡ name)
+-- whether the line is that of a channel of this name
+abbrev pub bears_name : Program → List ℕ → Line → Bool
+bears_name t name (Channel channel) = bytes_eq (channel_name t channel) name
+bears_name t name _ = false
 
--- the line of this number is that of a channel of this name
-abbrev pub IsNamedAt : Program → List Line → ℕ → List ℕ → Type 0
-IsNamedAt t lines number name = (line : Line) × (slice_get lines number ≡ Some line) × IsNamedLine t line name
-
--- the stream of this number is that of a channel of this name
-abbrev pub IsStreamOf : HeldRun → ℕ → List ℕ → Type 0
-IsStreamOf h number name = IsNamedAt h.network (flow_lines h) number name
+-- the number of the first stream that is that of a channel of this name, where there is one
+abbrev pub stream_of : HeldRun → List ℕ → Option ℕ
+stream_of h name = position (bears_name h.network name) (flow_lines h)
 
 -- ---- a line of input
 

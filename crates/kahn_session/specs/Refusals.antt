@@ -1,5 +1,5 @@
 -- Believed. What is said of lines of input that aren't taken, and of their parts (this project's profile).
-use Rattle.std.specs.Prelude.{ℕ, ◌-◌, ◌^◌, ◌==◌, ◌&&◌, ◌||◌, Bool, true, false, not, List, [], ◌∷◌, ◌++◌, Option, None, Some, codes, decimal, if◌then◌else◌, length, nat_lt}
+use Rattle.std.specs.Prelude.{ℕ, ◌-◌, ◌^◌, ◌==◌, ◌&&◌, ◌||◌, Bool, true, false, not, List, [], ◌∷◌, codes, decimal, if◌then◌else◌, length, nat_lt}
 use Rattle.std.specs.List.{concat}
 use Rattle.kahn_streams.specs.{declared.feeds.FeedFault.FeedFault, declared.tree.Program.Program, declared.value.Failure.Failure, declared.value.Failure.TheVariants.Overflow, declared.value.Failure.TheVariants.Division}
 use Rattle.kahn_streams.specs.declared.feeds.FeedFault.TheVariants as feed
@@ -7,6 +7,8 @@ use Rattle.kahn_marks.specs.Shown.{shown_part}
 use Rattle.kahn_texts.specs.Formats.{process_name}
 use Rattle.kahn_session.specs.declared.fault.TakeFault.{TakeFault}
 use Rattle.kahn_session.specs.declared.fault.TakeFault.TheVariants as take
+use Rattle.kahn_session.specs.declared.refusal.Sentence.{Sentence}
+use Rattle.kahn_session.specs.declared.refusal.Sentence.TheVariants as sentence
 
 -- why values aren't fed
 abbrev pub feed_words : FeedFault → List ℕ
@@ -69,19 +71,17 @@ abbrev pub said_text : List ℕ → List ℕ → List ℕ → List ℕ → List 
 said_text path from number words part more =
     pieces path from number words (before_part part) (shown_part part) (behind_part part (length (shown_part part))) more
 
+-- what is said of a line of input: words, a part of it, and more words
+abbrev pub line_text : List ℕ → Bool → ℕ → List ℕ → List ℕ → List ℕ → List ℕ
+line_text path of_plain number words part more = said_text path (origin of_plain number) (digits of_plain number) words part more
+
 -- why a line isn't taken, the part of it that is at fault, and what is wanted there
 abbrev pub refusal_line : List ℕ → ℕ → TakeFault → List ℕ → List ℕ → List ℕ
-refusal_line path number f part more =
-    said_text path (origin (is_of_plain number f) number) (digits (is_of_plain number f) number) (take_words f) part more
+refusal_line path number f part more = line_text path (is_of_plain number f) number (take_words f) part more
 
--- how numbers without a name are taken, where an input channel is named
-abbrev pub hint_text : List ℕ → Option (List ℕ) → List ℕ
-hint_text path None = []
-hint_text path (Some input) = concat (path ∷ codes ": bare numbers are taken with --plain " ∷ input ∷ codes "\n" ∷ [])
-
--- why the line isn't taken, and how it would be
-abbrev pub refusal_text : List ℕ → ℕ → TakeFault → List ℕ → List ℕ → Option (List ℕ) → List ℕ
-refusal_text path number f part more hint = refusal_line path number f part more ++ hint_text path hint
+-- how numbers without a name are taken for an input channel
+abbrev pub bare_line : List ℕ → List ℕ → List ℕ
+bare_line path input = pieces path [] [] (codes "bare numbers are taken with --plain ") input [] [] []
 
 -- the option that names a channel whose values are shown
 abbrev pub showing_option : Bool → List ℕ
@@ -91,13 +91,9 @@ showing_option of_plain = if of_plain then codes ": --plain" else codes ": --wat
 abbrev pub unknown_text : List ℕ → Bool → List ℕ → List ℕ → List ℕ
 unknown_text path of_plain name more = said_text path (showing_option of_plain) [] (feed_words feed.UnknownName) name more
 
--- all lines are for one input channel, and none is for another, where there is one
+-- all lines are for one input channel, and none is for another
 abbrev pub alone_line : List ℕ → List ℕ → List ℕ → List ℕ
 alone_line path input other = pieces path [] [] (codes "--plain feeds ") input [] (codes " alone; no line feeds ") other
-
-abbrev pub alone_text : List ℕ → List ℕ → Option (List ℕ) → List ℕ
-alone_text path input None = []
-alone_text path input (Some other) = alone_line path input other
 
 abbrev pub more_words : ℕ → List ℕ
 more_words count = if count == 1 then codes " line more like it" else codes " lines more like it"
@@ -112,7 +108,7 @@ path_line path words = concat (path ∷ codes ": " ∷ words ∷ codes "\n" ∷ 
 
 -- words about a line that was taken
 abbrev pub line_note : List ℕ → ℕ → List ℕ → List ℕ
-line_note path number words = said_text path (origin false number) (digits false number) words [] []
+line_note path number words = line_text path false number words [] []
 
 -- which fault a process has
 abbrev pub failure_words : Failure → List ℕ
@@ -123,3 +119,14 @@ failure_words Division = codes " has a fault: division"
 abbrev pub failed_text : List ℕ → ℕ → Program → ℕ → Failure → List ℕ
 failed_text path number t instance kind =
     pieces path (origin false number) (digits false number) (decimal instance) (codes " ") (process_name t (instance - 1)) (failure_words kind) []
+
+-- what is told of a run on lines
+abbrev pub sentence_text : List ℕ → Sentence → List ℕ
+sentence_text path (sentence.Refused number f part more) = refusal_line path number f part.now more.now
+sentence_text path (sentence.Bare input) = bare_line path input.now
+sentence_text path (sentence.More count) = alike_text path count
+sentence_text path (sentence.Unknown of_plain name more) = unknown_text path of_plain name.now more.now
+sentence_text path (sentence.Alone input other) = alone_line path input.now other.now
+sentence_text path (sentence.Words words) = path_line path words.now
+sentence_text path (sentence.Note number words) = line_note path number words.now
+sentence_text path (sentence.Failed number network instance kind) = failed_text path number network.now instance kind

@@ -4,7 +4,6 @@ ghost use Rattle.std.specs.Prelude.{◌≡◌, ◌==◌, ◌-◌, ◌<◌, ◌�
 ghost use Rattle.std.specs.List.{list_any};
 ghost use Rattle.kahn_streams.specs.{Tokens.token_value, Written.Writes, Written.value_text};
 ghost use Rattle.kahn_sequential.specs.Flows.{flow_lines};
-ghost use Rattle.kahn_texts.specs.News.{plain_text};
 ghost use Rattle.kahn_session.specs.Forms.{HasLetGoBehind, are_rows, cell_news, fewest, form_text, is_uneven, news_of, news_on, next_of, row_count, row_news, row_stop, rows_news, waiting_from};
 ghost use Rattle.kahn_session.specs.{Live.OutBegins, inner.Kept.AreStale, inner.Kept.kept_values, inner.Kept.lines_text};
 
@@ -56,13 +55,6 @@ fn fresh_of<'r>(run: &'r Paced<'_>, number: usize) -> &'r [Carried]
         return &[];
     }
     run.fresh(lines[number])
-}
-
-/// Writes the values alone that are new on the stream of that number.
-fn put_plain<W: Write>(writer: &mut W, run: &Paced<'_>, number: usize) -> Result<(), WriteFault>
-    ensures { Writes (W.contents writer.old) (W.contents writer.new) result (plain_text (news_on number (news_of run.now.flow))) }
-{
-    write_plain(writer, fresh_of(run, number))
 }
 
 /// The text of a value.
@@ -192,7 +184,7 @@ pub(crate) fn show<W: Write>(
         return put_news(writer, network, run, run.lines());
     };
     if behind.is_empty() {
-        return put_plain(writer, run, *number);
+        return write_plain(writer, fresh_of(run, *number));
     }
     put_rows(writer, run, columns, from, to)
 }
@@ -208,12 +200,9 @@ fn are_rows(columns: &[usize]) -> bool
 fn has_more(run: &Paced<'_>, columns: &[usize], count: usize) -> bool
     ensures { result ≡ list_any (λ c. nat_lt count (length (next_of run.now c))) columns.now }
 {
-    for number in columns {
-        if next_count(run, *number) > count {
-            return true;
-        }
-    }
-    false
+    columns
+        .iter()
+        .any(|number| next_count(run, *number) > count)
 }
 
 /// Whether a value waits for the others of its row, where there are so many rows.

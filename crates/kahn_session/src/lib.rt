@@ -2,7 +2,6 @@
 #![tactic(auto)]
 
 mod fault;
-mod feeding;
 mod forms;
 mod pace;
 mod refusal;
@@ -10,8 +9,5 @@ mod ringing;
 mod session;
 
 pub use fault::TakeFault;
-pub use refusal::{
-    AT_END, is_want, take_words, write_alone, write_fault, write_more, write_note, write_refusal,
-    write_unknown, write_words,
-};
+pub use refusal::{AT_END, Sentence, is_want, take_words, write_sentence};
 pub use session::Session;

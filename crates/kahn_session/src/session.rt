@@ -1,27 +1,28 @@
 //! Sessions: what a line of input makes of a run, and what goes out after it.
 
-ghost use Rattle.std.specs.Prelude.{◌≡◌, ◌↔◌, ◌&&◌, not, ℕ, Some, false, map, true, IsTrue, MatchOption, MatchResult, option_copied};
-ghost use Rattle.std.specs.List.{list_any};
+ghost use Rattle.std.specs.Prelude.{◌≡◌, ◌↔◌, ◌&&◌, not, Some, false, map, true, IsTrue, MatchResult, option_copied};
+ghost use Rattle.std.specs.List.{list_any, position};
 ghost use Rattle.kahn_streams.specs.{Network.network_of, declared.answer.Verdict.Verdict as VerdictOf};
 ghost use Rattle.kahn_chain.specs.Chain.{AreStandings, stands};
-ghost use Rattle.kahn_sequential.specs.HeldRuns.{IsRightSoFar};
-ghost use Rattle.kahn_texts.specs.Formats.{channel_name};
-ghost use Rattle.kahn_session.specs.Live.{HasOpened, IsClosed, IsDeaf, IsFaulty, IsFirstFault, IsFirstInput, IsMeantLine, IsOtherInput, HasVerdict, IsNamedAt, IsNamedLine, IsRinged, IsStreamOf, IsTakenLine, IsUnfedBy, IsUnopened, breaks, first_faulted, has_left, is_finished, is_input, is_other, is_other_input, waits_on_input, wants_input};
+ghost use Rattle.kahn_sequential.specs.{Flows.Flowing, HeldRuns.IsRightSoFar};
+ghost use Rattle.kahn_texts.specs.Formats.{IsReadLine, channel_name, content};
+ghost use Rattle.kahn_session.specs.Live.{HasOpened, IsClosed, IsDeaf, IsFaulty, IsFedBy, IsFirstFault, IsFirstInput, IsMeantLine, IsOtherInput, HasVerdict, IsRinged, IsTakenLine, IsText, IsUnfedBy, IsUnopened, breaks, first_faulted, has_left, is_finished, is_input, bears_name, is_other_input, stream_of, waits_on_input, wants_input};
 ghost use Rattle.kahn_session.specs.Pace.{MayBeSlow};
 
 use crate::fault::TakeFault;
-use crate::feeding::{feed_line, line_meant};
 use crate::forms::{begun, is_uneven, let_go, row_count, show};
 use crate::pace::Paced;
 use crate::ringing::RingHint;
 use kahn_chain::has_ring;
 use kahn_streams::{
-    Config, End, Failure, Gate, Input, Line, Network, Outcome, Role, RunFault, Verdict,
+    Config, End, Failure, Gate, Input, Line, Network, Outcome, Role, RunFault, Value, Verdict,
+    channel_meant,
 };
-use kahn_texts::{WriteFault, channel_name, write_closing};
+use kahn_texts::{EntryFault, MOST_BYTES, WriteFault, channel_name, read_line, write_closing};
 use std::alloc::Global;
 use std::io::Write;
 use std::marker::Model;
+use std::str;
 
 /// A run that is fed line by line. What went out of its streams it lets go of.
 #[derive(Drop)]
@@ -57,9 +58,56 @@ impl<'n> Model for Session<'n> {
     ghost invariant = { λ s. AreKept s.paced.flow.run s.network.now (option_copied s.input) };
 }
 
+/// The entry of a line, or nothing where the line is blank.
+fn entry_of_line(alloc: Global, line: &[u8]) -> Result<Option<(String, Vec<Value>)>, TakeFault>
+    ensures { MatchResult result (λ read. IsText line.now × IsReadLine (content line.now) read) (λ f. (h : Flowing) → IsUnfedBy line.now h f) }
+{
+    if line.len() > MOST_BYTES {
+        return Err(TakeFault::TooLong);
+    }
+    let Ok(_text) = str::from_utf8(line) else {
+        return Err(TakeFault::NotUtf8);
+    };
+    match read_line(alloc, line) {
+        Ok(entry) => Ok(entry),
+        Err(EntryFault::NoHead) => Err(TakeFault::BadLine),
+        Err(EntryFault::NoValues) => Err(TakeFault::BadValue),
+        Err(EntryFault::NoMemory) => Err(TakeFault::NoMemory),
+    }
+}
+
+/// Feeds the values of a line.
+fn feed_line(alloc: Global, paced: &mut Paced<'_>, line: &[u8]) -> Result<(), TakeFault>
+    ensures fed { MatchResult result (λ _. IsFedBy line.now paced.old.flow paced.new.flow) (λ f. (paced.new ≡ paced.old) × IsUnfedBy line.now paced.old.flow f) }
+    ensures rest { paced.new ≡ record paced.old { flow = paced.new.flow } }
+{
+    match entry_of_line(alloc, line) {
+        Ok(None) => Ok(()),
+        Ok(Some((name, values))) => match paced.feed(name.as_str(), &values) {
+            Ok(()) => Ok(()),
+            Err(fault) => Err(TakeFault::Feed(fault)),
+        },
+        Err(fault) => Err(fault),
+    }
+}
+
+/// Whether the values of a line are meant for an input channel of a network, or why they aren't fed.
+fn line_meant(alloc: Global, network: &Network, line: &[u8]) -> Result<(), TakeFault>
+    ensures { MatchResult result (λ _. IsMeantLine line.now network.now) (λ f. (h : Flowing) → h.run.network ≡ network.now → IsUnfedBy line.now h f) }
+{
+    match entry_of_line(alloc, line) {
+        Ok(None) => Ok(()),
+        Ok(Some((name, values))) => match channel_meant(network, name.as_str(), &values) {
+            Ok(_) => Ok(()),
+            Err(fault) => Err(TakeFault::Feed(fault)),
+        },
+        Err(fault) => Err(fault),
+    }
+}
+
 /// Whether the line is that of a channel of that name.
-fn is_of(network: &Network, line: Line, name: &[u8]) -> bool
-    ensures { (result ≡ true) ↔ IsNamedLine network.now line name.now }
+fn bears_name(network: &Network, name: &[u8], line: Line) -> bool
+    ensures { result ≡ bears_name network.now name.now line }
 {
     match line {
         Line::Channel(channel) => channel_name(network, channel).as_bytes() == name,
@@ -69,14 +117,11 @@ fn is_of(network: &Network, line: Line, name: &[u8]) -> bool
 
 /// The number of the first line that is that of a channel of that name.
 fn line_of(network: &Network, lines: &[Line], name: &[u8]) -> Option<usize>
-    ensures { MatchOption result ((n : ℕ) → ¬ IsNamedAt network.now lines.now n name.now) (λ number. IsNamedAt network.now lines.now number name.now) }
+    ensures { result ≡ position (bears_name network.now name.now) lines.now }
 {
-    for number in 0..lines.len() {
-        if is_of(network, lines[number], name) {
-            return Some(number);
-        }
-    }
-    None
+    lines
+        .iter()
+        .position(|line| bears_name(network, name, *line))
 }
 
 /// The number from 1 of the first instance whose end is a fault, and which one.
@@ -102,21 +147,17 @@ fn is_input(role: Role) -> bool
     matches!(role, Role::Input)
 }
 
-/// Whether a channel of that name has another one than this, where there is one.
-fn is_other(channel: &str, but: Option<&str>) -> bool
-    ensures { result ≡ is_other (option_copied but.entry) channel.now }
-{
-    match but {
-        None => true,
-        Some(name) => channel != name,
-    }
-}
-
 /// Whether a channel of that role and name is an input of another name than this, where there is one.
 fn is_other_input(role: Role, channel: &str, but: Option<&str>) -> bool
     ensures { result ≡ is_other_input (option_copied but.entry) role channel.now }
 {
-    is_input(role) && is_other(channel, but)
+    if !is_input(role) {
+        return false;
+    }
+    match but {
+        None => true,
+        Some(name) => channel != name,
+    }
 }
 
 /// The name of the first such channel.
@@ -140,9 +181,7 @@ fn wants_input(network: &Network, outcome: Outcome) -> bool
         Outcome::Waits(channel) => {
             channel < network.channels() && is_input(network.channel(channel).role)
         }
-        Outcome::Ended => false,
-        Outcome::Faulted(_) => false,
-        Outcome::More => false,
+        Outcome::Ended | Outcome::Faulted(_) | Outcome::More => false,
     }
 }
 
@@ -150,12 +189,7 @@ fn wants_input(network: &Network, outcome: Outcome) -> bool
 fn has_input_wait(network: &Network, ends: &[End]) -> bool
     ensures { result ≡ list_any (waits_on_input (network_of network.now)) ends.now }
 {
-    for end in ends {
-        if wants_input(network, end.outcome) {
-            return true;
-        }
-    }
-    false
+    ends.iter().any(|end| wants_input(network, end.outcome))
 }
 
 /// Whether a run with this verdict is over, where one of its processes waits on an input channel or none does.
@@ -194,7 +228,7 @@ impl<'n> Session<'n> {
 
     /// The number of the stream of a channel of that name, or nothing where it has none.
     pub fn stream_of(&self, channel: &[u8]) -> Option<usize>
-        ensures { MatchOption result ((n : ℕ) → ¬ IsStreamOf self.now.flow.run n channel.now) (λ number. IsStreamOf self.now.flow.run number channel.now) }
+        ensures { result ≡ stream_of self.now.flow.run channel.now }
     {
         line_of(self.network, self.paced.lines(), channel)
     }
@@ -244,14 +278,8 @@ impl<'n> Session<'n> {
             .ask(self.alloc, self.network, self.paced.events(), ends);
         begun(&self.paced, self.paced.lines());
         let count = row_count(&self.paced, &self.columns);
-        if let Err(fault) = show(
-            writer,
-            self.network,
-            &self.paced,
-            &self.columns,
-            self.shown,
-            count,
-        ) {
+        let run = &self.paced;
+        if let Err(fault) = show(writer, self.network, run, &self.columns, self.shown, count) {
             self.broken = true;
             return Err(TakeFault::Write(fault));
         }
@@ -371,13 +399,9 @@ impl<'n> Session<'n> {
         let Some(verdict) = self.paced.verdict() else {
             unreachable!()
         };
-        match write_closing(
-            writer,
-            self.network,
-            verdict,
-            self.paced.ends(),
-            self.paced.events(),
-        ) {
+        let ends = self.paced.ends();
+        let events = self.paced.events();
+        match write_closing(writer, self.network, verdict, ends, events) {
             Ok(()) => Ok(verdict),
             Err(fault) => Err(fault),
         }

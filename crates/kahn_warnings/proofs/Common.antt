@@ -25,7 +25,7 @@ pub use Rattle.kahn_warnings.specs.Sites.{action_sites, else_sites, form_sites, 
 pub use Rattle.kahn_warnings.specs.Telling.{AreNotesOf}
 pub use Rattle.kahn_warnings.specs.Uses.{any_varies_by, assigned_by, assigns, is_assigned_in, is_named, is_used_in, uses_name, varies_by, waits_in}
 pub use Rattle.kahn_warnings.specs.Warned.{warned}
-pub use Rattle.kahn_warnings.specs.Warnings.{block_items, by_layout, declaration_warnings, first_standing, first_unreached, list_warnings, name_warnings, parameter_warnings, row_warnings, site_warnings, statement_warnings, variable_warnings}
+pub use Rattle.kahn_warnings.specs.Warnings.{block_items, by_layout, declaration_warnings, first_standing, first_unreached, list_warnings, name_warnings, parameter_warnings, program_warnings, row_warnings, site_warnings, statement_warnings, variable_warnings}
 pub use Rattle.kahn_warnings.specs.declared.{sites.ConstantSite.ConstantSite, warning.Warning.Warning}
 pub use Rattle.kahn_warnings.specs.declared.warning.WarningKind.TheVariants.{LongComment, Unreached}
 pub use Rattle.kahn_warnings.specs.inner.Collecting.{contains}

@@ -1,6 +1,5 @@
 -- The operands of a level and the statements of a block and of a body, one after another.
 use Rattle.kahn_warnings.proofs.Common.{Binary, Bool, Bracket', Conditional', Expr, Form, Level', List, Negate', None, Not', Operand, Option, Row_of-Operand, Row_of-Statement, Scope, Some, Span, Statement, Stmt, Unreached, Warning, [], any_varies_by, ap, append_assoc, at_drop_all, block_items, body_of, drop, end_of-Operand, end_of-Statement, expr_of, expression_of, false, first_standing, first_unreached, flat_map, if◌then◌else◌, is_assigned_in, is_named, is_seen, is_used_in, items-the_row-Operand, items-the_row-Statement, length, level_of, list_any, list_warnings, more_of-Operand, more_of-Statement, never_ends, option_or, refl, row_of, row_warnings, statement_of, statement_warnings, stmt_of, sym, take, take_all, true, varies_by, waits_in, warned, ℕ, ◌++◌, ◌||◌, ◌∙◌, ◌∷◌, ◌≡◌, ◌≤◌, or-false, or_assoc}
-use Rattle.kahn_streams.specs.declared.tree.Form as form
 
 -- one more of a list, and no more, where they are tried from the left
 module _ {X : Type 0} (f : X → Bool) (l : List X) (all had : Bool) (so_far : had || list_any f l ≡ all) where
@@ -30,15 +29,12 @@ row_varies these (more_of-Operand o at e rest) = ap (λ b. varies_by these e || 
 -- an expression that varies by no name waits
 mutual
   pub form_waits : (names : Scope) (f : Form) → varies_by (λ x. false) f ≡ waits_in (expr_of names f)
-  form_waits names (form.Number z) = refl
-  form_waits names (form.Logical b) = refl
-  form_waits names (form.Variable x) = refl
-  form_waits names (form.Wait q) = refl
   form_waits names (Negate' p at e) = form_waits names e
   form_waits names (Not' p at e) = form_waits names e
   form_waits names (Bracket' p at e) = form_waits names e
   form_waits names (Level' p at e shape row) = level_waits names _ _ row (form_waits names e)
   form_waits names (Conditional' p at t q at' a r at'' b) = λ i. form_waits names t i || form_waits names a i || form_waits names b i
+  form_waits names f = refl
 
   level_waits : {m : _} (names : Scope) (before : Bool) (first : Expr) (row : Row_of-Operand m) → before ≡ waits_in first
       → before || any_varies_by (λ x. false) row ≡ waits_in (level_of names first row)

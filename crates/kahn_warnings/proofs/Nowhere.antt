@@ -1,6 +1,5 @@
 -- A body without a place never ends with that fault.
-use Rattle.kahn_warnings.proofs.Common.{Action, Actual, AllByRecursion, AreNumbersOf64, AreOf64Bits, AreWrittenIn64, Assign, Binary, Block', Bool, Bracket', Channel, Conditional, Conditional', ConstantSite, Cut, Dry, Err, Expr, Fail, Failure, Fault, Faulted, FaultsLie, Form, Give, Given, Got, Hands, HasEnd, Held-Action-If-2, Histories, If, If', Inputs, IsOf64Bits, IsOperand, IsWrittenIn64, Level', Line, List, Literal, Logical, Negate, Negate', Schema, Nobody, None, None', Not, Not', Ok, Operator, Option, Port, Print, Reached, Reads, Repeat, Repeat', Rest, Result, Row_of-Operand, Row_of-Statement, Scope, Script, ScriptOutcome, Send, Sends, Seq, Skip, Some, Some', Source, Span, Statement, Stmt, Store, Tapes, Turns, Value, Variable, Wait, Waits, While, While', Writes, Written, [], action_sites, actual_at, ap, apply, arith, body_of, chosen, combined, constant, constant_of, else_of, else_sites, end_of-Operand, end_of-Statement, ending, exec, exec_at, expr_of, false, fault_places, fed, flat_map, form_sites, goes_to, if◌then◌else◌, input_list, instance_at, inverted, iterate, level_of, level_sites, more_of-Operand, more_of-Statement, neg_ℤ, negated, not, number, opening, operator_can, out, place_where, play, put, ranged, read, refl, result_ok, row_of, row_sites, script_of, settle, sign_can, site_places, slice_set, source, stmt_of, subst, suc, sym, tape_of, tapes_of, true, truth, turns_of, value_of, values_at, wait_at, zero, ℕ, ◌++◌, ◌==◌, ◌∙◌, ◌∷◌, ◌≡◌}
-use Rattle.kahn_streams.specs.declared.tree.Form as form
+use Rattle.kahn_warnings.proofs.Common.{Action, Actual, AllByRecursion, AreNumbersOf64, AreOf64Bits, AreWrittenIn64, Assign, Binary, Block', Bool, Bracket', Channel, Conditional, Conditional', ConstantSite, Err, Expr, Fail, Failure, Fault, Faulted, FaultsLie, Form, Give, Given, HasEnd, Held-Action-If-2, Histories, If, If', Inputs, IsOf64Bits, IsOperand, IsWrittenIn64, Level', Line, List, Literal, Logical, Negate, Negate', Schema, Nobody, None, None', Not, Not', Ok, Operator, Option, Port, Print, Reached, Reads, Repeat, Repeat', Rest, Result, Row_of-Operand, Row_of-Statement, Scope, Script, ScriptOutcome, Send, Sends, Seq, Skip, Some, Some', Source, Span, Statement, Stmt, Store, Tapes, Turns, Value, Variable, Wait, Waits, While, While', Written, [], action_sites, actual_at, ap, apply, arith, body_of, chosen, combined, constant, constant_of, else_of, else_sites, end_of-Operand, end_of-Statement, ending, exec, exec_at, expr_of, false, fault_places, fed, flat_map, form_sites, goes_to, if◌then◌else◌, input_list, instance_at, inverted, iterate, level_of, level_sites, more_of-Operand, more_of-Statement, neg_ℤ, negated, not, number, opening, operator_can, out, place_where, play, put, ranged, read, refl, result_ok, row_of, row_sites, script_of, settle, sign_can, site_places, slice_set, source, stmt_of, subst, suc, sym, tape_of, tapes_of, true, truth, turns_of, value_of, values_at, wait_at, zero, ℕ, ◌++◌, ◌==◌, ◌∙◌, ◌∷◌, ◌≡◌}
 use Rattle.kahn_streams.specs.declared.tree.Action as action
 use Rattle.kahn_streams.specs.declared.value.Line.TheVariants as line
 use Rattle.kahn_warnings.proofs.Innocent as innocent
@@ -200,8 +199,7 @@ fed_short N I h Nobody sent c f = tt
 
 tape_short : (H : Histories) (a : Actual) → ((c : Line) → AreShort (H c)) → AreShort (tape_of H a)
 tape_short H (Reads c) h = h (Channel c)
-tape_short H (Writes c) h = tt
-tape_short H (Hands v) h = tt
+tape_short H a h = tt
 
 on_tapes : (N : Schema) (I : Inputs) (p : ℕ) (H : Histories) → AreNumbersOf64 N I → ((c : Line) → AreShort (H c)) →
     AreOf64Bits (instance_at N p).body (opening (instance_at N p)) (tapes_of (instance_at N p) H)
@@ -240,15 +238,12 @@ parted k (x ∷ xs) ys e =
 
 mutual
   same_constant : (names : Scope) (f : Form) → constant_of (expr_of names f) ≡ constant_of (expr_of [] f)
-  same_constant names (form.Number z) = refl
-  same_constant names (form.Logical b) = refl
-  same_constant names (form.Variable x) = refl
-  same_constant names (form.Wait q) = refl
   same_constant names (Negate' p at e) = ap negated (same_constant names e)
   same_constant names (Not' p at e) = ap inverted (same_constant names e)
   same_constant names (Bracket' p at e) = same_constant names e
   same_constant names (Level' p at e shape rest) = same_level names _ _ rest (same_constant names e)
   same_constant names (Conditional' p at t q at' a r at'' b) = λ i. chosen (same_constant names t i) (same_constant names a i) (same_constant names b i)
+  same_constant names f = refl
 
   same_level : {m : _} (names : Scope) (a b : Expr) (row : Row_of-Operand m) → constant_of a ≡ constant_of b → constant_of (level_of names a row) ≡ constant_of (level_of [] b row)
   same_level names a b end_of-Operand h = h
@@ -256,10 +251,6 @@ mutual
 
 mutual
   none_form : (k : Failure) (names : Scope) (f : Form) → places k (form_sites f) ≡ [] → IsInnocent k (expr_of names f)
-  none_form k names (form.Number z) h = tt
-  none_form k names (form.Logical b) h = tt
-  none_form k names (form.Variable x) h = tt
-  none_form k names (form.Wait q) h = tt
   none_form k names (Negate' p at e) h =
       let are = parted k (form_sites e) _ h in
       (none_form k names e are.0, innocent.sign k (constant_of (expr_of names e)) (ap (sign_can k) (same_constant names e) ∙ (one_place (sign_can k (constant_of (expr_of [] e))) at [] are.1).0))
@@ -272,6 +263,7 @@ mutual
       let are = parted k (form_sites t) _ h in
       let both = parted k (form_sites a) _ are.1 in
       (none_form k names t are.0, none_form k names a both.0, none_form k names b both.1)
+  none_form k names f h = tt
 
   none_level : {m : _} (k : Failure) (names : Scope) (first : Expr) (row : Row_of-Operand m) → IsInnocent k first → places k (level_sites (constant_of first) row) ≡ [] →
       IsInnocent k (level_of names first row)
@@ -321,12 +313,10 @@ nowhere k names ss h n s T are e =
     (exec_free (λ j. j ≡ k) n (body_of names ss) s T (λ j is. subst (λ l. AreInnocent l (body_of names ss)) (sym is) (none_body k names ss h)) are).0 k e refl
 
 ended : {A : Type 0} (x : ScriptOutcome A) (k : Failure) → ending x ≡ Some (Faulted k) → x ≡ Fault k
-ended (Got a) k e = absurd cc
-ended (Dry q) k e = absurd cc
 ended (Fault j) k e =
     let is : j ≡ k = cc in
     ap Fault is
-ended Cut k e = absurd cc
+ended x k e = absurd cc
 
 placed : (N : Schema) (I : Inputs) → AreNumbersOf64 N I → (p e : ℕ) (k : Failure) → HasEnd N I p (Faulted k) e → (names : Scope) (ss : List Statement) →
     (instance_at N p).body ≡ body_of names ss → fault_places k ss ≡ [] → ⊥

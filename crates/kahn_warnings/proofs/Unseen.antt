@@ -1,5 +1,5 @@
 -- What a statement does that never ends, and what one does that isn't seen.
-use Rattle.kahn_warnings.proofs.Common.{Assign, Binary, Bool, Conditional, Err, Expr, Fail, Failure, Give, If, Literal, Logical, LoopsHold, Negate, None, Not, Ok, Option, Print, Repeat, Rest, Result, Script, Send, Sends, Seq, Skip, Some, Stmt, Store, Tapes, Turns, Value, Variable, Wait, Waits, While, [], ap, apply, constant_of, false, fun_ext, is_seen, is_true, neg_ℤ, never_ends, not, number, play, ranged, refl, script_of, settle, slice_set, suc, sym, true, truth, turns_of, value_of, waits_in, zero, ℕ, ◌&&◌, ◌||◌, ◌∙◌, ◌≡◌, and_parts, or_cases, or_parts, ⊎_elim}
+use Rattle.kahn_warnings.proofs.Common.{Assign, Binary, Bool, Conditional, Err, Expr, Fail, Failure, Give, If, Literal, Logical, LoopsHold, Negate, None, Not, Ok, Option, Repeat, Rest, Result, Script, Sends, Seq, Skip, Some, Stmt, Store, Tapes, Turns, Value, Variable, Wait, Waits, While, [], ap, apply, constant_of, false, fun_ext, is_seen, is_true, neg_ℤ, never_ends, not, number, play, ranged, refl, script_of, settle, slice_set, suc, sym, true, truth, turns_of, value_of, waits_in, zero, ℕ, ◌||◌, ◌∙◌, ◌≡◌, and_parts, or_cases, or_parts, ⊎_elim}
 use Rattle.kahn_warnings.proofs.{Holding.holds, Unchanged.kept_value, Unchanged.never_left, Unchanged.same_branch}
 
 -- ---- whatever comes behind one that never ends
@@ -24,10 +24,6 @@ endless {A = A} (suc j) k t a v s f g h is =
     turned e = holds t v s _ h ∙ entered (truth v) _ _ is
 
 unmoved : {A : Type 0} (k : ℕ) (b : Stmt) (s : Store) (f g : Store → Script A) → never_ends b ≡ true → script_of k b s f ≡ script_of k b s g
-unmoved k Skip s f g h = absurd cc
-unmoved k (Assign x e) s f g h = absurd cc
-unmoved k (Send e q) s f g h = absurd cc
-unmoved k (Print e) s f g h = absurd cc
 unmoved k (Seq a b) s f g h =
     ⊎_elim (λ is. unmoved k a s (λ r. script_of k b r f) (λ r. script_of k b r g) is)
     (λ is. ap (λ (x : Store → Script _). script_of k a s x) (fun_ext (λ r. unmoved k b r f g is)))
@@ -41,6 +37,7 @@ unmoved k (While t a) s f g h = by (constant_of t) refl h
     by None is e = absurd cc
     by (Some v) is e = endless k k t a v s f g is e
 unmoved k (Repeat a) s f g h = repeated k k a s f g
+unmoved k b s f g h = absurd cc
 
 -- ---- scripts that take nothing and send nothing
 
@@ -85,8 +82,6 @@ quiet_turns (suc j) test body p q s next h =
 quiet_script : {A : Type 0} (k : ℕ) (b : Stmt) (s : Store) (next : Store → Script A) → is_seen b ≡ false → ((r : Store) → Quiet (next r)) → Quiet (script_of k b s next)
 quiet_script k Skip s next h q = q s
 quiet_script k (Assign x e) s next h q = quiet_value e s _ h (λ v. q (slice_set s x v))
-quiet_script k (Send e p) s next h q = absurd cc
-quiet_script k (Print e) s next h q = absurd cc
 quiet_script k (Seq a b) s next h q =
     let is = or_parts (is_seen a) (is_seen b) h in
     quiet_script k a s _ is.0 (λ r. quiet_script k b r next is.1 q)
@@ -99,6 +94,7 @@ quiet_script k (While t a) s next h q =
     quiet_turns k (λ r go. value_of t r go) (λ r go. script_of k a r go) (λ r go p. quiet_value t r go is.0 p) (λ r go p. quiet_script k a r go is.1 p) s next q
 quiet_script k (Repeat a) s next h q =
     quiet_turns k (λ r go. go (Logical true)) (λ r go. script_of k a r go) (λ r go p. p (Logical true)) (λ r go p. quiet_script k a r go h p) s next q
+quiet_script k b s next h q = absurd cc
 
 play_quiet : {A : Type 0} (n : ℕ) (c : Script A) (T : Tapes) → Quiet c → ((play n c T).left ≡ T) × ((play n c T).sent ≡ [])
 play_quiet n (Give a) T q = (refl, refl)

@@ -17,9 +17,8 @@ inverted None = None
 inverted (Some v) = Some (value.Logical (not (truth v)))
 
 abbrev pub combined : Operator → Option Value → Option Value → Option Value
-combined o None w = None
-combined o (Some v) None = None
 combined o (Some v) (Some w) = result_ok (apply o v w)
+combined o v w = None
 
 abbrev pub chosen : Option Value → Option Value → Option Value → Option Value
 chosen None a b = None
@@ -27,12 +26,11 @@ chosen (Some v) a b = if truth v then a else b
 
 abbrev pub constant_of : S.Expr → Option Value
 constant_of (S.Literal c) = Some (constant c)
-constant_of (S.Variable x) = None
-constant_of (S.Wait q) = None
 constant_of (S.Negate e) = negated (constant_of e)
 constant_of (S.Not e) = inverted (constant_of e)
 constant_of (S.Binary o a b) = combined o (constant_of a) (constant_of b)
 constant_of (S.Conditional t a b) = chosen (constant_of t) (constant_of a) (constant_of b)
+constant_of e = None
 
 -- it is known, and true
 abbrev pub is_true : Option Value → Bool

@@ -4,7 +4,7 @@ use Rattle.std.specs.{List.AllByRecursion, Result.result_err}
 use Rattle.std.proofs.Common.{int_eq}
 use Rattle.kahn_streams.specs.{declared.span.Span.Span, declared.tree.Operator.Operator, declared.tree.Statement.Statement, declared.value.Value.Value, declared.value.Failure.Failure, declared.tree.Operator.TheVariants.Add, declared.tree.Operator.TheVariants.Subtract, declared.tree.Operator.TheVariants.Multiply, declared.tree.Operator.TheVariants.Divide, declared.tree.Operator.TheVariants.Remainder, View.Scope, View.body_of, declared.value.Failure.TheVariants.Overflow, declared.value.Failure.TheVariants.Division, Arithmetic.apply, Arithmetic.fits_64, Arithmetic.is_zero, Arithmetic.number, Arithmetic.ranged, Network.Schema, Network.instance_at, Meaning.Store, Meaning.constant, Meaning.exec, Script.Fault, Script.Tapes, Solution.Faulted, Solution.HasEnd, Solution.Inputs, Solution.opening}
 use Rattle.kahn_streams.specs.Syntax as S
-use Rattle.kahn_warnings.specs.{Constants.divides, Constants.negate_fault, Sites.body_sites, declared.sites.ConstantSite.ConstantSite, declared.sites.SiteKind.SiteKind, declared.sites.SiteKind.TheVariants.Sign, declared.sites.SiteKind.TheVariants.Binary, declared.sites.SiteKind.TheVariants.Test, declared.sites.SiteKind.TheVariants.Turn}
+use Rattle.kahn_warnings.specs.{Constants.divides, Constants.negate_fault, Sites.body_sites, declared.sites.ConstantSite.ConstantSite, declared.sites.SiteKind.SiteKind, declared.sites.SiteKind.TheVariants.Sign, declared.sites.SiteKind.TheVariants.Binary}
 
 -- ---- which operators can have a fault
 
@@ -44,8 +44,7 @@ sign_can k (Some v) = is_failure k (negate_fault (Some v))
 abbrev pub site_can : Failure → SiteKind → Bool
 site_can k (Sign v) = sign_can k v
 site_can k (Binary o v w) = operator_can k o v w
-site_can k (Test v) = false
-site_can k (Turn v varies empty) = false
+site_can k s = false
 
 -- ---- where they stand
 
@@ -67,12 +66,11 @@ IsOf64Bits v = fits_64 (number v) ≡ true
 
 abbrev pub IsWrittenIn64 : S.Expr → Type 0
 IsWrittenIn64 (S.Literal c) = IsOf64Bits (constant c)
-IsWrittenIn64 (S.Variable x) = Unit {0}
-IsWrittenIn64 (S.Wait q) = Unit {0}
 IsWrittenIn64 (S.Negate e) = IsWrittenIn64 e
 IsWrittenIn64 (S.Not e) = IsWrittenIn64 e
 IsWrittenIn64 (S.Binary o a b) = IsWrittenIn64 a × IsWrittenIn64 b
 IsWrittenIn64 (S.Conditional t a b) = IsWrittenIn64 t × IsWrittenIn64 a × IsWrittenIn64 b
+IsWrittenIn64 e = Unit {0}
 
 abbrev pub AreWrittenIn64 : S.Stmt → Type 0
 AreWrittenIn64 S.Skip = Unit {0}

@@ -6,14 +6,11 @@ use Rattle.kahn_warnings.specs.{Constants.constant_of, Constants.is_true, Uses.i
 
 -- by its form a statement never ends, a loop with a test that is always true too: whatever is behind it isn't reached
 abbrev pub never_ends : Stmt → Bool
-never_ends Skip = false
-never_ends (Assign x e) = false
-never_ends (Send e q) = false
-never_ends (Print e) = false
 never_ends (Seq a b) = never_ends a || never_ends b
 never_ends (If t a b) = never_ends a && never_ends b
 never_ends (While t a) = is_true (constant_of t)
 never_ends (Repeat a) = true
+never_ends a = false
 
 -- a statement waits, sends or prints, reached or not
 abbrev pub is_seen : Stmt → Bool

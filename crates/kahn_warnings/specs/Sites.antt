@@ -1,7 +1,7 @@
 -- Believed. The operators and the tests in the body of a process, with what the constants tell of their operands.
 use Rattle.std.specs.Prelude.{List, [], ◌∷◌, ◌++◌, Option, flat_map}
 use Rattle.kahn_streams.specs.{declared.span.Span.Span, declared.tree.Statement.Statement, declared.value.Value.Value, View.expr_of, View.expression_of}
-use Rattle.kahn_streams.specs.declared.tree.Form.{Form, Number, Logical, Variable, Wait, Negate', Not', Bracket', Level', Conditional', Row_of-Operand, end_of-Operand, more_of-Operand}
+use Rattle.kahn_streams.specs.declared.tree.Form.{Form, Negate', Not', Bracket', Level', Conditional', Row_of-Operand, end_of-Operand, more_of-Operand}
 use Rattle.kahn_streams.specs.declared.tree.Action.{Action, Empty, Assign, Send, Print, Block', If', While', Repeat', Row_of-Statement, end_of-Statement, more_of-Statement, Held-Action-If-2, None', Some'}
 use Rattle.kahn_warnings.specs.{Constants.combined, Constants.constant_of, Uses.assigned_by, Uses.is_empty, Uses.varies_by, declared.sites.ConstantSite.ConstantSite, declared.sites.SiteKind.SiteKind, declared.sites.SiteKind.TheVariants.Sign, declared.sites.SiteKind.TheVariants.Binary, declared.sites.SiteKind.TheVariants.Test, declared.sites.SiteKind.TheVariants.Turn}
 
@@ -11,15 +11,12 @@ site_at k at = record { kind = k; span = at }
 -- in an expression: of an operator its right operand is told, of a sign its only one
 abbrev mutual
   pub form_sites : Form → List ConstantSite
-  form_sites (Number z) = []
-  form_sites (Logical b) = []
-  form_sites (Variable x) = []
-  form_sites (Wait q) = []
   form_sites (Negate' p at e) = form_sites e ++ site_at (Sign (constant_of (expr_of [] e))) at ∷ []
   form_sites (Not' p at e) = form_sites e
   form_sites (Bracket' p at e) = form_sites e
   form_sites (Level' p at e shape rest) = form_sites e ++ level_sites (constant_of (expr_of [] e)) rest
   form_sites (Conditional' p at t q at' a r at'' b) = form_sites t ++ (site_at (Test (constant_of (expr_of [] t))) at ∷ (form_sites a ++ form_sites b))
+  form_sites f = []
 
   -- behind operands with this value
   pub level_sites : {m : _} → Option Value → Row_of-Operand m → List ConstantSite

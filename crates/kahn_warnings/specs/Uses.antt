@@ -7,13 +7,12 @@ use Rattle.kahn_streams.specs.Syntax.{Expr, Literal, Variable, Wait, Negate, Not
 
 -- an expression waits, reached or not
 abbrev pub waits_in : Expr → Bool
-waits_in (Literal c) = false
-waits_in (Variable x) = false
 waits_in (Wait q) = true
 waits_in (Negate e) = waits_in e
 waits_in (Not e) = waits_in e
 waits_in (Binary o a b) = waits_in a || waits_in b
 waits_in (Conditional t a b) = waits_in t || waits_in a || waits_in b
+waits_in e = false
 
 -- the name of number x stands in an expression, as a value or as a channel
 abbrev pub is_named : ℕ → Expr → Bool
@@ -38,14 +37,12 @@ is_used_in x (Repeat a) = is_used_in x a
 
 -- it gives it a value
 abbrev pub is_assigned_in : ℕ → Stmt → Bool
-is_assigned_in x Skip = false
 is_assigned_in x (Assign y e) = nat_eq x y
-is_assigned_in x (Send e q) = false
-is_assigned_in x (Print e) = false
 is_assigned_in x (Seq a b) = is_assigned_in x a || is_assigned_in x b
 is_assigned_in x (If t a b) = is_assigned_in x a || is_assigned_in x b
 is_assigned_in x (While t a) = is_assigned_in x a
 is_assigned_in x (Repeat a) = is_assigned_in x a
+is_assigned_in x a = false
 
 -- nothing stands there
 abbrev pub is_empty : Action → Bool
@@ -55,8 +52,6 @@ is_empty a = false
 -- an expression waits, or has a name of these
 abbrev mutual
   pub varies_by : (List ℕ → Bool) → Form → Bool
-  varies_by these (Number z) = false
-  varies_by these (Logical b) = false
   varies_by these (form.Variable x) = these (bytes_of x)
   varies_by these (form.Wait q) = true
   varies_by these (Negate' p at e) = varies_by these e
@@ -64,6 +59,7 @@ abbrev mutual
   varies_by these (Bracket' p at e) = varies_by these e
   varies_by these (Level' p at e shape row) = varies_by these e || any_varies_by these row
   varies_by these (Conditional' p at t q at' e r at'' f) = varies_by these t || varies_by these e || varies_by these f
+  varies_by these f = false
 
   pub any_varies_by : {m : _} → (List ℕ → Bool) → Row_of-Operand m → Bool
   any_varies_by these end_of-Operand = false

@@ -5,7 +5,7 @@ use Rattle.std.specs.{List.list_any, Option.option_or}
 use Rattle.std.proofs.Common.{bytes_eq}
 use Rattle.kahn_streams.specs.{View.bytes_of, View.expression_of, View.stmt_of, View.statement_of, declared.tree.Kind.TheVariants.Integer, declared.tree.Kind.TheVariants.Logical}
 use Rattle.kahn_streams.specs.declared.{span.Span.Span, tree.Kind.Kind, tree.Name.Name, tree.Statement.Statement, tree.Parameter.Parameter, tree.Process.Process, tree.Instance.Instance, tree.Declaration.Declaration, tree.Program.Program, tree.Variable.Variable}
-use Rattle.kahn_streams.specs.declared.tree.Action.{Action, Empty, Assign, Send, Print, Block', If', While', Repeat', Row_of-Statement, end_of-Statement, more_of-Statement, Held-Action-If-2, None', Some'}
+use Rattle.kahn_streams.specs.declared.tree.Action.{Action, Block', If', While', Repeat', Row_of-Statement, end_of-Statement, more_of-Statement, Held-Action-If-2, None', Some'}
 use Rattle.kahn_streams.specs.declared.tree.Declaration.TheVariants as D
 use Rattle.kahn_warnings.specs.{Comments.AreCommentWarnings, Constants.constant_of, Constants.is_true, Constants.site_kind, Loops.is_seen, Loops.never_ends, Sites.body_sites, Uses.assigns, Uses.is_empty, Uses.uses_name, Warned.warned, declared.sites.ConstantSite.ConstantSite, declared.warning.Warning.Warning, declared.warning.WarningKind.WarningKind}
 use Rattle.kahn_warnings.specs.declared.warning.WarningKind.TheVariants.{NoInstance, Unused, Unread, StaysZero, StaysFalse, Idle, Unreached, BareThen, Beside}
@@ -78,15 +78,12 @@ bare_kind a = if is_empty a then Some BareThen else None
 -- in a statement that stands here
 abbrev mutual
   pub statement_warnings : Option Span → Action → List Warning
-  statement_warnings at Empty = []
-  statement_warnings at (Assign x e) = []
-  statement_warnings at (Send e q) = []
-  statement_warnings at (Print e) = []
   statement_warnings at (Block' shape row) = row_warnings row ++ list_warnings (block_items row)
   statement_warnings at (If' t p span a b) = statement_warnings span a ++ else_warnings at a b
   statement_warnings at (While' t p span a) =
       statement_warnings span a ++ warned (loop_kind (is_true (constant_of (expression_of [] t))) (is_seen (stmt_of [] a))) at
   statement_warnings at (Repeat' p span a) = statement_warnings span a ++ warned (loop_kind true (is_seen (stmt_of [] a))) at
+  statement_warnings at a = []
 
   pub row_warnings : {m : _} → Row_of-Statement m → List Warning
   row_warnings end_of-Statement = []

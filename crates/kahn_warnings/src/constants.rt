@@ -42,10 +42,7 @@ pub(crate) fn chosen(test: Option<Value>, yes: Option<Value>, no: Option<Value>)
 pub(crate) fn is_true(value: Option<Value>) -> bool
     ensures { result ≡ is_true value }
 {
-    match value {
-        None => false,
-        Some(value) => truth(value),
-    }
+    matches!(value, Some(value) if truth(value))
 }
 
 /// The fault of a sign before a value.
@@ -72,13 +69,8 @@ pub(crate) fn sure_fault(
 {
     match (left, right) {
         (_, None) => None,
-        (None, Some(value)) => {
-            if divides(operator) && number(value) == 0 {
-                Some(Failure::Division)
-            } else {
-                None
-            }
-        }
+        (None, Some(value)) if divides(operator) && number(value) == 0 => Some(Failure::Division),
+        (None, Some(_)) => None,
         (Some(left), Some(right)) => apply(operator, left, right).err(),
     }
 }

@@ -8,10 +8,8 @@ use std::alloc::{AllocError, Global};
 /// far. A tab goes to the next multiple of 8.
 fn line_before(text: &str, at: usize) -> (usize, usize, bool) {
     let before = bytes_between(text, 0, at);
-    let from = match before.iter().rposition(|byte| *byte == b'\n') {
-        Some(end) => end.saturating_add(1),
-        None => 0,
-    };
+    let end = before.iter().rposition(|byte| *byte == b'\n');
+    let from = end.map_or(0, |end| end.saturating_add(1));
     let (mut column, mut deep, mut blank) = (0usize, 0usize, true);
     for byte in bytes_between(text, from, at) {
         if *byte == b'\t' {
@@ -60,14 +58,12 @@ fn is_alike(text: &str, statement: &Statement, next: Span, guarded: bool) -> boo
 
 /// Adds those of a list of statements that are indented as if they belonged to the one before.
 fn add_list(spans: &mut Vec<Span>, text: &str, statements: &[Statement]) -> Result<(), AllocError> {
-    let mut before: Option<&Statement> = None;
-    for statement in statements {
-        if let (Some(before), Some(span)) = (before, statement.span) {
+    for (before, next) in statements.iter().zip(statements.iter().skip(1)) {
+        if let Some(span) = next.span {
             if is_alike(text, before, span, false) {
                 spans.push(span)?;
             }
         }
-        before = Some(statement);
     }
     Ok(())
 }
@@ -81,13 +77,11 @@ fn add_within(spans: &mut Vec<Span>, text: &str, statement: &Statement) -> Resul
             }
             add_list(spans, text, statements)
         }
-        Action::If(_, yes, no) => {
+        Action::If(_, yes, Some(no)) => {
             add_within(spans, text, yes)?;
-            match no {
-                Some(no) => add_within(spans, text, no),
-                None => Ok(()),
-            }
+            add_within(spans, text, no)
         }
+        Action::If(_, yes, None) => add_within(spans, text, yes),
         Action::While(_, body) | Action::Repeat(body) => add_within(spans, text, body),
         _ => Ok(()),
     }

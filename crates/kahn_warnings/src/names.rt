@@ -22,10 +22,9 @@ pub(crate) fn process_kind(instances: &[Instance], process: &Process) -> Option<
     ensures { result ≡ process_kind instances.now process.now }
 {
     if has_instance(instances, process) {
-        None
-    } else {
-        Some(WarningKind::NoInstance)
+        return None;
     }
+    Some(WarningKind::NoInstance)
 }
 
 /// What is warned of a name that is used or isn't, and is assigned or isn't: of a variable of this kind, or of a parameter.
@@ -54,13 +53,8 @@ fn add_name(
     requires assigned { Are (assigns _process.now) names.now.1 }
     ensures { IfOk result (λ _. warnings.new.items ≡ warnings.old.items ++ name_warnings (uses_name _process.now) (assigns _process.now) variable name.now) }
 {
-    let used = has(&names.0, name);
-    let assigned = has(&names.1, name);
-    add_warning(
-        warnings,
-        name_kind(used, assigned, variable),
-        Some(name.span),
-    )
+    let kind = name_kind(has(&names.0, name), has(&names.1, name), variable);
+    add_warning(warnings, kind, Some(name.span))
 }
 
 /// Adds those of the parameters of a process, and then those of its variables.

@@ -1,7 +1,7 @@
 //! How warnings are told.
 
 ghost use Rattle.std.specs.Prelude.{◌≡◌, IfOk};
-ghost use Rattle.kahn_warnings.specs.Telling.{AreNotesOf, AreWarningNotes, note_place, warning_place};
+ghost use Rattle.kahn_warnings.specs.Telling.{AreWarningNotes, note_place, warning_place};
 
 use crate::program::warnings;
 use crate::warning::{Warning, WarningKind};
@@ -40,11 +40,9 @@ fn warning_words(kind: WarningKind) -> &'static str {
 /// The end of a comment.
 fn end_of(alloc: Global, warning: Warning) -> Result<Other, AllocError> {
     let to = warning.span.to;
-    let span = Span {
-        from: to.saturating_sub(1),
-        to,
-    };
+    let from = to.saturating_sub(1);
     let words = String::from_str(alloc, "comment ends here")?;
+    let span = Span { from, to };
     Ok(Other { span, words })
 }
 
@@ -60,21 +58,14 @@ fn note_of(alloc: Global, warning: Warning) -> Result<Note, AllocError>
     Ok(note)
 }
 
-/// The notes on warnings.
-fn notes_of(alloc: Global, warnings: &[Warning]) -> Result<Vec<Note>, AllocError>
-    ensures { IfOk result (λ notes. AreNotesOf warnings.now notes.items) }
-{
-    let mut notes = Vec::new(alloc);
-    for warning in warnings {
-        notes.push(note_of(alloc, *warning)?)?;
-    }
-    Ok(notes)
-}
-
 /// The notes on what is warned of in a program of this text, in order. It refuses only where memory was refused.
 pub fn warning_notes(alloc: Global, text: &str, program: &Program) -> Result<Vec<Note>, NoMemory>
     ensures { IfOk result (λ notes. AreWarningNotes text.now program.now notes.items) }
 {
     let warnings = warnings(alloc, program, text)?;
-    Ok(notes_of(alloc, &warnings)?)
+    let mut notes = Vec::new(alloc);
+    for warning in &warnings {
+        notes.push(note_of(alloc, *warning)?)?;
+    }
+    Ok(notes)
 }

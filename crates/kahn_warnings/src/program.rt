@@ -1,9 +1,9 @@
 //! All that is warned of in a program.
 
-ghost use Rattle.std.specs.Prelude.{◌≡◌, ◌++◌, ◌&&◌, ◌||◌, IfOk, None, flat_map, if◌then◌else◌};
+ghost use Rattle.std.specs.Prelude.{◌≡◌, ◌++◌, ◌&&◌, ◌||◌, IfOk, None, if◌then◌else◌};
 ghost use Rattle.std.specs.Option.{option_or};
 ghost use Rattle.kahn_streams.specs.View.{Scope, statement_of};
-ghost use Rattle.kahn_warnings.specs.{Loops.is_seen, Loops.never_ends, Warnings.AreWarnings, Warnings.bare_kind, Warnings.body_warnings, Warnings.by_layout, Warnings.declaration_warnings, Warnings.loop_kind, Warnings.statement_warnings};
+ghost use Rattle.kahn_warnings.specs.{Loops.is_seen, Loops.never_ends, Warnings.AreWarnings, Warnings.bare_kind, Warnings.body_warnings, Warnings.declaration_warnings, Warnings.loop_kind, Warnings.statement_warnings};
 
 use crate::comments::comment_warnings;
 use crate::constants::is_true;
@@ -67,8 +67,7 @@ fn add_statement(
     match &statement.action {
         Action::Empty => Ok((false, false)),
         Action::Assign(_, expression) => Ok((false, waits_in(alloc, expression))),
-        Action::Send(_, _) => Ok((false, true)),
-        Action::Print(_) => Ok((false, true)),
+        Action::Send(_, _) | Action::Print(_) => Ok((false, true)),
         Action::Block(statements) => {
             let mut ends = false;
             let mut seen = false;
@@ -145,16 +144,6 @@ fn add_declaration(
     }
 }
 
-/// Adds a warning of each part.
-fn add_misplaced(warnings: &mut Vec<Warning>, spans: &[Span]) -> Result<(), AllocError>
-    ensures { IfOk result (λ _. warnings.new.items ≡ warnings.old.items ++ flat_map by_layout spans.now) }
-{
-    for span in spans {
-        add_warning(warnings, Some(Beside), Some(*span))?;
-    }
-    Ok(())
-}
-
 /// All that is warned of in a program of this text: the comments first, then one process after another, and then by indentation. It
 /// refuses only where memory was refused.
 pub fn warnings(alloc: Global, program: &Program, text: &str) -> Result<Vec<Warning>, NoMemory>
@@ -165,6 +154,8 @@ pub fn warnings(alloc: Global, program: &Program, text: &str) -> Result<Vec<Warn
         add_declaration(&mut warnings, alloc, &program.instances, declaration)?;
     }
     let spans = misplaced(alloc, text, program)?;
-    add_misplaced(&mut warnings, &spans)?;
+    for span in &spans {
+        add_warning(&mut warnings, Some(Beside), Some(*span))?;
+    }
     Ok(warnings)
 }

@@ -74,8 +74,7 @@ fn ran(alloc: Global, program: &str, it: &Admitted, input: &str, bound: u64) -> 
     }
 }
 
-/// Why a program is refused, or else its input, or else why its run for at most `bound` events stopped, with the warnings on the program
-/// before it.
+/// Why a program is refused, or its input, or else why its run for at most `bound` events stopped, behind the warnings on the program.
 fn told(alloc: Global, program: &str, input: &str, bound: u64) -> Option<Vec<u8>>
     ensures { IfSome result (λ text. IsReason program.now input.now bound text.items) }
 {

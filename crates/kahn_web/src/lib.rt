@@ -2,18 +2,18 @@
 //! out, or of why the run stopped, or of what each channel carried; the bytes of a program in, those of a picture out.
 #![tactic(auto)]
 
+ghost use Rattle.std.specs.Prelude.{IfSome, string_bytes};
 ghost use Rattle.kahn_web.specs.{Explained.IsReason, Page.IsPut, Page.IsPutIf, Page.IsRunInto, Picture.IsNetworkPicture, Whole.IsWholeText};
 
 mod alone;
-mod drawing;
 mod explaining;
-mod texts;
 mod whole;
 
-use crate::drawing::drawn;
+use crate::alone::run_texts;
 use crate::explaining::reason;
-use crate::texts::run_texts;
 use crate::whole::kept;
+use kahn_fault::checked;
+use kahn_graph::picture_text;
 use std::alloc::Global;
 
 /// The result of a run.
@@ -55,6 +55,22 @@ pub extern "C" fn kahn_web_run(
         status: status as u64,
         length: put(written.as_slice(), room),
     };
+}
+
+/// The picture of a program's network. There is none where the text isn't UTF-8, where the program is refused, and where memory is.
+fn drawn(alloc: Global, program: &[u8]) -> Option<String>
+    ensures { IfSome result (λ picture. IsNetworkPicture program.now (string_bytes picture)) }
+{
+    let Ok(program) = std::str::from_utf8(program) else {
+        return None;
+    };
+    let Ok(network) = checked(alloc, program) else {
+        return None;
+    };
+    match picture_text(alloc, &network, program, &[], &[]) {
+        Ok(picture) => Some(picture),
+        Err(_) => None,
+    }
 }
 
 /// Draws the network of a program. The picture, in the language of Graphviz, is copied as a report is, and its length is given, which

@@ -50,20 +50,10 @@ fn put_count(
         return Ok(());
     };
     let (mut first, mut second) = (Buffer::new(), Buffer::new());
-    let (sent, taken) = (first.format(count.sent), second.format(count.taken));
+    let sent = first.format(count.sent).as_bytes();
+    let taken = second.format(count.taken).as_bytes();
     let name = channel_name(network, channel).as_bytes();
-    write_line(
-        written,
-        &[
-            b"count ",
-            name,
-            b": ",
-            sent.as_bytes(),
-            b" ",
-            taken.as_bytes(),
-            b"\n",
-        ],
-    )
+    write_line(written, &[b"count ", name, b": ", sent, b" ", taken, b"\n"])
 }
 
 /// Writes what was kept of a channel.

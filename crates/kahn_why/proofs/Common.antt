@@ -14,8 +14,8 @@ pub use Rattle.kahn_why.specs.Refusing.{AreAllowed, IsNoteOn, IsPlacedNote, IsRe
 pub use Rattle.kahn_why.specs.Why.{IsEndedOrFaulted, IsFinal, LastForGood, StayForGood, came_to, standings_of}
 pub use Rattle.kahn_why.specs.inner.Stuck.{AreForGood, AreStuck}
 pub use Rattle.kahn_why.specs.inner.Told.{HasRefused, HasWritten, IsAdmitted}
-pub use Rattle.std.proofs.Common.{All, Bool, Err, List, None, Option, Result, Some, [], ap, append_assoc, arith, eq-eqb, false, get_or, if◌then◌else◌, inl, inr, le_refl, le_trans, length, map, max, ne_eqb, pos, refl, string_bytes, subst, suc, sym, take, true, ℕ, ⊎_elim, ◌++◌, ◌<◌, ◌==◌, ◌∙◌, ◌∷◌, ◌≡◌, ◌≤◌, ◌⊎◌}
-pub use Rattle.std.proofs.lemmas.Bool.{cases_eq, eqb-true}
+pub use Rattle.std.proofs.Common.{All, Bool, Err, List, None, Option, Result, Some, [], ap, append_assoc, arith, eq-eqb, false, get_or, if◌then◌else◌, inl, inr, le_refl, le_trans, length, map, max, pos, refl, string_bytes, subst, suc, sym, take, true, ℕ, ⊎_elim, ◌++◌, ◌<◌, ◌==◌, ◌∙◌, ◌∷◌, ◌≡◌, ◌≤◌, ◌⊎◌}
+pub use Rattle.std.proofs.lemmas.Bool.{eqb-true}
 pub use Rattle.std.proofs.lemmas.List.{append-nil, take_all}
 pub use Rattle.std.proofs.lemmas.List.Elements.{All-from_recursion, All-more, All-weaker}
 pub use Rattle.std.specs.Prelude.{IfSome, MatchOption, option_map}

@@ -1,32 +1,12 @@
 -- Instances that wait for good: there is a solution above the iterates in which what they send stays as it is.
-use Rattle.kahn_why.proofs.Common.{Bool, List, Some, [], ap, false, le_refl, le_trans, max, pos, refl, subst, suc, sym, true, ℕ, ◌++◌, ◌∙◌, ◌∷◌, ◌≡◌, ◌≤◌, append-nil, Store, Schema, Source, Given, Written, Nobody, Hands, Node, instance_at, ScriptOutcome, Got, Dry, Fault, Cut, Reached, Tapes, play, IsExtended, AreInputsExtended, Histories, Inputs, Ending, HasEnd, IsPrefix, ending, exec_at, fed, input_list, iterate, out, source, tape_of, tapes_of, values_at, goes_to, AreStuck, AreForGood}
+use Rattle.kahn_why.proofs.Common.{[], Bool, List, Some, ap, false, le_refl, le_trans, max, pos, refl, subst, suc, sym, true, ℕ, ◌∙◌, ◌≡◌, ◌≤◌, append-nil, Store, Schema, Source, Given, Written, Nobody, Hands, Node, Reads, actual_at, instance_at, ScriptOutcome, Got, Dry, Fault, Cut, Reached, Tapes, play, IsExtended, AreInputsExtended, Histories, Inputs, Ending, HasEnd, IsPrefix, ending, exec_at, fed, input_list, iterate, out, source, tape_of, tapes_of, values_at, goes_to, AreStuck, AreForGood}
 use mathlib.Core.Path.{fun_ext}
-use Rattle.std.proofs.Math.Nat.{le-max_left, le-max_right}
+use Rattle.std.proofs.{Math.Nat.le-max_left, Math.Nat.le-max_right, lemmas.List.append_cancel_left}
 use Rattle.kahn_streams.specs.{Syntax.Number, declared.value.Value.Value, declared.value.Line.Line, declared.value.Line.TheVariants.Channel, Laws.AreSame, Laws.IsSolution, Laws.KeepsTape}
-use Rattle.kahn_streams.proofs.{Framed.Stays, Framed.widened, Framed.frame_play, Finished.more_events, Finished.inputs_grow}
+use Rattle.kahn_streams.proofs.{Framed.Stays, Framed.widened, Framed.frame_play, Finished.more_events, Finished.inputs_grow, Finished.prefix_antisym}
 use Rattle.kahn_streams.proofs.Proved.{prefix_refl, prefix_trans, Feeds, feeds, script_at, out_grows, chain, least, solves, iterates_rise, fits_all}
 
 -- ---- lists
-
-no_more : (xs zs : List Value) → xs ≡ xs ++ zs → zs ≡ []
-no_more [] zs e = sym e
-no_more (x ∷ xs) zs e = no_more xs zs (tail e)
-  where
-    tail : x ∷ xs ≡ x ∷ (xs ++ zs) → xs ≡ xs ++ zs
-    tail f = cc
-
-no_rest : (xs ys zs : List Value) → xs ≡ xs ++ ys ++ zs → ys ≡ []
-no_rest xs [] zs e = refl
-no_rest [] (y ∷ ys) zs e = absurd cc
-no_rest (x ∷ xs) (y ∷ ys) zs e = no_rest xs (y ∷ ys) zs (tail e)
-  where
-    tail : x ∷ xs ≡ x ∷ (xs ++ (y ∷ ys) ++ zs) → xs ≡ xs ++ (y ∷ ys) ++ zs
-    tail f = cc
-
-both_ways : (xs ys : List Value) → IsPrefix xs ys → IsPrefix ys xs → ys ≡ xs
-both_ways xs ys h g =
-    let e : xs ≡ xs ++ h.0 ++ g.0 = g.1 ∙ ap (λ l. l ++ g.0) h.1 in
-    h.1 ∙ (ap (λ l. xs ++ l) (no_rest xs h.0 g.0 e) ∙ append-nil xs)
 
 abbrev choose : Bool → List Value → List Value → List Value
 choose true a x = a
@@ -46,10 +26,8 @@ more_of : (i : Node) (H G : Histories) → Feeds i H G → Tapes
 more_of i H G h q = (h q).0
 
 stays_of : (i : Node) (H G : Histories) (h : Feeds i H G) (o : ScriptOutcome Store) → KeepsTape i H G o → Stays (λ q. (h q).0) o
-stays_of i H G h (Dry q) k = no_more (tapes_of i H q) (h q).0 (sym k ∙ (h q).1)
-stays_of i H G h (Got a) k = tt
-stays_of i H G h (Fault f) k = tt
-stays_of i H G h Cut k = tt
+stays_of i H G h (Dry q) k = append_cancel_left (tapes_of i H q) (h q).0 [] (sym (h q).1 ∙ k ∙ sym (append-nil (tapes_of i H q)))
+stays_of i H G h o k = tt
 
 same_reached : {X : Type 0} (U : Tapes) (a b : Reached X) → a ≡ widened U b → AreSame a b
 same_reached U a b e = (ap (λ r. r.outcome) e, ap (λ r. r.events) e, ap (λ r. r.sent) e)
@@ -96,21 +74,25 @@ module _ (N : Schema) (I J : Inputs) (A : Histories) (e : ℕ → ℕ) (stuck : 
   fits_T : (p : ℕ) → (j : ℕ) × Feeds (instance_at N p) A (T j)
   fits_T p = fits_all T A grows_T below_T (Hands (Number (pos 0))) (instance_at N p).actuals
 
-  tape_kept : (p k : ℕ) → stuck p ≡ true → (o : ScriptOutcome Store) → (exec_at N (e p) p A).outcome ≡ o → KeepsTape (instance_at N p) A (T k) o
-  tape_kept p k s (Dry r) x =
-      let w = h.waits p r s x in
-      ap (tape_of (T k)) w.2 ∙ (kept_T (Channel w.0) w.1 k w.3 w.4 ∙ sym (ap (tape_of A) w.2))
-  tape_kept p k s (Got a) x = tt
-  tape_kept p k s (Fault f) x = tt
-  tape_kept p k s Cut x = tt
+  -- where an instance that is stuck waits, its tape is as long as on A
+  abbrev Ends : ℕ → Histories → Type 0
+  Ends p K = (r c w : ℕ) → actual_at (instance_at N p) r ≡ Reads c → source N (Channel c) ≡ Written w → stuck w ≡ true → tapes_of (instance_at N p) K r ≡ tapes_of (instance_at N p) A r
 
-  -- on T an instance that is stuck does what it does on A
+  tape_kept : (p : ℕ) (K : Histories) → stuck p ≡ true → Ends p K → (o : ScriptOutcome Store) → (exec_at N (e p) p A).outcome ≡ o → KeepsTape (instance_at N p) A K o
+  tape_kept p K s ends (Dry r) x = let w = h.waits p r s x in ends r w.0 w.1 w.2 w.3 w.4
+  tape_kept p K s ends o x = tt
+
+  -- then it does what it does on A
+  same_there : (p n : ℕ) (K : Histories) → stuck p ≡ true → e p ≤ n → Feeds (instance_at N p) A K → Ends p K → AreSame (exec_at N n p K) (exec_at N (e p) p A)
+  same_there p n K s le fed ends =
+      let more : exec_at N n p A ≡ exec_at N (e p) p A = more_events N (e p) n p A le (h.over p s) in
+      subst (λ r. AreSame (exec_at N n p K) r) more
+      (same_on N n p A K fed (tape_kept p K s ends (exec_at N n p A).outcome (ap (λ r. r.outcome) (sym more))))
+
   same_T : (p n k : ℕ) → stuck p ≡ true → e p ≤ n → (fits_T p).0 ≤ k → AreSame (exec_at N n p (T k)) (exec_at N (e p) p A)
   same_T p n k s le at =
-      let more : exec_at N n p A ≡ exec_at N (e p) p A = more_events N (e p) n p A le (h.over p s) in
-      let fed : Feeds (instance_at N p) A (T k) = λ q. prefix_trans _ _ _ ((fits_T p).1 q) (feeds (instance_at N p) (T (fits_T p).0) (T k) (rises_T (fits_T p).0 k at) q) in
-      subst (λ r. AreSame (exec_at N n p (T k)) r) more
-      (same_on N n p A (T k) fed (tape_kept p k s (exec_at N n p A).outcome (ap (λ r. r.outcome) (sym more))))
+      same_there p n (T k) s le (λ q. prefix_trans _ _ _ ((fits_T p).1 q) (feeds (instance_at N p) (T (fits_T p).0) (T k) (rises_T (fits_T p).0 k at) q))
+      (λ r c w reads src is. ap (tape_of (T k)) reads ∙ (kept_T (Channel c) w k src is ∙ sym (ap (tape_of A) reads)))
 
   stuck_out : (c : Line) (p n m : ℕ) → source N c ≡ Written p → stuck p ≡ true → IsPrefix (out N n p (T m) c) (A c)
   stuck_out c p n m src s =
@@ -149,23 +131,14 @@ module _ (N : Schema) (I J : Inputs) (A : Histories) (e : ℕ → ℕ) (stuck : 
   fed_J : (p n : ℕ) → (fits_J p).0 ≤ n → Feeds (instance_at N p) A (iterate N J n)
   fed_J p n le q = prefix_trans _ _ _ ((fits_J p).1 q) (feeds (instance_at N p) (iterate N J (fits_J p).0) (iterate N J n) (iterates_rise N J (fits_J p).0 n le) q)
 
-  tape_held : (p n : ℕ) → stuck p ≡ true → (fits_J p).0 ≤ n → (o : ScriptOutcome Store) → (exec_at N (e p) p A).outcome ≡ o → KeepsTape (instance_at N p) A (iterate N J n) o
-  tape_held p n s le (Dry r) x =
-      let w = h.waits p r s x in
-      both_ways _ _ (fed_J p n le r)
-      (subst (λ a. IsPrefix (tape_of (iterate N J n) a) (tape_of A a)) (sym w.2) (held n (Channel w.0) w.1 w.3 w.4))
-  tape_held p n s le (Got a) x = tt
-  tape_held p n s le (Fault f) x = tt
-  tape_held p n s le Cut x = tt
-
   same_J : (p n : ℕ) → stuck p ≡ true → e p ≤ n → (fits_J p).0 ≤ n → AreSame (exec_at N n p (iterate N J n)) (exec_at N (e p) p A)
   same_J p n s le at =
-      let more : exec_at N n p A ≡ exec_at N (e p) p A = more_events N (e p) n p A le (h.over p s) in
-      subst (λ r. AreSame (exec_at N n p (iterate N J n)) r) more
-      (same_on N n p A (iterate N J n) (fed_J p n at) (tape_held p n s at (exec_at N n p A).outcome (ap (λ r. r.outcome) (sym more))))
+      same_there p n (iterate N J n) s le (fed_J p n at)
+      (λ r c w reads src is. prefix_antisym _ _ (fed_J p n at r)
+      (subst (λ a. IsPrefix (tape_of (iterate N J n) a) (tape_of A a)) (sym reads) (held n (Channel c) w src is)))
 
-  ends : (p : ℕ) → stuck p ≡ true → (o : Ending) → ending (exec_at N (e p) p A).outcome ≡ Some o → (exec_at N (e p) p A).events ≡ e p → HasEnd N J p o (e p)
-  ends p s o x y = (max (fits_J p).0 (e p), from)
+  end_stays : (p : ℕ) → stuck p ≡ true → (o : Ending) → ending (exec_at N (e p) p A).outcome ≡ Some o → (exec_at N (e p) p A).events ≡ e p → HasEnd N J p o (e p)
+  end_stays p s o x y = (max (fits_J p).0 (e p), from)
     where
       from : (n : ℕ) → max (fits_J p).0 (e p) ≤ n → (ending (exec_at N n p (iterate N J n)).outcome ≡ Some o) × ((exec_at N n p (iterate N J n)).events ≡ e p)
       from n le =
@@ -173,4 +146,4 @@ module _ (N : Schema) (I J : Inputs) (A : Histories) (e : ℕ → ℕ) (stuck : 
           (ap ending same.0 ∙ x, same.1 ∙ y)
 
 pub stays_so : (N : Schema) (I : Inputs) (A : Histories) (e : ℕ → ℕ) (stuck : ℕ → Bool) → AreStuck N I A e stuck → AreForGood N I A e stuck
-stays_so N I A e stuck h J longer p s o x y = ends N I J A e stuck h longer p s o x y
+stays_so N I A e stuck h J longer p s o x y = end_stays N I J A e stuck h longer p s o x y

@@ -5,10 +5,9 @@ use Rattle.kahn_chain.specs.declared.standing.Cause.{Cause}
 use Rattle.kahn_why.proofs.Stands.{for_good}
 
 over : (s : Standing) → is_stopped s ≡ true → IsEndedOrFaulted s
-over S.Ended h = tt
 over (S.Waits c) h = absurd cc
-over S.Faulted h = tt
 over S.More h = absurd cc
+over s h = tt
 
 final : (y : Cause) → is_final y ≡ true → IsFinal y
 final (Input z c) h = absurd cc

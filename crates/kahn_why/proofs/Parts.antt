@@ -23,9 +23,7 @@ pub unplaced : (path program : List ℕ) (strict : Bool) (old : Option (List ℕ
     → HasRefused path program strict old old (Err fault)
 unplaced path program strict old (Syntax f) is none = (is, none, refl)
 unplaced path program strict old (Check f) is none = (is, none, refl)
-unplaced path program strict old (Text f) is none = absurd is
-unplaced path program strict old (Run f) is none = absurd is
-unplaced path program strict old (Write f) is none = absurd is
+unplaced path program strict old f is none = absurd is
 
 -- of an allowed program
 pub are_allowed : (path program : List ℕ) (strict : Bool) (it : Admitted) → IsAdmitted path program strict it → AreAllowed path program strict (string_bytes it.notes)

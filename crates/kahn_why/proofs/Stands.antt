@@ -1,6 +1,7 @@
 -- Ends whose causes are final are for good: the instances on the chain are stuck.
-use Rattle.kahn_why.proofs.Common.{◌≡◌, ℕ, ◌==◌, ◌⊎◌, inl, inr, ⊎_elim, List, [], ◌∷◌, ◌++◌, get_or, Bool, true, false, if◌then◌else◌, Option, Some, None, refl, sym, ap, subst, ◌∙◌, eq-eqb, ne_eqb, option_map, cases_eq, Schema, Reads, Written, actual_at, instance_at, channel_source, ScriptOutcome as Came, Dry, Cut, Store, Inputs, Histories, ending, exec_at, AreInputsExtended, Awaits, Leads, stays, onward, LeadsOn, standing_of, stands, Standing, Input, Stopped, Ring, end_of, waiting, HasEndAt, IsDryOn, IsEnd, IsOutcome, IsRight, IsWaiting, Answer, Verdict, Finished, Bound, Memory, IsEndedOrFaulted, StayForGood, standings_of, AreStuck}
-use Rattle.std.specs.List.{slice_get}
+use Rattle.kahn_why.proofs.Common.{◌≡◌, ℕ, ◌==◌, ◌⊎◌, inl, inr, ⊎_elim, List, [], ◌∷◌, ◌++◌, get_or, Bool, true, false, if◌then◌else◌, Option, Some, None, refl, sym, ap, subst, ◌∙◌, eq-eqb, eqb-true, option_map, Schema, Reads, Written, actual_at, instance_at, channel_source, ScriptOutcome as Came, Dry, Cut, Store, Inputs, Histories, ending, exec_at, AreInputsExtended, Awaits, Leads, stays, onward, LeadsOn, standing_of, stands, Standing, Input, Stopped, Ring, end_of, waiting, HasEndAt, IsDryOn, IsEnd, IsOutcome, IsRight, IsWaiting, Answer, Verdict, Finished, Bound, Memory, IsEndedOrFaulted, StayForGood, standings_of, AreStuck}
+use Rattle.std.specs.List.{list_any, slice_get}
+use Rattle.std.proofs.lemmas.{Bool.or_cases, Bool.or_left, Bool.or_right, List.Folds.list_any-append}
 use Rattle.std.proofs.lemmas.Option.{slice_get-map, get_or_from_slice_get}
 use Rattle.kahn_streams.specs.Solution as net
 use Rattle.kahn_chain.specs.declared.standing.Standing.TheVariants as S
@@ -10,36 +11,25 @@ use Rattle.kahn_why.proofs.Good.{stays_so}
 -- ---- lists of instances
 
 abbrev is_in : List ℕ → ℕ → Bool
-is_in [] q = false
-is_in (x ∷ xs) q = if x == q then true else is_in xs q
+is_in xs q = list_any (λ x. x == q) xs
 
 at_head : (x : ℕ) (xs : List ℕ) → is_in (x ∷ xs) x ≡ true
-at_head x xs = ap (λ (b : Bool). if b then true else is_in xs x) (eq-eqb x x refl)
-
-behind_if : (b c : Bool) → c ≡ true → (if b then true else c) ≡ true
-behind_if true c h = refl
-behind_if false c h = h
+at_head x xs = or_left (x == x) (is_in xs x) (eq-eqb x x refl)
 
 behind : (x : ℕ) (xs : List ℕ) (q : ℕ) → is_in xs q ≡ true → is_in (x ∷ xs) q ≡ true
-behind x xs q h = behind_if (x == q) (is_in xs q) h
+behind x xs q h = or_right (x == q) (is_in xs q) h
 
 parted : (x : ℕ) (xs : List ℕ) (q : ℕ) → is_in (x ∷ xs) q ≡ true → (q ≡ x) ⊎ (is_in xs q ≡ true)
-parted x xs q h =
-    ⊎_elim (λ e. inl (sym e)) (λ ne. inr (sym (ap (λ b. if b then true else is_in xs q) (ne_eqb x q ne)) ∙ h)) (cases_eq x q)
+parted x xs q h = ⊎_elim (λ e. inl (sym (eqb-true x q e))) inr (or_cases (x == q) (is_in xs q) h)
 
 on_left : (xs ys : List ℕ) (q : ℕ) → is_in xs q ≡ true → is_in (xs ++ ys) q ≡ true
-on_left [] ys q h = absurd cc
-on_left (x ∷ xs) ys q h = ⊎_elim (λ e. subst (λ k. is_in (x ∷ (xs ++ ys)) k ≡ true) (sym e) (at_head x (xs ++ ys))) (λ k. behind x (xs ++ ys) q (on_left xs ys q k)) (parted x xs q h)
+on_left xs ys q h = list_any-append (λ x. x == q) xs ys ∙ or_left (is_in xs q) (is_in ys q) h
 
 on_right : (xs ys : List ℕ) (q : ℕ) → is_in ys q ≡ true → is_in (xs ++ ys) q ≡ true
-on_right [] ys q h = h
-on_right (x ∷ xs) ys q h = behind x (xs ++ ys) q (on_right xs ys q h)
+on_right xs ys q h = list_any-append (λ x. x == q) xs ys ∙ or_right (is_in xs q) (is_in ys q) h
 
 on_either : (xs ys : List ℕ) (q : ℕ) → is_in (xs ++ ys) q ≡ true → (is_in xs q ≡ true) ⊎ (is_in ys q ≡ true)
-on_either [] ys q h = inr h
-on_either (x ∷ xs) ys q h =
-    ⊎_elim (λ e. inl (subst (λ k. is_in (x ∷ xs) k ≡ true) (sym e) (at_head x xs)))
-    (λ k. ⊎_elim (λ l. inl (behind x xs q l)) inr (on_either xs ys q k)) (parted x (xs ++ ys) q h)
+on_either xs ys q h = or_cases (is_in xs q) (is_in ys q) (sym (list_any-append (λ x. x == q) xs ys) ∙ h)
 
 -- ---- chains
 
@@ -100,9 +90,8 @@ abbrev nobody : End
 nobody = record { outcome = Ended; events = 0 }
 
 dry_of : (v : Verdict) (N : Schema) (A : Histories) (p e c : ℕ) → (v ≡ Memory → ⊥) → IsWaiting v N A p e c → IsDryOn N A p e c
-dry_of Finished N A p e c clear h = h
-dry_of Bound N A p e c clear h = h
 dry_of Memory N A p e c clear h = absurd (clear refl)
+dry_of v N A p e c clear h = h
 
 -- neither cut nor dry
 abbrev IsThrough : Came Store → Type 0

@@ -7,9 +7,7 @@ pub unfed : (path program text : List ℕ) (fault : TextFault) (written : Option
     HasToldInput path program text fault written written (Err f)
 unfed path program text fault written (Syntax f) h = (h, refl)
 unfed path program text fault written (Check f) h = (h, refl)
-unfed path program text fault written (Text f) h = absurd h
-unfed path program text fault written (Run f) h = absurd h
-unfed path program text fault written (Write f) h = absurd h
+unfed path program text fault written f h = absurd h
 
 pub input_out : (path program text : List ℕ) (fault : TextFault) (note : String Global) (old new : Option (List ℕ)) (r : Result Came WorkFault) → IsNoteFor path program text fault (Some note)
     → HasWritten (string_bytes note) Refused old new r → HasToldInput path program text fault old new r

@@ -33,8 +33,7 @@ IsSyntaxNote program f note = MatchOption (expected_of f)
 abbrev pub IsRenderedAs : List ℕ → List ℕ → Option Note → Option (String Global) → Type 0
 IsRenderedAs path program (Some n) (Some lines) = IsRendered path program n (string_bytes lines)
 IsRenderedAs path program None None = Unit {0}
-IsRenderedAs path program (Some n) None = ⊥
-IsRenderedAs path program None (Some lines) = ⊥
+IsRenderedAs path program _ _ = ⊥
 
 abbrev pub IsSyntaxRefusal : List ℕ → List ℕ → SyntaxFault → Option (String Global) → Type 0
 IsSyntaxRefusal path program f lines = (note : Option Note) × IsSyntaxNote program f note × IsRenderedAs path program note lines
@@ -52,9 +51,7 @@ IsCheckRefusal path program f note = MatchOption note (check_span f ≡ None) (I
 abbrev pub IsRefusal : List ℕ → List ℕ → WorkFault → Option (String Global) → Type 0
 IsRefusal path program (Syntax f) note = IsSyntaxRefusal path program f note
 IsRefusal path program (Check f) note = IsCheckRefusal path program f note
-IsRefusal path program (Text f) note = note ≡ None
-IsRefusal path program (Run f) note = note ≡ None
-IsRefusal path program (Write f) note = note ≡ None
+IsRefusal path program f note = note ≡ None
 
 -- of the first fault of this very text
 abbrev pub IsNoteOn : List ℕ → List ℕ → String Global → Type 0

@@ -20,9 +20,8 @@ IsNoteFor path program text fault lines = (t : Program) × IsChecked program t �
 abbrev pub HasToldInput : List ℕ → List ℕ → List ℕ → TextFault → Option (List ℕ) → Option (List ℕ) → Result Came WorkFault → Type 0
 HasToldInput path program text fault old new (Ok (Stopped x)) = ⊥
 HasToldInput path program text fault old new (Ok Refused) = (note : String Global) × IsNoteFor path program text fault (Some note) × Appends old new (string_bytes note)
-HasToldInput path program text fault old new (Err (Syntax f)) = IsUnchecked program (Syntax f) × (new ≡ old)
-HasToldInput path program text fault old new (Err (Check f)) = IsUnchecked program (Check f) × (new ≡ old)
 HasToldInput path program text fault old new (Err (Text f)) = (f ≡ fault) × IsNoteFor path program text fault None × (new ≡ old)
 HasToldInput path program text fault old new (Err (Run f)) = (f ≡ NoMemory) × (new ≡ old)
 HasToldInput path program text fault old new (Err (Write f)) =
     (note : String Global) × IsNoteFor path program text fault (Some note) × AppendsFront old new (string_bytes note)
+HasToldInput path program text fault old new (Err f) = IsUnchecked program f × (new ≡ old)

@@ -14,10 +14,9 @@ abbrev pub standings_of : Answer → List Standing
 standings_of a = map stands a.ends.items
 
 abbrev pub IsEndedOrFaulted : Standing → Type 0
-IsEndedOrFaulted S.Ended = Unit {0}
 IsEndedOrFaulted (S.Waits c) = ⊥
-IsEndedOrFaulted S.Faulted = Unit {0}
 IsEndedOrFaulted S.More = ⊥
+IsEndedOrFaulted s = Unit {0}
 
 -- a ring, or an instance that has ended or has a fault
 abbrev pub IsFinal : Cause → Type 0
@@ -40,15 +39,12 @@ LastForGood N I a = (r : Reason) → IsReasonFor N a.verdict a.ends.items r → 
 -- ---- what the run came to
 
 abbrev pub is_ring : Cause → Bool
-is_ring (Input z c) = false
-is_ring (Stopped z s) = false
 is_ring (Ring z) = true
+is_ring y = false
 
 abbrev pub is_fault : Outcome → Bool
-is_fault outcome.Ended = false
-is_fault (outcome.Waits c) = false
 is_fault (outcome.Faulted k) = true
-is_fault outcome.More = false
+is_fault o = false
 
 abbrev pub has_fault : List Reason → Bool
 has_fault = list_any (λ r. is_fault r.end.outcome)

@@ -11,7 +11,7 @@ use kahn_fault::{WorkFault, checked};
 use kahn_hints::fault_notes;
 use kahn_inputs::input_note;
 use kahn_marks::Note;
-use kahn_streams::{Network, NoMemory, RunFault};
+use kahn_streams::{NoMemory, RunFault};
 use kahn_syntax::parse;
 use kahn_texts::read_input;
 use kahn_warnings::warning_notes;
@@ -40,14 +40,6 @@ fn refusal_notes(alloc: Global, program: &str, fault: WorkFault) -> Result<Vec<N
     Ok(notes)
 }
 
-/// The note on why an input text is refused, where it is and that has a place.
-fn refused_input(alloc: Global, network: &Network, input: &str) -> Result<Option<Note>, NoMemory> {
-    match read_input(alloc, input, network) {
-        Ok(_lists) => Ok(None),
-        Err(fault) => input_note(alloc, network, input, fault),
-    }
-}
-
 /// The notes on the texts: on why the program text is refused, or what is warned of; or why the input text is, and that they are on it.
 fn notes_on(
     alloc: Global,
@@ -63,14 +55,14 @@ fn notes_on(
     if strict && !warnings.is_empty() {
         return Ok((warnings, false));
     }
-    match refused_input(alloc, &network, input)? {
-        Some(note) => {
+    if let Err(fault) = read_input(alloc, input, &network) {
+        if let Some(note) = input_note(alloc, &network, input, fault)? {
             let mut notes = Vec::new(alloc);
             notes.push(note)?;
-            Ok((notes, true))
+            return Ok((notes, true));
         }
-        None => Ok((warnings, false)),
     }
+    Ok((warnings, false))
 }
 
 /// The same as data, a line each.

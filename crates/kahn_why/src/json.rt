@@ -1,7 +1,7 @@
 //! A note as data: an object of JSON on a line.
 
 use itoa::Buffer;
-use kahn_marks::{Note, Other, Sort, add, padded, place};
+use kahn_marks::{Note, Sort, add, padded, place};
 use kahn_streams::Span;
 use std::alloc::{AllocError, Global};
 
@@ -53,42 +53,20 @@ fn add_fix(json: &mut String, alloc: Global, text: &str, note: &Note) -> Result<
     json.push_str("}")
 }
 
-/// Adds the sentences below.
-fn add_below(json: &mut String, note: &Note) -> Result<(), AllocError> {
+/// Adds the sentences below, and the other places with their words.
+fn add_lists(json: &mut String, text: &str, note: &Note) -> Result<(), AllocError> {
     json.push_str(",\"below\":[")?;
     for (number, sentence) in note.below.iter().enumerate() {
         add_string(json, if number == 0 { "" } else { "," }, sentence.as_str())?;
     }
-    json.push_str("]")
-}
-
-/// Adds another place with its words.
-fn add_other(json: &mut String, text: &str, other: &Other) -> Result<(), AllocError> {
-    json.push_str("{")?;
-    add_part(json, text, other.span)?;
-    add_string(json, ",\"words\":", other.words.as_str())?;
-    json.push_str("}")
-}
-
-/// Adds the other places.
-fn add_others(json: &mut String, text: &str, note: &Note) -> Result<(), AllocError> {
-    json.push_str(",\"others\":[")?;
+    json.push_str("],\"others\":[")?;
     for (number, other) in note.others.iter().enumerate() {
-        if number > 0 {
-            json.push_str(",")?;
-        }
-        add_other(json, text, other)?;
+        json.push_str(if number == 0 { "{" } else { ",{" })?;
+        add_part(json, text, other.span)?;
+        add_string(json, ",\"words\":", other.words.as_str())?;
+        json.push_str("}")?;
     }
-    json.push_str("]")
-}
-
-/// The member that says of which sort a note is.
-fn sort_member(sort: Sort) -> &'static str {
-    match sort {
-        Sort::Error => ",\"sort\":\"error\",",
-        Sort::Warning => ",\"sort\":\"warning\",",
-        Sort::Note => ",\"sort\":\"note\",",
-    }
+    json.push_str("]}\n")
 }
 
 /// Adds a note as an object of JSON and a line end. Lines and columns are counted from 1 and bytes from 0; what ends a part stands behind
@@ -101,11 +79,13 @@ pub(crate) fn add_json(
     note: &Note,
 ) -> Result<(), AllocError> {
     add_string(json, "{\"path\":", path)?;
-    json.push_str(sort_member(note.sort))?;
+    json.push_str(match note.sort {
+        Sort::Error => ",\"sort\":\"error\",",
+        Sort::Warning => ",\"sort\":\"warning\",",
+        Sort::Note => ",\"sort\":\"note\",",
+    })?;
     add_part(json, text, note.span)?;
     add_string(json, ",\"words\":", note.words.as_str())?;
     add_fix(json, alloc, text, note)?;
-    add_below(json, note)?;
-    add_others(json, text, note)?;
-    json.push_str("}\n")
+    add_lists(json, text, note)
 }

@@ -76,10 +76,7 @@ pub(crate) fn rendered(
     ensures { IfOk result (IsRenderedAs path.now program.now note.now) }
 {
     match note {
-        Some(note) => {
-            let lines = render(alloc, path, program, note)?;
-            Ok(Some(lines))
-        }
+        Some(note) => Ok(Some(render(alloc, path, program, note)?)),
         None => Ok(None),
     }
 }
@@ -95,8 +92,7 @@ fn syntax_refusal(
     ensures { IfOk result (IsSyntaxRefusal path.now program.now fault) }
 {
     let note = syntax_note(alloc, program, fault)?;
-    let lines = rendered(alloc, path, program, &note)?;
-    Ok(lines)
+    Ok(rendered(alloc, path, program, &note)?)
 }
 
 /// The notes on what is wrong with the network of a program text, where its first fault has a place.
@@ -141,8 +137,6 @@ pub(crate) fn refusal_note(
     match fault {
         WorkFault::Syntax(fault) => syntax_refusal(alloc, path, program, fault),
         WorkFault::Check(fault) => network_note(alloc, path, program, fault),
-        WorkFault::Text(_) => Ok(None),
-        WorkFault::Run(_) => Ok(None),
-        WorkFault::Write(_) => Ok(None),
+        WorkFault::Text(_) | WorkFault::Run(_) | WorkFault::Write(_) => Ok(None),
     }
 }

@@ -23,8 +23,7 @@ fn input_lines(
     ensures { IfOk result (AreInputLines network.now path.now text.now fault) }
 {
     let note = input_note(alloc, network, text, fault)?;
-    let lines = rendered(alloc, path, text, &note)?;
-    Ok(lines)
+    Ok(rendered(alloc, path, text, &note)?)
 }
 
 /// Writes why an input text is refused, where that has a place; the fault is answered where it has none.
@@ -38,10 +37,7 @@ pub fn refuse_input<W: Write>(
 ) -> Result<Came, WorkFault>
     ensures { HasToldInput path.now program.now text.now fault (W.contents writer.old) (W.contents writer.new) result }
 {
-    let network = match checked(alloc, program) {
-        Ok(network) => network,
-        Err(fault) => return Err(fault),
-    };
+    let network = checked(alloc, program)?;
     match input_lines(alloc, path, &network, text, fault) {
         Ok(Some(note)) => write_both("", note.as_str(), Came::Refused, writer),
         Ok(None) => Err(WorkFault::Text(fault)),

@@ -1,65 +1,42 @@
 -- Inner. What the calls do that put columns together.
-use Rattle.std.specs.Prelude.{◌≡◌, List, [], ◌∷◌, ◌++◌, All, flat_map, length, map}
-use Rattle.kahn_streams.specs.{declared.tree.Program.Program, declared.value.Line.Line, Network.network_of, declared.value.Line.TheVariants.Channel, declared.value.Line.TheVariants.Print, Inputs.Lists, Inputs.inputs_of, Answers.HasStream, Answers.values_of, declared.answer.Answer.Answer, declared.answer.Stream.Stream, declared.config.Config.Config}
+use Rattle.std.specs.Prelude.{◌≡◌, List, [], ◌∷◌, All, length, map}
+use Rattle.kahn_streams.specs.{declared.tree.Program.Program, declared.value.Line.Line, Network.network_of, declared.value.Line.TheVariants.Channel, declared.value.Line.TheVariants.Print, Inputs.Lists, Inputs.inputs_of, Answers.HasStream, Answers.stream_line, declared.answer.Answer.Answer, declared.answer.Stream.Stream, declared.config.Config.Config}
 use Rattle.kahn_sequential.specs.{Recordings.IsRecordedRun, declared.recorded.Recorded.Recorded}
-use Rattle.kahn_explain.specs.{Histories.AreHistories, Histories.IsHistory, Histories.all_channels, Histories.column_line, declared.tracing.histories.Column.Column}
+use Rattle.kahn_explain.specs.Histories.{AreHistories, IsHistory, all_channels}
 
 -- the answer has a stream of the line
 abbrev pub HasLine : Answer → Line → Type 0
 HasLine a c = (s : Stream) × HasStream a s × (s.line ≡ c)
-
--- the column has the line and the values of the stream
-pub record HasValuesOf (s : Stream) (x : Column) : Type 0 where
-  pub line : x.line ≡ s.line
-  pub values : x.values.items ≡ values_of s
-
--- the column is of a stream of the line
-abbrev pub IsColumnOf : Answer → Line → Column → Type 0
-IsColumnOf a c x = (s : Stream) × HasStream a s × (s.line ≡ c) × HasValuesOf s x
 
 -- a run that keeps all that is sent
 abbrev pub IsRecord : Program → Recorded → Type 0
 IsRecord t x = (lists : Lists) × (config : Config) × IsRecordedRun t lists config x
 
 -- a history, whatever it was run on
-abbrev pub IsAny : Program → Recorded → Column → Type 0
-IsAny t x y = (lists : Lists) (config : Config) → IsRecordedRun t lists config x → IsHistory (network_of t) (inputs_of lists) x.answer.verdict y
+abbrev pub IsAny : Program → Recorded → Stream → Type 0
+IsAny t x s = (lists : Lists) (config : Config) → IsRecordedRun t lists config x → IsHistory (network_of t) (inputs_of lists) x.answer.verdict s
 
 -- that of a line
-abbrev pub IsHistoryOf : Program → Recorded → Line → Column → Type 0
-IsHistoryOf t x c y = (y.line ≡ c) × IsAny t x y
+abbrev pub IsHistoryOf : Program → Recorded → Line → Stream → Type 0
+IsHistoryOf t x c s = (s.line ≡ c) × IsAny t x s
 
 -- those of these lines
-pub record AreColumns (t : Program) (x : Recorded) (cs : List Line) (ys : List Column) : Type 0 where
-  pub lines : map column_line ys ≡ cs
-  pub each : All (IsAny t x) ys
+pub record AreColumns (t : Program) (x : Recorded) (cs : List Line) (ss : List Stream) : Type 0 where
+  pub lines : map stream_line ss ≡ cs
+  pub each : All (IsAny t x) ss
 
 -- those of all channels
-abbrev pub AreOfChannels : Program → Recorded → List Column → Type 0
-AreOfChannels t x ys = AreColumns t x (all_channels (length (network_of t).channels)) ys
+abbrev pub AreOfChannels : Program → Recorded → List Stream → Type 0
+AreOfChannels t x ss = AreColumns t x (all_channels (length (network_of t).channels)) ss
 
 -- and those of the print streams
-abbrev pub AreAllHistories : Program → Recorded → List Column → Type 0
-AreAllHistories t x ys = (lists : Lists) (config : Config) → IsRecordedRun t lists config x → AreHistories (network_of t) (inputs_of lists) x.answer.verdict ys
+abbrev pub AreAllHistories : Program → Recorded → List Stream → Type 0
+AreAllHistories t x ss = (lists : Lists) (config : Config) → IsRecordedRun t lists config x → AreHistories (network_of t) (inputs_of lists) x.answer.verdict ss
 
--- a stream's line, where it is one of prints
-abbrev pub print_line : Line → List Line
-print_line (Channel c) = []
-print_line (Print p) = Print p ∷ []
+-- a stream, where its line is one of prints
+abbrev pub print_of : Line → Stream → List Stream
+print_of (Channel c) s = []
+print_of (Print p) s = s ∷ []
 
-abbrev pub print_part : Stream → List Line
-print_part s = print_line s.line
-
--- the column of the stream came behind, where that is one of prints
-pub record AddsPrint (s : Stream) (old new : List Column) : Type 0 where
-  pub more : List Column
-  pub behind : new ≡ old ++ more
-  pub lines : map column_line more ≡ print_part s
-  pub each : All (HasValuesOf s) more
-
--- the columns of those of the streams, each of which is one of the answer's
-pub record AddsPrints (a : Answer) (ss : List Stream) (old new : List Column) : Type 0 where
-  pub more : List Column
-  pub behind : new ≡ old ++ more
-  pub lines : map column_line more ≡ flat_map print_part ss
-  pub each : All (λ x. (s : Stream) × HasStream a s × HasValuesOf s x) more
+abbrev pub print_part : Stream → List Stream
+print_part s = print_of s.line s

@@ -56,6 +56,4 @@ IsGivenAs word (Some k) = IsPlaceGiven word k
 -- the search for the first value that needs that at place j of line d ends with what was found
 abbrev pub EndsSearch : Line → ℕ → Found → Type 0
 EndsSearch d j (found.Needs x) = j < values_on (λ e. slice_index_or x.values.items e 0) d
-EndsSearch d j found.Never = ⊤
-EndsSearch d j found.Ring = ⊤
-EndsSearch d j found.Bound = ⊤
+EndsSearch d j f = ⊤

@@ -31,12 +31,8 @@ fn place_of(word: &str) -> Option<u64>
     ensures { MatchOption result ((k : ℕ) → IsPlaceWord word.now k → ⊥) (IsPlaceWord word.now) }
 {
     match word.parse::<u64>() {
-        Ok(number) => {
-            if number == 0 {
-                return None;
-            }
-            Some(number - 1)
-        }
+        Ok(number) if number == 0 => None,
+        Ok(number) => Some(number - 1),
         Err(_) => None,
     }
 }
@@ -60,12 +56,8 @@ fn prints_of(network: &Network, word: &str) -> Option<Line>
     ensures { MatchOption result ((c : Line) → IsLineNamed network.now word.now c → ⊥) (IsLineNamed network.now word.now) }
 {
     match place_of(word) {
-        Some(instance) => {
-            if instance < network.instances() as u64 {
-                return Some(Line::Print(instance as usize));
-            }
-            None
-        }
+        Some(one) if one < network.instances() as u64 => Some(Line::Print(one as usize)),
+        Some(_) => None,
         None => None,
     }
 }

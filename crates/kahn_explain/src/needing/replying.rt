@@ -1,6 +1,6 @@
 //! What is told of what a word asks for, and how the search for it ended.
 
-ghost use Rattle.std.specs.Prelude.{◌≡◌, IfOk, MatchResult, false, true};
+ghost use Rattle.std.specs.Prelude.{◌≡◌, IfOk, MatchResult, true};
 ghost use Rattle.kahn_streams.specs.{Inputs.inputs_of, Network.Given, Network.network_of, Solution.source};
 ghost use Rattle.kahn_needs.specs.Finding.{AreNeedsFound, IsNetworkLine};
 ghost use Rattle.kahn_explain.specs.{Histories.IsUntraced, Needing.IsAskable, Needing.IsPlaceTold, Needing.IsReply, Needing.IsTableTold};
@@ -79,24 +79,6 @@ fn table_told(
     }
 }
 
-/// What is told of what is needed: of a place, or of all.
-fn needs_told(
-    alloc: Global,
-    network: &Network,
-    text: &str,
-    config: Config,
-    question: Question,
-) -> Result<(String, Verdict), WorkFault>
-    requires line { IsNetworkLine (network_of network.now) question.line }
-    requires written { source (network_of network.now) question.line ≡ Given → ⊥ }
-    ensures { MatchResult result (λ r. IsReply false network.now text.now config question.line question.place r.1) (IsUntraced network.now text.now config) }
-{
-    match question.place {
-        Some(place) => place_told(alloc, network, text, config, question.line, place),
-        None => table_told(alloc, network, text, config, question.line),
-    }
-}
-
 /// What is told of the first values that need the one at a place of an input, with the counts of the whole run.
 fn firsts_told(
     alloc: Global,
@@ -118,7 +100,7 @@ fn firsts_told(
     }
 }
 
-/// What is told of what is asked for.
+/// What is told of what is asked for: of what is needed by a place, or by all; or of what needs one.
 pub(crate) fn replied(
     alloc: Global,
     network: &Network,
@@ -134,5 +116,8 @@ pub(crate) fn replied(
     if wakes {
         return firsts_told(alloc, network, text, config, question);
     }
-    needs_told(alloc, network, text, config, question)
+    match question.place {
+        Some(place) => place_told(alloc, network, text, config, question.line, place),
+        None => table_told(alloc, network, text, config, question.line),
+    }
 }

@@ -14,14 +14,8 @@ use std::alloc::{AllocError, Global};
 /// How many values a channel had in a run, or how many events a process did.
 fn whole_count(run: &Recorded, line: Line) -> u64 {
     match line {
-        Line::Channel(channel) => match run.counts.get(channel) {
-            Some(count) => count.sent,
-            None => 0,
-        },
-        Line::Print(instance) => match run.answer.ends.get(instance) {
-            Some(end) => end.events,
-            None => 0,
-        },
+        Line::Channel(channel) => run.counts.get(channel).map_or(0, |count| count.sent),
+        Line::Print(instance) => run.answer.ends.get(instance).map_or(0, |end| end.events),
     }
 }
 
@@ -49,15 +43,6 @@ fn add_count(
     Ok(())
 }
 
-/// What stands before the values that are needed.
-fn needs_word(values: &str) -> &'static str {
-    if values.is_empty() {
-        " needs no values"
-    } else {
-        " needs "
-    }
-}
-
 /// Adds a value and what it needs.
 fn add_needs(
     alloc: Global,
@@ -67,22 +52,22 @@ fn add_needs(
     needs: &Needs,
 ) -> Result<(), AllocError> {
     let mut values = String::new(alloc);
-    for channel in 0..needs.values.len() {
-        let line = Line::Channel(channel);
-        add_count(&mut values, network, run, line, needs.values[channel])?;
+    for (channel, count) in needs.values.iter().enumerate() {
+        add_count(&mut values, network, run, Line::Channel(channel), *count)?;
     }
     let mut events = String::new(alloc);
-    for instance in 0..needs.events.len() {
-        let line = Line::Print(instance);
-        add_count(&mut events, network, run, line, needs.events[instance])?;
+    for (instance, count) in needs.events.iter().enumerate() {
+        add_count(&mut events, network, run, Line::Print(instance), *count)?;
     }
     text.push_str(" = ")?;
     add_value(text, needs.value)?;
-    let lead = needs_word(values.as_str());
-    add(
-        text,
-        &[lead, values.as_str(), "\nevents of ", events.as_str(), "\n"],
-    )
+    text.push_str(if values.is_empty() {
+        " needs no values"
+    } else {
+        " needs "
+    })?;
+    add(text, &[values.as_str(), "\nevents of "])?;
+    add(text, &[events.as_str(), "\n"])
 }
 
 /// Adds a place of a line, and what was found of it.
@@ -133,8 +118,6 @@ pub(crate) fn found_end(found: &Found) -> Verdict
 {
     match found {
         Found::Bound => Verdict::Bound,
-        Found::Needs(_) => Verdict::Finished,
-        Found::Never => Verdict::Finished,
-        Found::Ring => Verdict::Finished,
+        Found::Needs(_) | Found::Never | Found::Ring => Verdict::Finished,
     }
 }

@@ -32,9 +32,7 @@ fn ends_search(found: &Found, line: Line, wanted: u64) -> bool
 {
     match found {
         Found::Needs(needs) => wanted < needed(needs, line),
-        Found::Never => true,
-        Found::Ring => true,
-        Found::Bound => true,
+        Found::Never | Found::Ring | Found::Bound => true,
     }
 }
 
@@ -112,16 +110,9 @@ pub(crate) fn firsts(
     let mut verdict = Verdict::Finished;
     for number in 0..run.answer.streams.len() {
         let stream = &run.answer.streams[number];
+        let line = stream.line;
         let end = add_line(
-            alloc,
-            &mut text,
-            network,
-            run,
-            lists,
-            stream.line,
-            input,
-            place,
-            bound,
+            alloc, &mut text, network, run, lists, line, input, place, bound,
         )?;
         verdict = worse(verdict, end);
     }

@@ -1,22 +1,15 @@
 //! The histories of all channels and print streams of a run that kept all that was sent.
 
-ghost use Rattle.std.specs.Prelude.{◌≡◌, ◌<◌, IfOk, MatchOption, MatchResult, OnOk, false, length};
+ghost use Rattle.std.specs.Prelude.{◌≡◌, ◌<◌, ◌++◌, IfOk, MatchOption, MatchResult, false, flat_map, length, map};
 ghost use Rattle.kahn_streams.specs.{Answers.HasStream, Answers.is_output, Network.network_of, Network.role_at, declared.value.Line.TheVariants.Channel};
 ghost use Rattle.kahn_fault.specs.Work.{IsUnanswered};
-ghost use Rattle.kahn_explain.specs.{Histories.IsRecordedFor, inner.Columns.AddsPrint, inner.Columns.AddsPrints, inner.Columns.AreAllHistories, inner.Columns.AreOfChannels, inner.Columns.HasLine, inner.Columns.HasValuesOf, inner.Columns.IsColumnOf, inner.Columns.IsHistoryOf, inner.Columns.IsRecord};
+ghost use Rattle.kahn_explain.specs.{Histories.IsRecordedFor, inner.Columns.AreAllHistories, inner.Columns.AreOfChannels, inner.Columns.HasLine, inner.Columns.IsHistoryOf, inner.Columns.IsRecord, inner.Columns.print_part};
 
 use kahn_fault::WorkFault;
 use kahn_sequential::{Recorded, run_recorded};
-use kahn_streams::{Answer, Config, Line, Network, NoMemory, Role, Stream, Value};
+use kahn_streams::{Answer, Config, Line, Network, Role, Stream};
 use kahn_texts::read_input;
-use std::alloc::Global;
-
-/// The values of a line in place order, from place 0 on, as far as they came.
-#[derive(Drop)]
-pub struct Column {
-    pub line: Line,
-    pub values: Vec<Value>,
-}
+use std::alloc::{AllocError, Global};
 
 /// The stream of a line, where an answer has one.
 fn stream_of(answer: &Answer, line: Line) -> Option<&Stream>
@@ -28,31 +21,6 @@ fn stream_of(answer: &Answer, line: Line) -> Option<&Stream>
         }
     }
     None
-}
-
-/// A column with the values of a stream.
-fn column_of(alloc: Global, stream: &Stream) -> Result<Column, NoMemory>
-    ensures { IfOk result (HasValuesOf stream.now) }
-{
-    let mut values = Vec::new(alloc);
-    for token in &stream.tokens {
-        values.push(token.value())?;
-    }
-    Ok(Column {
-        line: stream.line,
-        values,
-    })
-}
-
-/// The column of a line of which an answer has a stream.
-fn line_column(alloc: Global, answer: &Answer, line: Line) -> Result<Column, NoMemory>
-    requires { HasLine answer.now line }
-    ensures { IfOk result (IsColumnOf answer.now line) }
-{
-    let Some(stream) = stream_of(answer, line) else {
-        unreachable!()
-    };
-    Ok(column_of(alloc, stream)?)
 }
 
 /// The run of a network for an input text, with all that was sent. It refuses as `read_input` and `run_recorded` do.
@@ -71,87 +39,87 @@ pub(crate) fn recorded(
     }
 }
 
-/// The column of a channel that isn't an output.
-fn kept_column(
-    alloc: Global,
-    network: &Network,
-    run: &Recorded,
-    channel: usize,
-) -> Result<Column, NoMemory>
-    requires here { channel < length (network_of network.now).channels }
-    requires kept { is_output (role_at (network_of network.now) channel) ≡ false }
-    requires run { IsRecord network.now run.now }
-    ensures { IfOk result (IsHistoryOf network.now run.now (Channel channel)) }
+/// The stream of a line of which an answer has one.
+fn streamed(answer: &Answer, line: Line) -> &Stream
+    requires { HasLine answer.now line }
+    ensures { HasStream answer.now result.now × (result.now.line ≡ line) }
 {
-    let stream = &run.channels[channel];
-    column_of(alloc, stream)
+    let Some(stream) = stream_of(answer, line) else {
+        unreachable!()
+    };
+    stream
 }
 
-/// The column of a channel: of the answer where it is an output, and else of what was kept.
-fn channel_column(
-    alloc: Global,
-    network: &Network,
-    run: &Recorded,
-    channel: usize,
-) -> Result<Column, NoMemory>
+/// The history of a channel that isn't an output.
+fn kept<'r>(_network: &Network, run: &'r Recorded, channel: usize) -> &'r Stream
+    requires here { channel < length (network_of _network.now).channels }
+    requires kept { is_output (role_at (network_of _network.now) channel) ≡ false }
+    requires run { IsRecord _network.now run.now }
+    ensures { IsHistoryOf _network.now run.now (Channel channel) result.now }
+{
+    &run.channels[channel]
+}
+
+/// The history of a channel: of the answer where it is an output, and else of what was kept.
+fn history<'r>(network: &Network, run: &'r Recorded, channel: usize) -> &'r Stream
     requires here { channel < length (network_of network.now).channels }
     requires run { IsRecord network.now run.now }
-    ensures { IfOk result (IsHistoryOf network.now run.now (Channel channel)) }
+    ensures { IsHistoryOf network.now run.now (Channel channel) result.now }
 {
     match network.channel(channel).role {
-        Role::Output => line_column(alloc, &run.answer, Line::Channel(channel)),
-        Role::Inner => kept_column(alloc, network, run, channel),
-        Role::Input => kept_column(alloc, network, run, channel),
+        Role::Output => streamed(&run.answer, Line::Channel(channel)),
+        Role::Inner | Role::Input => kept(network, run, channel),
     }
 }
 
-/// Adds the column of a stream, where that is one of prints.
-fn add_print(alloc: Global, columns: &mut Vec<Column>, stream: &Stream) -> Result<(), NoMemory>
-    ensures { OnOk result (AddsPrint stream.now columns.old.items columns.new.items) }
+/// Adds a stream, where that is one of prints.
+fn add_print<'r>(columns: &mut Vec<&'r Stream>, stream: &'r Stream) -> Result<(), AllocError>
+    ensures { IfOk result (λ _. map (λ s. s.now) columns.new.items ≡ map (λ s. s.now) columns.old.items ++ print_part stream.now) }
 {
     match stream.line {
         Line::Channel(_) => Ok(()),
-        Line::Print(_) => {
-            columns.push(column_of(alloc, stream)?)?;
-            Ok(())
-        }
+        Line::Print(_) => Ok(columns.push(stream)?),
     }
 }
 
-/// Adds the columns of the print streams of an answer.
-fn add_prints(alloc: Global, columns: &mut Vec<Column>, answer: &Answer) -> Result<(), NoMemory>
-    ensures { OnOk result (AddsPrints answer.now answer.now.streams.items columns.old.items columns.new.items) }
+/// Adds the print streams of an answer.
+fn add_prints<'r>(columns: &mut Vec<&'r Stream>, answer: &'r Answer) -> Result<(), AllocError>
+    ensures { IfOk result (λ _. map (λ s. s.now) columns.new.items ≡ map (λ s. s.now) columns.old.items ++ flat_map print_part answer.now.streams.items) }
 {
     for stream in &answer.streams {
-        add_print(alloc, columns, stream)?;
+        add_print(columns, stream)?;
     }
     Ok(())
 }
 
-/// The columns of all channels.
-fn channel_columns(
+/// The histories of all channels.
+fn channel_columns<'r>(
     alloc: Global,
     network: &Network,
-    run: &Recorded,
-) -> Result<Vec<Column>, NoMemory>
+    run: &'r Recorded,
+) -> Result<Vec<&'r Stream>, AllocError>
     requires { IsRecord network.now run.now }
-    ensures { IfOk result (λ xs. AreOfChannels network.now run.now xs.items) }
+    ensures { IfOk result (λ xs. AreOfChannels network.now run.now (map (λ s. s.now) xs.items)) }
 {
     let mut columns = Vec::new(alloc);
     for channel in 0..network.channels() {
-        let column = channel_column(alloc, network, run, channel)?;
-        columns.push(column)?;
+        let stream = history(network, run, channel);
+        columns.push(stream)?;
     }
     Ok(columns)
 }
 
-/// The columns of all channels and print streams of a run. Each begins the history of its line, and where the answer has finished it is
-/// the whole of it.
-pub fn columns_of(alloc: Global, network: &Network, run: &Recorded) -> Result<Vec<Column>, NoMemory>
+/// The histories of all channels and print streams of a run, from place 0 on, as far as they came. Each begins the history of its line, and
+/// where the answer has finished it is the whole of it.
+pub fn columns_of<'r>(
+    alloc: Global,
+    network: &Network,
+    run: &'r Recorded,
+) -> Result<Vec<&'r Stream>, AllocError>
     requires { IsRecord network.now run.now }
-    ensures { IfOk result (λ xs. AreAllHistories network.now run.now xs.items) }
+    ensures { IfOk result (λ xs. AreAllHistories network.now run.now (map (λ s. s.now) xs.items)) }
 {
     let mut columns = channel_columns(alloc, network, run)?;
-    add_prints(alloc, &mut columns, &run.answer)?;
+    add_prints(&mut columns, &run.answer)?;
     Ok(columns)
 }

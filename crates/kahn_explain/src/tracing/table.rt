@@ -3,13 +3,15 @@
 ghost use Rattle.std.specs.Prelude.{◌<◌, length};
 ghost use Rattle.kahn_streams.specs.Network.{network_of};
 
-use crate::tracing::histories::Column;
 use itoa::Buffer;
 use kahn_marks::add;
 use kahn_sequential::Recorded;
-use kahn_streams::{Line, Network, Side, Value};
+use kahn_streams::{Line, Network, Side, Stream, Value};
 use kahn_texts::{channel_name, process_name};
 use std::alloc::{AllocError, Global};
+
+/// The text of a table.
+pub(crate) type TableText = Result<String, AllocError>;
 
 /// Adds numbers, each behind a comma.
 pub(crate) fn add_numbers(text: &mut String, numbers: &[u64]) -> Result<(), AllocError> {
@@ -43,40 +45,31 @@ pub(crate) fn add_value(text: &mut String, value: Value) -> Result<(), AllocErro
 }
 
 /// Adds the row of a place, which is counted from 1: the value of each column there, or nothing past its last.
-fn add_row(text: &mut String, columns: &[Column], place: usize) -> Result<(), AllocError> {
+fn add_row(text: &mut String, columns: &[&Stream], place: usize) -> Result<(), AllocError> {
     let mut buffer = Buffer::new();
     text.push_str(buffer.format(place as u128 + 1))?;
     for column in columns {
         text.push_str(",")?;
-        if let Some(value) = column.values.get(place) {
-            add_value(text, *value)?;
+        if let Some(token) = column.tokens.get(place) {
+            add_value(text, token.value())?;
         }
     }
     text.push_str("\n")
 }
 
-/// What stands before the name that heads the column of a line.
-fn head_of(line: Line) -> &'static str {
-    match line {
-        Line::Channel(_) => ",",
-        Line::Print(_) => ",print ",
-    }
-}
-
 /// The table of columns of a network: a row that heads them, the first with the word `place`, and a row for each place, from 1
 /// to that of the last value of all, with the value of each column there, or nothing where it has none. Between columns stand
 /// commas. It refuses only where memory was refused.
-pub fn trace_text(
-    alloc: Global,
-    network: &Network,
-    columns: &[Column],
-) -> Result<String, AllocError> {
+pub fn trace_text(alloc: Global, network: &Network, columns: &[&Stream]) -> TableText {
     let mut text = String::from_str(alloc, "place")?;
     let mut places = 0;
     for column in columns {
-        text.push_str(head_of(column.line))?;
+        text.push_str(match column.line {
+            Line::Channel(_) => ",",
+            Line::Print(_) => ",print ",
+        })?;
         add_line(&mut text, network, column.line)?;
-        places = places.max(column.values.len());
+        places = places.max(column.tokens.len());
     }
     text.push_str("\n")?;
     for place in 0..places {
@@ -120,11 +113,7 @@ fn add_count(
 
 /// The table of the counts of the channels of a run: a row that heads the columns, and for each channel a row with its name, the
 /// processes that write and read it, and how many values were sent, taken and left.
-pub(crate) fn counts_text(
-    alloc: Global,
-    network: &Network,
-    run: &Recorded,
-) -> Result<String, AllocError> {
+pub(crate) fn counts_text(alloc: Global, network: &Network, run: &Recorded) -> TableText {
     let mut text = String::from_str(alloc, "channel,from,to,sent,taken,left\n")?;
     for channel in 0..network.channels() {
         add_count(&mut text, network, run, channel)?;

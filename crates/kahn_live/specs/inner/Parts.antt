@@ -1,7 +1,7 @@
 -- Inner. What is read of a line at a time, and a line of a row.
-use Rattle.std.specs.Prelude.{◌≡◌, ◌≢◌, ◌⊎◌, ℕ, ◌<◌, ⊤, List, [], ◌∷◌, ◌++◌, length, take, All, Option, IfSome, Result, Ok, Err}
-use Rattle.std.specs.{Io.KnownBytes.Consumes, Io.KnownBytes.IsAtEnd, Io.KnownBytes.Keeps, Io.BufRead.DropsThrough, declared.alloc.Global.Global, declared.vec.Vec.Vec}
-use Rattle.kahn_live.specs.{Lines.most_kept, Rows.bytes_in, declared.lines.Next.Next, declared.lines.LinePart.LinePart, declared.lines.LinePart.TheVariants.More, declared.lines.LinePart.TheVariants.Whole, declared.lines.LinePart.TheVariants.End, declared.lines.LinePart.TheVariants.Failed, declared.lines.LinePart.TheVariants.NoMemory}
+use Rattle.std.specs.Prelude.{◌≡◌, ◌≢◌, ◌⊎◌, ℕ, ◌<◌, ⊤, List, [], ◌∷◌, ◌++◌, length, take, All, Option, None, Some, IfSome, Result, Ok, Err}
+use Rattle.std.specs.{Io.KnownBytes.Consumes, Io.KnownBytes.IsAtEnd, Io.KnownBytes.Keeps, declared.alloc.Global.Global, declared.vec.Vec.Vec}
+use Rattle.kahn_live.specs.{Lines.most_kept, Rows.bytes_in, declared.lines.Next.Next}
 use Rattle.kahn_session.specs.{Live.IsMeantLine, Live.IsUnfedBy, Live.Live, declared.fault.TakeFault.TakeFault, declared.fault.TakeFault.TheVariants.NoMemory as NoMemoryTake}
 use Rattle.kahn_live.specs.declared.lines.Next.TheVariants as next
 
@@ -11,26 +11,12 @@ WasKept old new before after behind =
     (bytes : List ℕ) × All (λ b. b ≢ 10) bytes × Consumes old new (bytes ++ behind) × (after ≡ take most_kept (before ++ bytes))
 
 -- what a read made of the bytes that are left, and of those that were kept
-abbrev pub IsLinePart : Option (List ℕ) → Option (List ℕ) → List ℕ → List ℕ → LinePart → Type 0
-IsLinePart old new before after More = WasKept old new before after []
-IsLinePart old new before after Whole = WasKept old new before after (10 ∷ [])
-IsLinePart old new before after End = IsAtEnd old × Keeps old new × (after ≡ before)
-IsLinePart old new before after Failed = ⊤
-IsLinePart old new before after NoMemory = IfSome old (λ text. 0 < length text) × Keeps old new
-
--- what is read where the input ends
-abbrev pub IsLastRead : List ℕ → Next → Type 0
-IsLastRead kept next.Line = 0 < length kept
-IsLastRead kept next.End = length kept ≡ 0
-IsLastRead kept next.Failed = ⊥
-IsLastRead kept next.NoMemory = ⊥
-
--- the rest of a line was passed over
-abbrev pub IsPassed : Option (List ℕ) → Option (List ℕ) → Next → Type 0
-IsPassed old new next.Line = ⊥
-IsPassed old new next.End = ⊥
-IsPassed old new next.Failed = ⊤
-IsPassed old new next.NoMemory = DropsThrough old new 10
+abbrev pub IsLinePart : Option (List ℕ) → Option (List ℕ) → List ℕ → List ℕ → Option Next → Type 0
+IsLinePart old new before after None = WasKept old new before after []
+IsLinePart old new before after (Some next.Line) = WasKept old new before after (10 ∷ [])
+IsLinePart old new before after (Some next.End) = IsAtEnd old × Keeps old new × (after ≡ before)
+IsLinePart old new before after (Some next.Failed) = ⊤
+IsLinePart old new before after (Some next.NoMemory) = IfSome old (λ text. 0 < length text) × Keeps old new
 
 -- a line of a row is meant for an input channel; or why not, and the line, or nothing where memory was refused for it
 abbrev pub IsTriedCell : Live → List ℕ → Result (Vec ℕ Global) (TakeFault × Vec ℕ Global) → Type 0

@@ -25,11 +25,10 @@ pub record IsAdmitted (path program : List ℕ) (strict : Bool) (x : Admitted) :
 abbrev pub HasRefused : List ℕ → List ℕ → Bool → Option (List ℕ) → Option (List ℕ) → Result Came WorkFault → Type 0
 HasRefused path program strict old new (Ok (Stopped x)) = ⊥
 HasRefused path program strict old new (Ok Refused) = (text : List ℕ) × IsRefusedFor path program strict text × Appends old new text
-HasRefused path program strict old new (Err (Syntax f)) = IsUnchecked program (Syntax f) × IsRefusal path program (Syntax f) None × (new ≡ old)
-HasRefused path program strict old new (Err (Check f)) = IsUnchecked program (Check f) × IsRefusal path program (Check f) None × (new ≡ old)
 HasRefused path program strict old new (Err (Text f)) = ⊥
 HasRefused path program strict old new (Err (Run f)) = (f ≡ NoMemory) × (new ≡ old)
 HasRefused path program strict old new (Err (Write f)) = (text : List ℕ) × IsRefusedFor path program strict text × AppendsFront old new text
+HasRefused path program strict old new (Err f) = IsUnchecked program f × IsRefusal path program f None × (new ≡ old)
 
 -- it isn't, and nothing was written; or it is
 abbrev pub HasAdmitted : List ℕ → List ℕ → Bool → Option (List ℕ) → Option (List ℕ) → Result Admitted (Result Came WorkFault) → Type 0

@@ -1,7 +1,8 @@
 //! The causes of a run, each with those that wait because of it, or each instance with its cause.
 
 use crate::why::words::{
-    Story, add_led, add_those, add_wait, add_who, advice, for_ever, led_to, source_of,
+    Places, Story, Wrote, add_led, add_those, add_wait, add_who, advice, for_ever, led_to,
+    source_of,
 };
 use itoa::Buffer;
 use kahn_chain::{Cause, Reason};
@@ -10,23 +11,18 @@ use kahn_streams::{Failure, Outcome, Process, Span};
 use kahn_syntax::{Class, Keyword, Lexeme, SyntaxFault, lex};
 use kahn_texts::process_name;
 use kahn_warnings::fault_places;
-use std::alloc::{AllocError, Global};
+use std::alloc::AllocError;
 
 /// The waits on the parameter of that name in the text of a process, of which these lexemes follow its name.
-fn waits_on(
-    alloc: Global,
-    text: &str,
-    lexemes: &[Lexeme],
-    name: &str,
-) -> Result<Vec<Span>, AllocError> {
-    let mut places = Vec::new(alloc);
+fn waits_on(story: &Story, lexemes: &[Lexeme], name: &str) -> Places {
+    let mut places = Vec::new(story.alloc);
     for (number, lexeme) in lexemes.iter().enumerate() {
         let waited = lexemes.get(number.saturating_add(2));
         let close = lexemes.get(number.saturating_add(3));
         match (lexeme.what, waited, close) {
             (Class::Word(Keyword::Process), _, _) => return Ok(places),
             (Class::Word(Keyword::Wait), Some(waited), Some(close)) => {
-                if part_of(text, waited.span) == name {
+                if part_of(story.program, waited.span) == name {
                     let (from, to) = (lexeme.span.from, close.span.to);
                     places.push(Span { from, to })?;
                 }
@@ -38,12 +34,7 @@ fn waits_on(
 }
 
 /// Where an instance of a process waits on a channel, in the order of the program text.
-fn channel_waits(
-    story: &Story<'_>,
-    instance: usize,
-    process: &Process,
-    channel: usize,
-) -> Result<Vec<Span>, AllocError> {
+fn channel_waits(story: &Story, instance: usize, process: &Process, channel: usize) -> Places {
     let none = Vec::new(story.alloc);
     if channel >= story.network.channels() {
         return Ok(none);
@@ -60,16 +51,13 @@ fn channel_waits(
     let from = process.name.span.from;
     let first = lexemes.partition_point(|lexeme| lexeme.span.from < from);
     match (parameter, lexemes.get(first..)) {
-        (Some(parameter), Some(rest)) => {
-            let name = parameter.name.text.as_str();
-            waits_on(story.alloc, story.program, rest, name)
-        }
+        (Some(parameter), Some(rest)) => waits_on(story, rest, parameter.name.text.as_str()),
         _ => Ok(none),
     }
 }
 
 /// Where an instance waits, or where its fault can have come from, in the order of the text.
-fn places_of(story: &Story<'_>, reason: &Reason) -> Result<Vec<Span>, AllocError> {
+fn places_of(story: &Story, reason: &Reason) -> Places {
     if reason.instance >= story.network.instances() {
         return Ok(Vec::new(story.alloc));
     }
@@ -82,11 +70,7 @@ fn places_of(story: &Story<'_>, reason: &Reason) -> Result<Vec<Span>, AllocError
 }
 
 /// What is said below the line of an instance: what mends its ring, where it has the least number in it, and who wait because of it.
-fn below(
-    story: &Story<'_>,
-    reason: &Reason,
-    waiting: &[Reason],
-) -> Result<Vec<String>, AllocError> {
+fn below(story: &Story, reason: &Reason, waiting: &[Reason]) -> Result<Vec<String>, AllocError> {
     let mut below = Vec::new(story.alloc);
     if let (Cause::Ring(one), Outcome::Waits(channel)) = (reason.cause, reason.end.outcome) {
         if one == reason.instance {
@@ -106,11 +90,11 @@ fn below(
 /// Adds a note at the first of these places, with the others, and sentences below it; or a line, where there are no places.
 fn add_error(
     text: &mut String,
-    story: &Story<'_>,
+    story: &Story,
     words: &str,
     places: &[Span],
     below: Vec<String>,
-) -> Result<(), AllocError> {
+) -> Wrote {
     let Some((first, others)) = places.split_first() else {
         add(text, &[words, "\n"])?;
         for sentence in &below {
@@ -130,50 +114,36 @@ fn add_error(
     add_more(text, "", "place", more.len())
 }
 
-/// The first instance of the process of an instance that has its fault, where that isn't itself.
-fn told_before(story: &Story<'_>, reason: &Reason, kind: Failure) -> Option<usize> {
+/// The first instance of the process of an instance that has its fault.
+fn told_before(story: &Story, reason: &Reason) -> Option<usize> {
     let name = process_name(story.network, reason.instance);
-    for other in story.reasons {
-        if other.instance == reason.instance {
-            return None;
-        }
-        let has_failed = other.end.outcome == Outcome::Faulted(kind);
-        if has_failed && process_name(story.network, other.instance) == name {
-            return Some(other.instance);
-        }
-    }
-    None
+    let mut all = story.reasons.iter();
+    let first = all.find(|other| {
+        other.end.outcome == reason.end.outcome
+            && process_name(story.network, other.instance) == name
+    });
+    Some(first?.instance)
 }
 
 /// Adds an instance that has a fault; answers with the places that it can have come from, unless they were told of an instance before it.
-fn add_faulted(
-    words: &mut String,
-    story: &Story<'_>,
-    reason: &Reason,
-    kind: Failure,
-) -> Result<Vec<Span>, AllocError> {
+fn add_faulted(words: &mut String, story: &Story, reason: &Reason, kind: Failure) -> Places {
     let does = match kind {
         Failure::Overflow => " has a fault, overflow",
         Failure::Division => " has a fault, division",
     };
     add_who(words, story.network, reason.instance, &[does])?;
-    match told_before(story, reason, kind) {
-        Some(before) => {
+    match told_before(story, reason) {
+        Some(before) if before != reason.instance => {
             words.push_str(": see ")?;
             add_who(words, story.network, before, &[])?;
             Ok(Vec::new(story.alloc))
         }
-        None => places_of(story, reason),
+        _ => places_of(story, reason),
     }
 }
 
 /// Adds an instance that hasn't ended, with those that wait because of it.
-fn add_reason(
-    text: &mut String,
-    story: &Story<'_>,
-    reason: &Reason,
-    waiting: &[Reason],
-) -> Result<(), AllocError> {
+fn add_reason(text: &mut String, story: &Story, reason: &Reason, waiting: &[Reason]) -> Wrote {
     let below = below(story, reason, waiting)?;
     let mut words = String::new(story.alloc);
     let mut places = Vec::new(story.alloc);
@@ -202,12 +172,7 @@ fn add_reason(
 }
 
 /// Adds the instances of a ring, with those that wait because of it below the first.
-fn add_ring(
-    text: &mut String,
-    story: &Story<'_>,
-    first: usize,
-    waiting: &[Reason],
-) -> Result<(), AllocError> {
+fn add_ring(text: &mut String, story: &Story, first: usize, waiting: &[Reason]) -> Wrote {
     let members = led_to(story, first, true)?;
     let (told, more) = first_ones(&members, MOST_NOTES);
     for reason in told {
@@ -218,7 +183,7 @@ fn add_ring(
 }
 
 /// Adds the cause that is at an instance, if one is, with those that wait because of it.
-fn add_cause(text: &mut String, story: &Story<'_>, instance: usize) -> Result<(), AllocError> {
+fn add_cause(text: &mut String, story: &Story, instance: usize) -> Wrote {
     let waiting = led_to(story, instance, false)?;
     let reason = story
         .reasons
@@ -239,12 +204,7 @@ fn add_cause(text: &mut String, story: &Story<'_>, instance: usize) -> Result<()
 }
 
 /// Adds each cause once, with those that wait because of it; or each instance that hasn't ended, with where its waits lead.
-pub(crate) fn add_causes(
-    text: &mut String,
-    story: &Story<'_>,
-    instances: usize,
-    each: bool,
-) -> Result<(), AllocError> {
+pub(crate) fn add_causes(text: &mut String, story: &Story, instances: usize, each: bool) -> Wrote {
     if each {
         for reason in story.reasons {
             add_reason(text, story, reason, &[])?;

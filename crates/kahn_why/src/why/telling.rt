@@ -32,7 +32,7 @@ fn add_last(text: &mut String, answer: &Answer) -> Result<(), AllocError>
 
 /// What a run came to, in a line, and each cause once, or each instance.
 fn words(
-    story: &Story<'_>,
+    story: &Story,
     finding: Finding,
     instances: usize,
     each: bool,
@@ -51,41 +51,6 @@ fn add_way_on(text: &mut String, verdict: Verdict) -> Result<(), AllocError> {
     text.push_str(match verdict {
         Verdict::Bound => "--bound N with a greater N lets the run go on\n",
         Verdict::Finished | Verdict::Memory => "",
-    })
-}
-
-/// Why the run of an answer stopped, told by its causes or for each instance.
-fn told(
-    alloc: Global,
-    path: &str,
-    program: &str,
-    network: &Network,
-    fed: Option<&Input>,
-    answer: &Answer,
-    each: bool,
-) -> Result<Explanation, AllocError>
-    requires { AreStandings (network_of network.now) (standings_of answer.now) }
-    ensures { IfOk result (IsExplained network.now answer.now) }
-{
-    let verdict = answer.verdict;
-    let reasons = reasons(alloc, network, verdict, &answer.ends)?;
-    let told = came_to(verdict, &reasons);
-    let story = Story {
-        alloc,
-        path,
-        program,
-        network,
-        fed,
-        verdict,
-        reasons: &reasons,
-    };
-    let mut text = words(&story, told, answer.ends.len(), each)?;
-    add_way_on(&mut text, verdict)?;
-    add_last(&mut text, answer)?;
-    Ok(Explanation {
-        text,
-        reasons,
-        told,
     })
 }
 
@@ -122,7 +87,8 @@ pub fn causes<'a>(
 
 /// Why the run of an answer of the network of a program text stopped, by the input that it was fed, where that is known: a line with
 /// what came of it, each cause once, with those that wait because of it, notes on the places where a ring waits and on all that a fault
-/// can have come from, and how the run ended. It refuses only where memory was refused.
+/// can have come from, and how the run ended; or with each instance that hasn't ended, and where its waits lead. It refuses only where
+/// memory was refused.
 pub fn explained(
     alloc: Global,
     path: &str,
@@ -130,14 +96,34 @@ pub fn explained(
     network: &Network,
     fed: Option<&Input>,
     answer: &Answer,
+    each: bool,
 ) -> Result<Explanation, AllocError>
     requires { AreStandings (network_of network.now) (standings_of answer.now) }
     ensures { IfOk result (IsExplained network.now answer.now) }
 {
-    told(alloc, path, program, network, fed, answer, false)
+    let verdict = answer.verdict;
+    let reasons = reasons(alloc, network, verdict, &answer.ends)?;
+    let told = came_to(verdict, &reasons);
+    let story = Story {
+        alloc,
+        path,
+        program,
+        network,
+        fed,
+        verdict,
+        reasons: &reasons,
+    };
+    let mut text = words(&story, told, answer.ends.len(), each)?;
+    add_way_on(&mut text, verdict)?;
+    add_last(&mut text, answer)?;
+    Ok(Explanation {
+        text,
+        reasons,
+        told,
+    })
 }
 
-/// The same with each instance that hasn't ended, and where its waits lead.
+/// The same with each instance.
 pub fn explained_each(
     alloc: Global,
     path: &str,
@@ -149,5 +135,5 @@ pub fn explained_each(
     requires { AreStandings (network_of network.now) (standings_of answer.now) }
     ensures { IfOk result (IsExplained network.now answer.now) }
 {
-    told(alloc, path, program, network, fed, answer, true)
+    explained(alloc, path, program, network, fed, answer, true)
 }

@@ -73,8 +73,5 @@ pub(crate) fn came_to(verdict: Verdict, reasons: &[Reason]) -> Finding
 pub(crate) fn is_silent(finding: Finding) -> bool
     ensures { result ≡ is_silent finding }
 {
-    match finding {
-        Finding::Stop(Verdict::Finished) => true,
-        _ => false,
-    }
+    matches!(finding, Finding::Stop(Verdict::Finished))
 }

@@ -4,7 +4,7 @@ ghost use Rattle.std.specs.Prelude.{◌≡◌, ◌++◌, IfOk, string_bytes};
 ghost use Rattle.kahn_why.specs.Why.{BeginsWith, finding_lead};
 
 use crate::why::told::{Finding, is_fault};
-use crate::why::words::{Story, add_count, add_those, is_fed, led_to};
+use crate::why::words::{Story, Wrote, add_count, add_those, is_fed, led_to};
 use itoa::Buffer;
 use kahn_chain::{Cause, Reason};
 use kahn_marks::add;
@@ -18,18 +18,12 @@ fn is_first_on_ring(reason: &Reason) -> bool {
 
 /// How many of the instances have a fault, are the first ones of rings, or want more.
 fn count_of(reasons: &[Reason], finding: Finding) -> usize {
-    let mut count: usize = 0;
-    for reason in reasons {
-        let is_one = match finding {
-            Finding::Fault => is_fault(reason.end.outcome),
-            Finding::Deadlock => is_first_on_ring(reason),
-            Finding::Stop(_) => matches!(reason.end.outcome, Outcome::More),
-        };
-        if is_one {
-            count = count.saturating_add(1);
-        }
-    }
-    count
+    let those = reasons.iter().filter(|reason| match finding {
+        Finding::Fault => is_fault(reason.end.outcome),
+        Finding::Deadlock => is_first_on_ring(reason),
+        Finding::Stop(_) => matches!(reason.end.outcome, Outcome::More),
+    });
+    those.count()
 }
 
 /// Adds the first words of what a run came to, with how many processes have a fault or how many rings there are.
@@ -39,18 +33,10 @@ fn add_lead(text: &mut String, finding: Finding, count: usize) -> Result<(), All
     let mut buffer = Buffer::new();
     let digits = buffer.format(count);
     match finding {
-        Finding::Fault => {
-            if count == 1 {
-                return text.push_str("1 process has a fault");
-            }
-            add(text, &[digits, " processes have a fault"])
-        }
-        Finding::Deadlock => {
-            if count == 1 {
-                return text.push_str("deadlock: ");
-            }
-            add(text, &[digits, " deadlocks"])
-        }
+        Finding::Fault if count == 1 => text.push_str("1 process has a fault"),
+        Finding::Fault => add(text, &[digits, " processes have a fault"]),
+        Finding::Deadlock if count == 1 => text.push_str("deadlock: "),
+        Finding::Deadlock => add(text, &[digits, " deadlocks"]),
         Finding::Stop(Verdict::Finished) => text.push_str("no deadlock and no fault"),
         Finding::Stop(Verdict::Bound) => text.push_str("stopped by the bound"),
         Finding::Stop(Verdict::Memory) => text.push_str("stopped for want of memory"),
@@ -58,7 +44,7 @@ fn add_lead(text: &mut String, finding: Finding, count: usize) -> Result<(), All
 }
 
 /// Adds who wait on one another in a ring, where there is one ring.
-fn add_members(text: &mut String, story: &Story<'_>) -> Result<(), AllocError> {
+fn add_members(text: &mut String, story: &Story) -> Wrote {
     if count_of(story.reasons, Finding::Deadlock) != 1 {
         return Ok(());
     }
@@ -71,7 +57,7 @@ fn add_members(text: &mut String, story: &Story<'_>) -> Result<(), AllocError> {
 }
 
 /// Adds how many processes want more events, if any do.
-fn add_wanting(text: &mut String, story: &Story<'_>) -> Result<(), AllocError> {
+fn add_wanting(text: &mut String, story: &Story) -> Wrote {
     let count = count_of(story.reasons, Finding::Stop(story.verdict));
     if count == 0 || matches!(story.verdict, Verdict::Finished) {
         return Ok(());
@@ -81,18 +67,14 @@ fn add_wanting(text: &mut String, story: &Story<'_>) -> Result<(), AllocError> {
     add_count(text, count, one, several)
 }
 
-/// Whether an instance waits on a channel.
-fn is_awaited(reasons: &[Reason], channel: usize) -> bool {
-    reasons.iter().any(|reason| matches!(reason.end.outcome, Outcome::Waits(one) if one == channel))
-}
-
 /// Whether it is known that there was input, and that all was taken.
-fn is_all_taken(story: &Story<'_>) -> bool {
+fn is_all_taken(story: &Story) -> bool {
     let Some(input) = story.fed else {
         return false;
     };
     for channel in 0..story.network.channels() {
-        if input.count(channel) > 0 && !is_awaited(story.reasons, channel) {
+        let awaits = |reason: &Reason| reason.end.outcome == Outcome::Waits(channel);
+        if input.count(channel) > 0 && !story.reasons.iter().any(awaits) {
             return false;
         }
     }
@@ -100,7 +82,7 @@ fn is_all_taken(story: &Story<'_>) -> bool {
 }
 
 /// What stands behind the first words.
-fn behind_lead(story: &Story<'_>, finding: Finding) -> Result<String, AllocError> {
+fn behind_lead(story: &Story, finding: Finding) -> Result<String, AllocError> {
     let mut text = String::new(story.alloc);
     if let Finding::Stop(Verdict::Finished) = finding {
         if is_all_taken(story) {
@@ -124,7 +106,7 @@ fn behind_lead(story: &Story<'_>, finding: Finding) -> Result<String, AllocError
 }
 
 /// What a run came to, in words.
-pub(crate) fn finding_words(story: &Story<'_>, finding: Finding) -> Result<String, AllocError>
+pub(crate) fn finding_words(story: &Story, finding: Finding) -> Result<String, AllocError>
     ensures { IfOk result (λ words. BeginsWith finding (string_bytes words)) }
 {
     let behind = behind_lead(story, finding)?;

@@ -10,6 +10,12 @@ use std::alloc::{AllocError, Global};
 // Of so many instances all are named.
 const MOST_NAMED: usize = 4;
 
+/// What adding to a text comes to.
+pub(crate) type Wrote = Result<(), AllocError>;
+
+/// Places of the program text.
+pub(crate) type Places = Result<Vec<Span>, AllocError>;
+
 /// What a run is told by.
 #[derive(Clone, Copy)]
 pub(crate) struct Story<'a> {
@@ -36,15 +42,11 @@ pub(crate) fn source_of(cause: Cause) -> usize {
 }
 
 /// Those whose waits lead to an instance: the ones on its ring, or the others.
-pub(crate) fn led_to(
-    story: &Story<'_>,
-    instance: usize,
-    is_on_ring: bool,
-) -> Result<Vec<Reason>, AllocError> {
+pub(crate) fn led_to(story: &Story, one: usize, on_ring: bool) -> Result<Vec<Reason>, AllocError> {
     let mut those = Vec::new(story.alloc);
     for reason in story.reasons {
-        let is_led = source_of(reason.cause) == instance && reason.is_on_ring == is_on_ring;
-        if is_led && (is_on_ring || reason.instance != instance) {
+        let is_led = source_of(reason.cause) == one && reason.is_on_ring == on_ring;
+        if is_led && (on_ring || reason.instance != one) {
             those.push(*reason)?;
         }
     }
@@ -52,26 +54,16 @@ pub(crate) fn led_to(
 }
 
 /// Adds a number, and a word for one or for several.
-pub(crate) fn add_count(
-    text: &mut String,
-    count: usize,
-    one: &str,
-    several: &str,
-) -> Result<(), AllocError> {
+pub(crate) fn add_count(text: &mut String, count: usize, one: &str, several: &str) -> Wrote {
     let mut buffer = Buffer::new();
     text.push_str(buffer.format(count))?;
     text.push_str(if count == 1 { one } else { several })
 }
 
 /// Adds an instance, by its number and its process, and what it does.
-pub(crate) fn add_who(
-    text: &mut String,
-    network: &Network,
-    instance: usize,
-    does: &[&str],
-) -> Result<(), AllocError> {
-    add_count(text, instance.saturating_add(1), " ", " ")?;
-    text.push_str(process_name(network, instance))?;
+pub(crate) fn add_who(text: &mut String, network: &Network, one: usize, does: &[&str]) -> Wrote {
+    add_count(text, one.saturating_add(1), " ", " ")?;
+    text.push_str(process_name(network, one))?;
     add(text, does)
 }
 
@@ -82,7 +74,7 @@ pub(crate) fn add_those(
     those: &[Reason],
     one: &str,
     several: &str,
-) -> Result<(), AllocError> {
+) -> Wrote {
     if those.len() > MOST_NAMED {
         add_count(text, those.len(), "", " processes")?;
         return text.push_str(several);
@@ -112,7 +104,7 @@ pub(crate) fn is_fed(network: &Network, input: &Input) -> bool {
 }
 
 /// Adds that one waits on an input, and how many values came, all of which are taken, where that is known.
-fn add_input(text: &mut String, story: &Story<'_>, channel: usize) -> Result<(), AllocError> {
+fn add_input(text: &mut String, story: &Story, channel: usize) -> Wrote {
     text.push_str(", an input")?;
     let Some(input) = story.fed else {
         return Ok(());
@@ -140,7 +132,7 @@ fn writer_of(network: &Network, channel: usize) -> Option<usize> {
 }
 
 /// Adds places, where there are any: the first, and two more or how many more there are.
-fn add_spots(text: &mut String, source: &str, places: &[Span]) -> Result<(), AllocError> {
+fn add_spots(text: &mut String, source: &str, places: &[Span]) -> Wrote {
     for (number, place) in places.iter().enumerate() {
         if number == 1 && places.len() > 3 {
             text.push_str(" or ")?;
@@ -155,11 +147,11 @@ fn add_spots(text: &mut String, source: &str, places: &[Span]) -> Result<(), All
 /// Adds an instance that waits, on what it does, at these places, and who writes that.
 pub(crate) fn add_wait(
     text: &mut String,
-    story: &Story<'_>,
+    story: &Story,
     instance: usize,
     channel: usize,
     places: &[Span],
-) -> Result<(), AllocError> {
+) -> Wrote {
     let name = channel_name(story.network, channel);
     add_who(text, story.network, instance, &[" waits on ", name])?;
     add_spots(text, story.program, places)?;
@@ -173,11 +165,7 @@ pub(crate) fn add_wait(
 }
 
 /// Adds where the waits of an instance lead, where that isn't to itself.
-pub(crate) fn add_led(
-    text: &mut String,
-    network: &Network,
-    reason: &Reason,
-) -> Result<(), AllocError> {
+pub(crate) fn add_led(text: &mut String, network: &Network, reason: &Reason) -> Wrote {
     let source = source_of(reason.cause);
     if source == reason.instance {
         return Ok(());

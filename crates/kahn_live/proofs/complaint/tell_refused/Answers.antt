@@ -1,4 +1,4 @@
-use Rattle.kahn_live.proofs.Common.{◌∙◌, Bool, subst, sym, option_copied, IsComplaint, IsHintBy, telling_of}
+use Rattle.kahn_live.proofs.Common.{◌∙◌, Bool, subst, sym, option_copied, IsComplaint, telling_of}
 use Rattle.kahn_live.proofs.complaint.tell_refused.Goals as goal
 
 pub returns-then-is_again : goal.returns-then-is_again
@@ -7,7 +7,7 @@ returns-then-is_again g c =
     let old = telling_of g.E.Write.contents c.args.teller.now in
     let new = telling_of g.E.Write.contents c.count.new.self in record {
       hint = hint;
-      named = subst (λ (b : Bool). IsHintBy b c.args.session.now hint) c.is_hint_wanted-wanted.ensures c.hint_of-input.ensures;
+      named = rw c.wants_hint-wanted.ensures at c.hint_of-input.ensures;
       told = subst (λ (b : Bool). IsComplaint c.args.session.now c.args.number c.args.line.now c.args.fault hint b old new) (sym c.if-is_again.true ∙ c.is_again.ensures) c.count.ensures;
     }
 
@@ -15,8 +15,10 @@ pub returns : goal.returns
 returns g c =
     let hint = option_copied c.hint_of-input.result in
     let old = telling_of g.E.Write.contents c.args.teller.now in
-    let new = telling_of g.E.Write.contents c.tell_new_refusal.new.teller in record {
+    let new = telling_of g.E.Write.contents c.tell.new.self in
+    let part = c.refused_part-part.result in
+    let pointed = rw c.network-network.ensures at c.refused_part-part.ensures in record {
       hint = hint;
-      named = subst (λ (b : Bool). IsHintBy b c.args.session.now hint) c.is_hint_wanted-wanted.ensures c.hint_of-input.ensures;
-      told = subst (λ (b : Bool). IsComplaint c.args.session.now c.args.number c.args.line.now c.args.fault hint b old new) (sym c.if-is_again.false ∙ c.is_again.ensures) c.tell_new_refusal.ensures;
+      named = rw c.wants_hint-wanted.ensures at c.hint_of-input.ensures;
+      told = subst (λ (b : Bool). IsComplaint c.args.session.now c.args.number c.args.line.now c.args.fault hint b old new) (sym c.if-is_again.false ∙ c.is_again.ensures) (part, pointed, c.tell.ensures);
     }

@@ -1,4 +1,4 @@
-use Rattle.kahn_live.proofs.Common.{◌≡◌, ◌∙◌, ◌<◌, ◌++◌, ◌∷◌, [], length, List, ℕ, ap, map, refl, rules, subst, sym, IsRowFront, behind_word, bytes_in, first_word, is_wordless, row_line}
+use Rattle.kahn_live.proofs.Common.{[], ◌≡◌, ◌∙◌, ◌<◌, ◌++◌, ◌∷◌, length, List, ℕ, ap, map, refl, rules, subst, sym, IsRowFront, behind_word, bytes_in, first_word, is_wordless, row_line}
 use Rattle.kahn_live.proofs.Rowing.{front_more, last_in}
 use Rattle.kahn_live.proofs.rows.row_cells.Goals as goal
 

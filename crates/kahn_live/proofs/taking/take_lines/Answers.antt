@@ -1,5 +1,5 @@
-use Rattle.kahn_live.proofs.Common.{option_copied, ◌≡◌, inl, inr, false, true, ℕ, suc, arith, rules, subst, sym, err_from_is_err_and, reader_remaining, point_of, IsStoppedAt}
-use Rattle.kahn_live.proofs.Meeting.{next_none, next_read, unmoved}
+use Rattle.kahn_live.proofs.Common.{◌≡◌, inl, inr, false, true, suc, arith, rules, sym, err_from_is_err_and, reader_remaining, point_of}
+use Rattle.kahn_live.proofs.Meeting.{unmoved}
 use Rattle.kahn_live.proofs.taking.take_lines.Goals as goal
 
 pub returns-in_err-take_next-clause-met : goal.returns-in_err-take_next-clause-met
@@ -7,28 +7,18 @@ returns-in_err-take_next-clause-met g c =
     let known = c.loop-number.invariant.1 in
     let left = reader_remaining g.I.Read.remaining c.loop-number.reader in
     let last = point_of g.W.Write.contents g.E.Write.contents c.loop-number.stage in
-    let new = point_of g.W.Write.contents g.E.Write.contents c.take_next.new.stage in
     let p = err_from_is_err_and c.from_residual.result c.from_residual.ensures.1 in
-    let stopped = subst (λ (k : ℕ). IsStoppedAt (option_copied c.args.input) k left last new c.in_err-take_next.field-0.0) known.1 c.in_err-take_next.ensures.met in
+    let stopped = rw known.1 at c.in_err-take_next.ensures.met in
     rw (p.1, p.2) (known.0, left, last, known.2, c.if-is_over.ensures, stopped)
 
 pub loop-number-preserved : goal.loop-number-preserved
 loop-number-preserved g c =
     let known = c.loop-number.invariant.1 in
-    let text = reader_remaining g.I.Read.remaining c.args.reader.now in
     let left = reader_remaining g.I.Read.remaining c.loop-number.reader in
-    let rest = reader_remaining g.I.Read.remaining c.take_next.new.reader in
-    let old = point_of g.W.Write.contents g.E.Write.contents c.args.stage.now in
     let last = point_of g.W.Write.contents g.E.Write.contents c.loop-number.stage in
-    let new = point_of g.W.Write.contents g.E.Write.contents c.take_next.new.stage in
-    let more : c.in_ok-take_next.field-0 ≡ true = search rules in (
-      c.in_ok-take_next.ensures.broken,
-      (
-        suc known.0,
-        omega (arith, known.1),
-        next_read (option_copied c.args.input) known.0 c.loop-number.number text left rest old last new c.in_ok-take_next.field-0 more known.1 known.2 c.if-is_over.ensures c.in_ok-take_next.ensures.met,
-      ),
-    )
+    let more : c.in_ok-take_next.field-0 ≡ true = search rules in
+    let step = rw (more, known.1) at c.in_ok-take_next.ensures.met in
+    (c.in_ok-take_next.ensures.broken, (suc known.0, omega (arith, known.1), (left, last, known.2, c.if-is_over.ensures, step)))
 
 pub returns-clause-met : goal.returns-clause-met
 returns-clause-met g c =
@@ -49,9 +39,7 @@ pub returns-then-not-branch-clause-met : goal.returns-then-not-branch-clause-met
 returns-then-not-branch-clause-met g c =
     let known = c.loop-number.invariant.1 in
     let left = reader_remaining g.I.Read.remaining c.loop-number.reader in
-    let rest = reader_remaining g.I.Read.remaining c.take_next.new.reader in
     let last = point_of g.W.Write.contents g.E.Write.contents c.loop-number.stage in
-    let new = point_of g.W.Write.contents g.E.Write.contents c.take_next.new.stage in
     let none : c.in_ok-take_next.field-0 ≡ false = search rules in
-    let (ended, sent) = next_none (option_copied c.args.input) c.loop-number.number left rest last new c.in_ok-take_next.field-0 none c.in_ok-take_next.ensures.met in
+    let (ended, sent) = rw none at c.in_ok-take_next.ensures.met in
     (known.0, left, last, known.2, sent, inl ended)

@@ -4,6 +4,6 @@ use Rattle.kahn_warnings.proofs.names.add_name.Goals as goal
 
 pub returns : goal.returns
 returns c =
-    let used = c.has-used.ensures ∙ c.requires.used (bytes_of c.args.name.now) in
-    let assigned = c.has-assigned.ensures ∙ c.requires.assigned (bytes_of c.args.name.now) in
-    rw (c.name_kind.ensures, used, assigned) at c.add_warning.ensures
+    let used = c.has.ensures ∙ c.requires.used (bytes_of c.args.name.now) in
+    let assigned = c.has-2.ensures ∙ c.requires.assigned (bytes_of c.args.name.now) in
+    rw (c.name_kind-kind.ensures, used, assigned) at c.add_warning.ensures

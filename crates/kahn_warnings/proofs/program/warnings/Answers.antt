@@ -9,7 +9,17 @@ loop-declaration-preserved c =
     let (comments, are, so_far) = c.loop-declaration.invariant in
     (comments, are, grind (arith, common_steps, so_far, c.in_ok-add_declaration.ensures))
 
+pub loop-span-init : goal.loop-span-init
+loop-span-init c =
+    let (comments, are, so_far) = c.loop-declaration.invariant in
+    (comments, are, grind (arith, common_steps, so_far))
+
+pub loop-span-preserved : goal.loop-span-preserved
+loop-span-preserved c =
+    let (comments, are, so_far) = c.loop-span.invariant in
+    (comments, are, grind (arith, common_steps, so_far, c.in_ok-add_warning.ensures))
+
 pub returns : goal.returns
 returns c =
-    let (comments, are, so_far) = c.loop-declaration.invariant in
-    (comments, are, c.deref-2.result.now, grind (arith, common_steps, so_far, c.in_ok-add_misplaced.ensures))
+    let (comments, are, so_far) = c.loop-span.invariant in
+    (comments, are, c.deref-span-items.result.now, grind (arith, common_steps, so_far))

@@ -1,4 +1,4 @@
-use Rattle.kahn_why.proofs.Common.{◌∙◌, ◌≡◌, string_bytes, subst, sym, IsRefusedWords}
+use Rattle.kahn_why.proofs.Common.{◌∙◌, subst, sym, IsRefusedWords}
 use Rattle.kahn_why.proofs.Refused.{told_placed}
 use Rattle.kahn_why.proofs.refusing.placed_note.Goals as goal
 

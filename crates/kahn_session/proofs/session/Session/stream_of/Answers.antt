@@ -1,9 +1,6 @@
-use Rattle.kahn_session.proofs.Common.{sym, ap, ◌∙◌, flow_lines}
-use Rattle.kahn_session.proofs.Named.{same_found}
+use Rattle.kahn_session.proofs.Common.{sym, ap, ap₂, ◌∙◌, flow_lines, bears_name, position}
 use Rattle.kahn_session.proofs.session.Session.stream_of.Goals as goal
 
 pub returns : goal.returns
-returns c =
-    let i = c.self.inside in
-    same_found i.network.now c.args.self.now.flow.run.network c.lines.result.now (flow_lines c.args.self.now.flow.run) c.args.channel.now c.line_of.result
-    (sym c.self.invariant.0 ∙ ap (λ s. s.flow.run.network) c.self.view_is) (c.lines.ensures ∙ ap (λ s. flow_lines s.flow.run) c.self.view_is) c.line_of.ensures
+returns c = c.line_of.ensures ∙ ap₂ (λ t lines. position (bears_name t c.args.channel.now) lines)
+    (sym c.self.invariant.0 ∙ ap (λ s. s.flow.run.network) c.self.view_is) (c.lines.ensures ∙ ap (λ s. flow_lines s.flow.run) c.self.view_is)
