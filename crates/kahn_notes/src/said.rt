@@ -123,7 +123,7 @@ pub(crate) fn fix_of(place: Place, change: Change) -> Result<Option<Fix>, AllocE
         .at
         .checked_sub(1)
         .and_then(|number| lexemes.get(number));
-    let begins = |class| has_word("send if process while", class_word(class));
+    let begins = |class| has_word("send if process while integer logical", class_word(class));
     let is_first = change.put.is_some_and(begins);
     let (beside, span) = match (lexemes.get(change.at..end), one, lexemes.get(change.at)) {
         (Some([first, .., last]), _, _) => {
