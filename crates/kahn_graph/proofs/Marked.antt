@@ -1,40 +1,30 @@
 -- Standings, and the marks of rings over them.
-use Rattle.kahn_graph.proofs.Common.{AreRings, Bool, Ended, Faulted, IsRingMark, IsWaitAt, IsWaitMark, LeadsOn, List, More, Schema, Some, Standing, Waits, [], ap, arith, cases_lt, eq-eqb, eqb-true, false, get_or, is_wait, length, refl, same_Some, slice_get, slice_get-get_or, slice_get_within, subst, sym, true, ℕ, ⊎_elim, ◌+◌, ◌<◌, ◌∙◌, ◌≡◌, ◌≤◌}
+use Rattle.kahn_graph.proofs.Common.{AreRings, Bool, End, IsRingMark, IsWaitAt, IsWaitMark, List, Schema, Some, Standing, Waits, ap, arith, cases_lt, eq-eqb, eqb-true, false, get_or, length, length-map, map, option_map, refl, same_Some, slice_get, slice_get-get_or, slice_get-map, stands, subst, sym, true, is_wait, if◌then◌else◌, ℕ, ⊎_elim, ◌+◌, ◌<◌, ◌∙◌, ◌≡◌, ◌≤◌}
 
--- nobody stands, so nobody is on a ring
-pub no_rings : (N : Schema) (ss : List Standing) (marks : List Bool) → ss ≡ [] → marks ≡ [] → AreRings N ss marks
-no_rings N ss marks none nothing = subst (λ l. AreRings N l marks) (sym none) (subst (AreRings N []) (sym nothing) record {
-  each = refl;
-  rings = λ p mark e. absurd cc;
-})
-
-module _ (N : Schema) (ss : List Standing) (marks : List Bool) (rings : AreRings N ss marks) where
-  pub ring_at : (p : ℕ) (d : Bool) → p < length marks → IsRingMark N ss p (get_or marks p d)
-  ring_at p d le = rings.rings p (get_or marks p d) (slice_get-get_or marks p d le)
-
-  pub past_marks : (p : ℕ) → length marks ≤ p → IsRingMark N ss p false
-  past_marks p ge on = absurd (omega (arith, ge, rings.each, slice_get_within ss p (Waits on.0) on.2.0))
-
-  pub off_ring : (c p : ℕ) (d : Bool) → p < length ss → get_or marks p d ≡ false → IsWaitAt N ss c p false
-  off_ring c p d le e = λ f r. rings.rings p false (slice_get-get_or marks p d (omega (arith, le, rings.each)) ∙ ap Some e) r
-
-  waits_so : (c p : ℕ) (s : Standing) (b : Bool) → LeadsOn N ss p p → slice_get ss p ≡ Some s → is_wait c s ≡ b → IsWaitAt N ss c p b
-  waits_so c p s true r e f = (e ∙ ap Some (only s f), r)
+module _ (N : Schema) (ends : List End) (marks : List Bool) (rings : AreRings N (map stands ends) marks) where
+  -- whether one waits on the channel, and is on a ring
+  pub wait_at : (c p : ℕ) (d on : Bool) (x : End) (b : Bool) → p < length ends → get_or marks p d ≡ on → is_wait c (stands (get_or ends p x)) ≡ b
+      → IsWaitAt N (map stands ends) c p (if on then b else false)
+  wait_at c p d on x b le e f = by on b (rings.rings p on (slice_get-get_or marks p d marked ∙ ap Some e)) (stands (get_or ends p x)) at f
     where
-      only : (x : Standing) → is_wait c x ≡ true → x ≡ Waits c
-      only Ended g = absurd cc
-      only (Waits d) g = ap Waits (eqb-true d c g)
-      only Faulted g = absurd cc
-      only More g = absurd cc
-  waits_so c p s false r e f = λ g l.
-      let same : s ≡ Waits c = same_Some _ _ (sym e ∙ g) in
-      let bad : true ≡ false = sym (eq-eqb c c refl) ∙ (ap (is_wait c) (sym same) ∙ f) in
-      absurd cc
+      marked : p < length marks
+      marked = omega (arith, le, rings.each, length-map ends stands)
 
-  pub on_ring : (c p : ℕ) (d : Bool) (x : Standing) (b : Bool) → p < length ss → get_or marks p d ≡ true → is_wait c (get_or ss p x) ≡ b → IsWaitAt N ss c p b
-  on_ring c p d x b le e f =
-      waits_so c p (get_or ss p x) b (rings.rings p true (slice_get-get_or marks p d (omega (arith, le, rings.each)) ∙ ap Some e))
-      (slice_get-get_or ss p x le) f
+      at : slice_get (map stands ends) p ≡ Some (stands (get_or ends p x))
+      at = slice_get-map stands ends p ∙ ap (option_map stands) (slice_get-get_or ends p x le)
+
+      only : (s : Standing) → is_wait c s ≡ true → s ≡ Waits c
+      only (Waits d) g = ap Waits (eqb-true d c g)
+      only s g = absurd cc
+
+      by : (on b : Bool) → IsRingMark N (map stands ends) p on → (s : Standing) → slice_get (map stands ends) p ≡ Some s → is_wait c s ≡ b
+          → IsWaitAt N (map stands ends) c p (if on then b else false)
+      by false b off s is g = λ _ r. off r
+      by true true ring s is g = (is ∙ ap Some (only s g), ring)
+      by true false ring s is g = λ other _.
+          let same : s ≡ Waits c = same_Some _ _ (sym is ∙ other) in
+          let bad : true ≡ false = sym (eq-eqb c c refl) ∙ (ap (is_wait c) (sym same) ∙ g) in
+          absurd cc
 
 -- no instance before the nth
 pub no_wait_more : (N : Schema) (ss : List Standing) (c n : ℕ) → ((p : ℕ) → p < n → IsWaitAt N ss c p false) → IsWaitAt N ss c n false

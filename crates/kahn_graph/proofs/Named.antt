@@ -1,5 +1,5 @@
 -- Values and ends of edges by the names of parameters.
-use Rattle.kahn_graph.proofs.Common.{Argument, Bool, End, IfSome, IsEdge, IsOnly, IsPortText, IsReader, IsWaitMark, IsWithin, IsWriter, Kind, List, Schema, None, Option, Parameter, Process, Program, Role, Scope, Side, Some, Standing, Stream, [], actuals_of, ap, ap₂, arith, awaited_text, bytes_of, cases_lt, channel_names, codes, concat, drop, drop_of_length-le, edge_text, inl, inr, instance_at, instance_from, kind_at, length, length-map, map, mark_text, min, network_of, process_of, refl, role_at, slice_get, stands, subst, sym, values_text, ℕ, ⊎_elim, ◌++◌, ◌+◌, ◌<◌, ◌==◌, ◌∙◌, ◌∷◌, ◌≡◌, ◌≤◌, ◌⊎◌, add-one}
+use Rattle.kahn_graph.proofs.Common.{Argument, Bool, End, IfSome, IsEdge, IsOnly, IsPortText, IsReader, IsWaitMark, IsWithin, IsWriter, Kind, List, Schema, None, Option, Parameter, Process, Program, Role, Scope, Side, Some, Stream, [], actuals_of, ap, ap₂, arith, bytes_of, cases_lt, channel_names, codes, concat, drop, drop_of_length-le, edge_text, if◌then◌else◌, inl, inr, instance_at, instance_from, kind_at, length, length-map, map, mark_text, min, network_of, process_of, refl, role_at, slice_get, stands, sym, values_text, ℕ, ⊎_elim, ◌++◌, ◌+◌, ◌<◌, ◌∙◌, ◌∷◌, ◌≡◌, ◌≤◌, ◌⊎◌, add-one}
 use Rattle.kahn_streams.proofs.Entered.{drop_some}
 
 -- ---- values
@@ -54,12 +54,12 @@ reader_within N c (Some s) only = only.0.0
 
 -- ---- edges
 
-pub edge_of : (t : Program) (streams : List Stream) (ends : List End) (ss : List Standing) (c : ℕ) (name tail head : List ℕ) (kind : Kind) (role : Role) (writer reader : Option Side) (ring : Bool)
+pub edge_of : (t : Program) (streams : List Stream) (ends : List End) (c : ℕ) (name tail head : List ℕ) (kind : Kind) (role : Role) (writer reader : Option Side) (ring : Bool)
     → slice_get (channel_names t) c ≡ Some name → kind ≡ kind_at (network_of t) c → role ≡ role_at (network_of t) c
     → IsOnly (IsWriter (network_of t) c) writer → IsOnly (IsReader (network_of t) c) reader
-    → IsPortText t (codes "taillabel") writer tail → IsPortText t (codes "headlabel") reader head → ss ≡ map stands ends → IsWaitMark (network_of t) ss c ring
-    → IsEdge t streams ends c (mark_text c role ++ (edge_text streams c name kind writer reader ++ (tail ++ (head ++ concat (awaited_text ring ∷ codes "];\n" ∷ [])))))
-edge_of t streams ends ss c name tail head kind role writer reader ring e k r w d it ih same m = (
+    → IsPortText t (codes "taillabel") writer tail → IsPortText t (codes "headlabel") reader head → IsWaitMark (network_of t) (map stands ends) c ring
+    → IsEdge t streams ends c (mark_text c role ++ (edge_text streams c name kind writer reader ++ (tail ++ (head ++ concat ((if ring then codes ", color=red, penwidth=2" else []) ∷ codes "];\n" ∷ [])))))
+edge_of t streams ends c name tail head kind role writer reader ring e k r w d it ih m = (
   name,
   writer,
   reader,
@@ -71,8 +71,8 @@ edge_of t streams ends ss c name tail head kind role writer reader ring e k r w 
   d,
   it,
   ih,
-  subst (λ l. IsWaitMark (network_of t) l c ring) same m,
-  ap₂ (λ x y. mark_text c x ++ (edge_text streams c name y writer reader ++ (tail ++ (head ++ concat (awaited_text ring ∷ codes "];\n" ∷ []))))) r k,
+  m,
+  ap₂ (λ x y. mark_text c x ++ (edge_text streams c name y writer reader ++ (tail ++ (head ++ concat ((if ring then codes ", color=red, penwidth=2" else []) ∷ codes "];\n" ∷ []))))) r k,
 )
 
 -- as many instances as the tree has

@@ -1,21 +1,17 @@
 -- Believed. The picture of a network: a text in the language of Graphviz with a node for each instance and an edge for each channel,
 -- from its writer to its reader, with what came of a run, where there was one. This project's own choice of what a picture shows.
-use Rattle.std.specs.Prelude.{◌≡◌, ℕ, ◌+◌, List, [], ◌∷◌, ◌++◌, length, codes, decimal, map, Bool, true, false, Option, None, Some, option_map, slice_get}
+use Rattle.std.specs.Prelude.{◌≡◌, ℕ, ◌+◌, List, [], ◌∷◌, ◌++◌, length, codes, decimal, map, Bool, if◌then◌else◌, Option, None, Some, option_map, slice_get}
 use Rattle.std.specs.{Fmt.signed_decimal, List.concat}
 use Rattle.kahn_streams.specs.declared.{answer.End.End, answer.Stream.Stream, tree.Kind.Kind, tree.Role.Role, tree.Argument.Argument, tree.Instance.Instance, tree.Name.Name, tree.Parameter.Parameter, tree.Process.Process, tree.Program.Program, sides.Side.Side}
 use Rattle.kahn_streams.specs.declared.tree.Kind.TheVariants as K
-use Rattle.kahn_streams.specs.{declared.tree.Role.TheVariants.Inner, declared.tree.Role.TheVariants.Input, declared.tree.Role.TheVariants.Output, Place.line_of, Place.column_of, Prints.process_prints, View.bytes_of, Made.IsMadeOf, Network.network_of, Network.kind_at, Network.role_at, Network.IsOnly, Network.IsWriter, Network.IsReader, Network.channel_names}
+use Rattle.kahn_streams.specs.{declared.tree.Role.TheVariants.Inner, declared.tree.Role.TheVariants.Input, declared.tree.Role.TheVariants.Output, Prints.process_prints, View.bytes_of, Made.IsMadeOf, Network.network_of, Network.kind_at, Network.role_at, Network.IsOnly, Network.IsWriter, Network.IsReader, Network.channel_names}
 use Rattle.kahn_streams.specs.declared.tree.Argument.TheVariants as A
 use Rattle.kahn_chain.specs.{declared.standing.Standing.Standing, Chain.IsRingMark, Chain.stands}
 use Rattle.kahn_chain.specs.declared.standing.Standing.TheVariants as Stands
+use Rattle.kahn_marks.specs.Marks.{spot_text}
 use Rattle.kahn_graph.specs.Ran.{ended_text, carried, count_text, IsWaitMark}
 
 -- ---- instances
-
--- a text where something is so, and else another one
-abbrev pub text_if : Bool → List ℕ → List ℕ → List ℕ
-text_if true one other = one
-text_if false one other = other
 
 -- a value by the name of its parameter, after what separates it from the value before
 abbrev pub named_text : List ℕ → Parameter → List ℕ → List ℕ
@@ -27,12 +23,7 @@ values_text before [] xs = []
 values_text before (q ∷ qs) [] = []
 values_text before (q ∷ qs) (A.Channel n ∷ rest) = values_text before qs rest
 values_text before (q ∷ qs) (A.Number z at ∷ rest) = named_text before q (signed_decimal z) ++ values_text (codes ", ") qs rest
-values_text before (q ∷ qs) (A.Logical b at ∷ rest) = named_text before q (text_if b (codes "true") (codes "false")) ++ values_text (codes ", ") qs rest
-
--- a second border where the process prints
-abbrev pub border_text : Bool → List ℕ
-border_text true = codes ", peripheries=2"
-border_text false = []
+values_text before (q ∷ qs) (A.Logical b at ∷ rest) = named_text before q (if b then codes "true" else codes "false") ++ values_text (codes ", ") qs rest
 
 -- the colour of a box by how its instance stands; it stays white where the instance waits, and without a run
 abbrev pub colour_text : Option Standing → List ℕ
@@ -42,15 +33,9 @@ colour_text (Some (Stands.Waits c)) = []
 colour_text (Some Stands.Faulted) = codes ", style=filled, fillcolor=salmon"
 colour_text (Some Stands.More) = codes ", style=filled, fillcolor=palegreen"
 
--- a red border where the instance is on a ring of waits
-abbrev pub ring_text : Bool → List ℕ
-ring_text true = codes ", color=red"
-ring_text false = []
-
 -- where a name stands in the program text, as a line and a column
 abbrev pub tip_text : List ℕ → Name → List ℕ
-tip_text source n =
-    concat (codes ", tooltip=\"" ∷ bytes_of n ∷ codes " at " ∷ decimal (line_of source n.span.from) ∷ codes ":" ∷ decimal (column_of source n.span.from) ∷ codes "\"" ∷ [])
+tip_text source n = concat (codes ", tooltip=\"" ∷ bytes_of n ∷ []) ++ (spot_text (codes " at ") source n.span.from ++ codes "\"")
 
 -- the node of an instance of the program: its label has its number from 1, its process, the values below them, and how it ended
 abbrev pub node_text : Program → Option End → ℕ → Process → List Argument → Bool → List ℕ
@@ -58,7 +43,7 @@ node_text t end i p arguments ring =
     concat (codes "  p" ∷ decimal i ∷ codes " [label=\"" ∷ decimal (i + 1) ∷ codes " " ∷ bytes_of p.name ∷ [])
     ++ (values_text (codes "\\n") p.parameters.items arguments
     ++ (ended_text t end
-    ++ concat (codes "\"" ∷ border_text (process_prints p) ∷ colour_text (option_map stands end) ∷ ring_text ring ∷ [])))
+    ++ concat (codes "\"" ∷ (if process_prints p then codes ", peripheries=2" else []) ∷ colour_text (option_map stands end) ∷ (if ring then codes ", color=red" else []) ∷ [])))
 
 -- the text is the node of instance i of the program
 abbrev pub IsNode : Program → List ℕ → List End → ℕ → List ℕ → Type 0
@@ -85,10 +70,6 @@ abbrev pub style_text : Kind → List ℕ
 style_text K.Integer = codes "solid"
 style_text K.Logical = codes "dashed"
 
--- a red and broad line where a ring waits on the channel
-abbrev pub awaited_text : Bool → List ℕ
-awaited_text ring = text_if ring (codes ", color=red, penwidth=2") []
-
 -- the name of the parameter at a side
 abbrev pub IsPort : Program → Side → List ℕ → Type 0
 IsPort t s name =
@@ -113,7 +94,7 @@ IsEdge t streams ends c text =
     (name : List ℕ) × (writer : Option Side) × (reader : Option Side) × (tail : List ℕ) × (head : List ℕ) × (ring : Bool)
     × (slice_get (channel_names t) c ≡ Some name) × IsOnly (IsWriter n c) writer × IsOnly (IsReader n c) reader
     × IsPortText t (codes "taillabel") writer tail × IsPortText t (codes "headlabel") reader head × IsWaitMark n (map stands ends) c ring
-    × (text ≡ mark_text c (role_at n c) ++ (edge_text streams c name (kind_at n c) writer reader ++ (tail ++ (head ++ concat (awaited_text ring ∷ codes "];\n" ∷ [])))))
+    × (text ≡ mark_text c (role_at n c) ++ (edge_text streams c name (kind_at n c) writer reader ++ (tail ++ (head ++ concat ((if ring then codes ", color=red, penwidth=2" else []) ∷ codes "];\n" ∷ [])))))
 
 -- ---- the whole
 

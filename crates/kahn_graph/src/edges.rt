@@ -1,16 +1,14 @@
 //! The edges of a picture.
 
-ghost use Rattle.std.specs.Prelude.{◌≡◌, ◌<◌, ◌++◌, Option, IfOk, length, map, string_bytes};
-ghost use Rattle.kahn_streams.specs.Network.{network_of};
-ghost use Rattle.kahn_graph.specs.{Graph.place_text, Graph.mark_text, Graph.style_text, Graph.edge_text, Graph.IsEdge, Graph.AreEdges, inner.Adding.Adds};
+ghost use Rattle.std.specs.Prelude.{◌≡◌, ◌<◌, ◌++◌, Option, IfOk, IfSome, length, map, string_bytes};
+ghost use Rattle.kahn_streams.specs.Network.{network_of, IsWithin};
+ghost use Rattle.kahn_graph.specs.{Graph.place_text, Graph.mark_text, Graph.style_text, Graph.edge_text, Graph.IsPort, Graph.IsPortText, Graph.IsEdge, Graph.AreEdges, inner.Adding.Adds};
 ghost use Rattle.kahn_chain.specs.Chain.{AreRings, stands};
 
 use crate::nodes::text_if;
-use crate::ports::add_port;
 use crate::ran::{add_count, carried};
 use crate::stands::is_ring_channel;
 use itoa::Buffer;
-use kahn_chain::Standing;
 use kahn_marks::add;
 use kahn_streams::{End, Kind, Network, Role, Side, Stream};
 use std::alloc::AllocError;
@@ -76,25 +74,51 @@ fn add_line(
     add(text, &["\", style=", style(kind)])
 }
 
+// The name of the parameter at a side.
+fn port_name(network: &Network, side: Side) -> &str
+    requires { IsWithin (network_of network.now) side }
+    ensures { IsPort network.now side result.now }
+{
+    let made = network.instance(side.instance);
+    let parameter = &made.process.parameters[side.parameter];
+    parameter.name.text.as_str()
+}
+
+// Adds that name as an attribute, where there is a side.
+fn add_port(
+    text: &mut String,
+    network: &Network,
+    attribute: &'static str,
+    side: Option<Side>,
+) -> Result<(), AllocError>
+    requires { IfSome side (IsWithin (network_of network.now)) }
+    ensures { IfOk result (λ _. Adds (IsPortText network.now attribute.now side) (string_bytes text.old) (string_bytes text.new)) }
+{
+    let Some(side) = side else {
+        return Ok(());
+    };
+    add(text, &[", ", attribute, "=\""])?;
+    add(text, &[port_name(network, side), "\""])?;
+    Ok(())
+}
+
 // Adds the mark and the edge of a channel.
 fn add_edge(
     text: &mut String,
     network: &Network,
     streams: &[Stream],
-    _ends: &[End],
-    standings: &[Standing],
+    ends: &[End],
     rings: &[bool],
     channel: usize,
 ) -> Result<(), AllocError>
     requires here { channel < length (network_of network.now).channels }
-    requires standings { standings.now ≡ map stands _ends.now }
-    requires rings { AreRings (network_of network.now) standings.now rings.now }
-    ensures { IfOk result (λ _. Adds (IsEdge network.now streams.now _ends.now channel) (string_bytes text.old) (string_bytes text.new)) }
+    requires rings { AreRings (network_of network.now) (map stands ends.now) rings.now }
+    ensures { IfOk result (λ _. Adds (IsEdge network.now streams.now ends.now channel) (string_bytes text.old) (string_bytes text.new)) }
 {
     let found = network.channel(channel);
     let writer = network.writer(channel);
     let reader = network.reader(channel);
-    let ring = is_ring_channel(network, standings, rings, channel);
+    let ring = is_ring_channel(network, ends, rings, channel);
     add_mark(text, channel, found.role)?;
     add_line(
         text, streams, channel, found.name, found.kind, writer, reader,
@@ -111,16 +135,14 @@ pub(crate) fn add_edges(
     text: &mut String,
     network: &Network,
     streams: &[Stream],
-    _ends: &[End],
-    standings: &[Standing],
+    ends: &[End],
     rings: &[bool],
 ) -> Result<(), AllocError>
-    requires standings { standings.now ≡ map stands _ends.now }
-    requires rings { AreRings (network_of network.now) standings.now rings.now }
-    ensures { IfOk result (λ _. Adds (AreEdges network.now streams.now _ends.now) (string_bytes text.old) (string_bytes text.new)) }
+    requires { AreRings (network_of network.now) (map stands ends.now) rings.now }
+    ensures { IfOk result (λ _. Adds (AreEdges network.now streams.now ends.now) (string_bytes text.old) (string_bytes text.new)) }
 {
     for channel in 0..network.channels() {
-        add_edge(text, network, streams, _ends, standings, rings, channel)?;
+        add_edge(text, network, streams, ends, rings, channel)?;
     }
     Ok(())
 }

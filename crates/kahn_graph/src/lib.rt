@@ -4,10 +4,7 @@
 mod edges;
 mod nodes;
 mod picture;
-mod ports;
-mod printing;
 mod ran;
 mod stands;
-mod tips;
 
 pub use picture::picture_text;

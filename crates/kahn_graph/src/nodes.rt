@@ -1,40 +1,37 @@
 //! The nodes of a picture.
 
-ghost use Rattle.std.specs.Prelude.{◌≡◌, ◌<◌, ◌++◌, IfOk, codes, length, map, option_map, slice_get, string_bytes};
-ghost use Rattle.kahn_streams.specs.{Network.network_of, Prints.declaration_prints, Prints.process_prints};
-ghost use Rattle.kahn_graph.specs.Graph.{named_text, values_text, node_text, IsNode, AreNodes, border_text, colour_text, ring_text, text_if};
+ghost use Rattle.std.specs.Prelude.{◌≡◌, ◌<◌, ◌++◌, IfOk, Some, codes, if◌then◌else◌, length, map, option_map, slice_get, string_bytes};
+ghost use Rattle.kahn_streams.specs.{Network.network_of, Prints.declaration_prints, Prints.process_prints, Wires.process_at};
+ghost use Rattle.kahn_graph.specs.Graph.{named_text, values_text, node_text, tip_text, IsNode, AreNodes, colour_text};
 ghost use Rattle.kahn_chain.specs.Chain.{AreRings, stands};
-ghost use Rattle.kahn_graph.specs.inner.Adding.{Adds, AddsValue};
+ghost use Rattle.kahn_graph.specs.inner.Adding.{Adds, AddsValue, IsTip};
 
-use crate::printing::is_printing;
 use crate::ran::add_ended;
 use crate::stands::is_ring_instance;
-use crate::tips::add_tip;
 use itoa::Buffer;
-use kahn_chain::Standing;
-use kahn_marks::add;
-use kahn_streams::{Argument, End, Network, Outcome, Parameter, Process};
-use std::alloc::AllocError;
+use kahn_marks::{add, add_spot};
+use kahn_streams::{
+    Argument, End, Name, Network, NetworkInstance, Outcome, Parameter, Process, declaration_prints,
+};
+use std::alloc::{AllocError, Global};
 
 /// A text where something is so, and else another one.
 pub(crate) fn text_if(is_so: bool, yes: &'static str, no: &'static str) -> &'static str
-    ensures { result.now ≡ text_if is_so yes.now no.now }
+    ensures { result.now ≡ if is_so then yes.now else no.now }
 {
     if is_so { yes } else { no }
 }
 
 // Adds a value by the name of its parameter, after what separates it from what stands before.
-fn add_named(
+fn add_named<'a>(
     text: &mut String,
-    before: &str,
-    parameter: &Parameter,
-    value: &str,
+    before: &'a str,
+    parameter: &'a Parameter,
+    value: &'a str,
 ) -> Result<(), AllocError>
     ensures { IfOk result (λ _. string_bytes text.new ≡ string_bytes text.old ++ named_text before.now parameter.now value.now) }
 {
-    add(text, &[before])?;
-    add(text, &[parameter.name.text.as_str()])?;
-    add(text, &["=", value])
+    add(text, &[before, parameter.name.text.as_str(), "=", value])
 }
 
 // Adds an argument where it is a value, and says what separates it from the next.
@@ -78,13 +75,6 @@ fn add_values(
     Ok(())
 }
 
-// What gives a second border to a process that prints.
-fn border(prints: bool) -> &'static str
-    ensures { result.now ≡ border_text prints }
-{
-    if prints { ", peripheries=2" } else { "" }
-}
-
 // What gives its colour to the box of an instance with that end.
 fn colour(end: Option<End>) -> &'static str
     ensures { result.now ≡ colour_text (option_map stands end) }
@@ -100,13 +90,6 @@ fn colour(end: Option<End>) -> &'static str
     }
 }
 
-// What gives a red border to an instance that is on a ring of waits.
-fn ring_border(ring: bool) -> &'static str
-    ensures { result.now ≡ ring_text ring }
-{
-    if ring { ", color=red" } else { "" }
-}
-
 // How an instance ended, where that is known.
 fn end_of(ends: &[End], instance: usize) -> Option<End>
     ensures { result ≡ slice_get ends.now instance }
@@ -120,25 +103,81 @@ fn add_made(
     network: &Network,
     end: Option<End>,
     instance: usize,
-    process: &Process,
-    arguments: &[Argument],
+    made: NetworkInstance<'_>,
     prints: bool,
     ring: bool,
 ) -> Result<(), AllocError>
     requires here { instance < usize.MAX }
-    requires prints { prints ≡ process_prints process.now }
-    ensures { IfOk result (λ _. string_bytes text.new ≡ string_bytes text.old ++ node_text network.now end instance process.now arguments.now ring) }
+    requires prints { prints ≡ process_prints made.process.now }
+    ensures { IfOk result (λ _. string_bytes text.new ≡ string_bytes text.old ++ node_text network.now end instance made.entry.process.now made.entry.arguments.now ring) }
 {
     let mut first = Buffer::new();
     let mut second = Buffer::new();
     let node = first.format(instance);
     let number = second.format(instance + 1);
-    let name = process.name.text.as_str();
+    let name = made.process.name.text.as_str();
     add(text, &["  p", node, " [label=\"", number, " ", name])?;
-    add_values(text, &process.parameters, arguments)?;
+    add_values(text, &made.process.parameters, made.arguments)?;
     add_ended(text, network, end)?;
-    let (border, colour) = (border(prints), colour(end));
-    add(text, &["\"", border, colour, ring_border(ring)])
+    let border = text_if(prints, ", peripheries=2", "");
+    let red = text_if(ring, ", color=red", "");
+    add(text, &["\"", border, colour(end), red])?;
+    Ok(())
+}
+
+// Adds where a name stands.
+fn add_name(text: &mut String, source: &str, name: &Name) -> Result<(), AllocError>
+    ensures { IfOk result (λ _. string_bytes text.new ≡ string_bytes text.old ++ tip_text source.now name.now) }
+{
+    add(text, &[", tooltip=\"", name.text.as_str()])?;
+    add_spot(text, " at ", source, name.span.from)?;
+    add(text, &["\""])?;
+    Ok(())
+}
+
+// Adds where an instance stands in the program text.
+fn add_tip(
+    text: &mut String,
+    network: &Network,
+    source: &str,
+    instance: usize,
+) -> Result<(), AllocError>
+    requires { instance < length (network_of network.now).instances }
+    ensures { IfOk result (λ _. Adds (IsTip network.now source.now instance) (string_bytes text.old) (string_bytes text.new)) }
+{
+    let program = network.program();
+    let placed = &program.instances[instance];
+    add_name(text, source, &placed.process)?;
+    Ok(())
+}
+
+/// Whether each declaration is of a process that prints anywhere.
+pub(crate) fn printing(alloc: Global, network: &Network) -> Result<Vec<bool>, AllocError>
+    ensures { IfOk result (λ list. list.items ≡ map declaration_prints network.now.declarations.items) }
+{
+    let mut list = Vec::new(alloc);
+    for declaration in &network.program().declarations {
+        list.push(declaration_prints(declaration))?;
+    }
+    Ok(list)
+}
+
+// Whether the process with that declaration prints anywhere.
+#[tactic(auto, using(crate::proofs::Printed::printed_at))]
+fn is_printing(
+    _network: &Network,
+    printing: &[bool],
+    declaration: usize,
+    _process: &Process,
+) -> bool
+    requires asked { printing.now ≡ map declaration_prints _network.now.declarations.items }
+    requires declared { process_at _network.now.declarations.items declaration ≡ Some _process.now }
+    ensures { result ≡ process_prints _process.now }
+{
+    match printing.get(declaration) {
+        Some(prints) => *prints,
+        None => false,
+    }
 }
 
 // Adds the node of an instance.
@@ -147,31 +186,20 @@ fn add_node(
     network: &Network,
     source: &str,
     ends: &[End],
-    standings: &[Standing],
     rings: &[bool],
     printing: &[bool],
     instance: usize,
 ) -> Result<(), AllocError>
     requires here { instance < length (network_of network.now).instances }
     requires printing { printing.now ≡ map declaration_prints network.now.declarations.items }
-    requires standings { standings.now ≡ map stands ends.now }
-    requires rings { AreRings (network_of network.now) standings.now rings.now }
+    requires rings { AreRings (network_of network.now) (map stands ends.now) rings.now }
     ensures { IfOk result (λ _. Adds (IsNode network.now source.now ends.now instance) (string_bytes text.old) (string_bytes text.new)) }
 {
     let made = network.instance(instance);
     let prints = is_printing(network, printing, made.declaration, made.process);
-    let ring = is_ring_instance(network, standings, rings, instance);
+    let ring = is_ring_instance(network, ends, rings, instance);
     let end = end_of(ends, instance);
-    add_made(
-        text,
-        network,
-        end,
-        instance,
-        made.process,
-        made.arguments,
-        prints,
-        ring,
-    )?;
+    add_made(text, network, end, instance, made, prints, ring)?;
     add_tip(text, network, source, instance)?;
     add(text, &["];\n"])?;
     Ok(())
@@ -183,19 +211,15 @@ pub(crate) fn add_nodes(
     network: &Network,
     source: &str,
     ends: &[End],
-    standings: &[Standing],
     rings: &[bool],
     printing: &[bool],
 ) -> Result<(), AllocError>
     requires printing { printing.now ≡ map declaration_prints network.now.declarations.items }
-    requires standings { standings.now ≡ map stands ends.now }
-    requires rings { AreRings (network_of network.now) standings.now rings.now }
+    requires rings { AreRings (network_of network.now) (map stands ends.now) rings.now }
     ensures { IfOk result (λ _. Adds (AreNodes network.now source.now ends.now) (string_bytes text.old) (string_bytes text.new)) }
 {
     for instance in 0..network.instances() {
-        add_node(
-            text, network, source, ends, standings, rings, printing, instance,
-        )?;
+        add_node(text, network, source, ends, rings, printing, instance)?;
     }
     Ok(())
 }

@@ -1,7 +1,6 @@
 //! What came of a run, as a picture shows it.
 
 ghost use Rattle.std.specs.Prelude.{◌≡◌, ◌++◌, IfOk, string_bytes};
-ghost use Rattle.kahn_streams.specs.declared.answer.Outcome.TheVariants.{Waits};
 ghost use Rattle.kahn_graph.specs.Ran.{carried, count_text, ended_text, is_line_of, outcome_text, waited_text};
 
 use itoa::Buffer;
@@ -22,22 +21,13 @@ fn outcome_word(outcome: Outcome) -> &'static str
     }
 }
 
-// The name of a channel, or nothing past the last.
-fn channel_name(network: &Network, channel: usize) -> &str
-    ensures { result.now ≡ waited_text network.now (Waits channel) }
-{
-    if channel >= network.channels() {
-        return "";
-    }
-    network.channel(channel).name
-}
-
 // The name of the channel on which an instance waited, or nothing.
 fn waited_name(network: &Network, outcome: Outcome) -> &str
     ensures { result.now ≡ waited_text network.now outcome }
 {
     match outcome {
-        Outcome::Waits(channel) => channel_name(network, channel),
+        Outcome::Waits(channel) if channel >= network.channels() => "",
+        Outcome::Waits(channel) => network.channel(channel).name,
         _ => "",
     }
 }
@@ -63,10 +53,7 @@ pub(crate) fn add_ended(
 fn is_of(line: Line, channel: usize) -> bool
     ensures { result ≡ is_line_of channel line }
 {
-    match line {
-        Line::Channel(number) => number == channel,
-        Line::Print(_) => false,
-    }
+    matches!(line, Line::Channel(number) if number == channel)
 }
 
 /// How many values the stream of a channel has, where it has one.

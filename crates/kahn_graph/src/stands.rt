@@ -1,13 +1,12 @@
 //! Which instances and channels of a picture are on rings of waits.
 
-ghost use Rattle.std.specs.Prelude.{◌≡◌, ◌<◌, [], IfOk, length, map};
-ghost use Rattle.std.specs.Prelude.{◌⊎◌};
+ghost use Rattle.std.specs.Prelude.{◌≡◌, ◌⊎◌, ◌<◌, [], IfOk, length, map};
 ghost use Rattle.kahn_streams.specs.Network.{network_of};
-ghost use Rattle.kahn_chain.specs.Chain.{AreRings, AreStandings, IsRingMark, stands};
-ghost use Rattle.kahn_graph.specs.{Ran.IsWaitMark, inner.Adding.is_wait as is_wait_on, inner.Adding.IsWaitAt};
+ghost use Rattle.kahn_chain.specs.Chain.{AreRings, AreStandings, IsRingMark, standing_of, stands};
+ghost use Rattle.kahn_graph.specs.{Ran.IsWaitMark, inner.Adding.IsWaitAt, inner.Adding.is_wait};
 
-use kahn_chain::{Standing, rings};
-use kahn_streams::{End, Network};
+use kahn_chain::rings;
+use kahn_streams::{End, Network, Outcome};
 use std::alloc::{AllocError, Global};
 
 /// Which instances are on rings, where they stand so; or none, where nothing was run.
@@ -25,46 +24,43 @@ pub(crate) fn rings_of(
     rings(alloc, network, ends)
 }
 
-// Whether one that stands so waits on a channel.
-fn is_wait(standing: Standing, channel: usize) -> bool
-    ensures { result ≡ is_wait_on channel standing }
+// Whether an instance with that outcome waits on a channel.
+fn waits_on(outcome: Outcome, channel: usize) -> bool
+    ensures { result ≡ is_wait channel (standing_of outcome) }
 {
-    match standing {
-        Standing::Waits(awaited) => awaited == channel,
-        _ => false,
-    }
+    matches!(outcome, Outcome::Waits(awaited) if awaited == channel)
 }
 
 // Whether an instance of a ring waits on a channel.
 fn is_wait_at(
     _network: &Network,
-    standings: &[Standing],
+    ends: &[End],
     rings: &[bool],
     channel: usize,
     instance: usize,
 ) -> bool
-    requires here { instance < length standings.now }
-    requires known { AreRings (network_of _network.now) standings.now rings.now }
-    ensures { IsWaitAt (network_of _network.now) standings.now channel instance result }
+    requires here { instance < length ends.now }
+    requires known { AreRings (network_of _network.now) (map stands ends.now) rings.now }
+    ensures { IsWaitAt (network_of _network.now) (map stands ends.now) channel instance result }
 {
     if !rings[instance] {
         return false;
     }
-    is_wait(standings[instance], channel)
+    waits_on(ends[instance].outcome, channel)
 }
 
 /// Whether some instance of a ring waits on a channel.
 pub(crate) fn is_ring_channel(
     network: &Network,
-    standings: &[Standing],
+    ends: &[End],
     rings: &[bool],
     channel: usize,
 ) -> bool
-    requires { AreRings (network_of network.now) standings.now rings.now }
-    ensures { IsWaitMark (network_of network.now) standings.now channel result }
+    requires { AreRings (network_of network.now) (map stands ends.now) rings.now }
+    ensures { IsWaitMark (network_of network.now) (map stands ends.now) channel result }
 {
-    for instance in 0..standings.len() {
-        if is_wait_at(network, standings, rings, channel, instance) {
+    for instance in 0..ends.len() {
+        if is_wait_at(network, ends, rings, channel, instance) {
             return true;
         }
     }
@@ -74,12 +70,12 @@ pub(crate) fn is_ring_channel(
 /// Whether an instance is on a ring.
 pub(crate) fn is_ring_instance(
     _network: &Network,
-    _standings: &[Standing],
+    _ends: &[End],
     rings: &[bool],
     instance: usize,
 ) -> bool
-    requires { AreRings (network_of _network.now) _standings.now rings.now }
-    ensures { IsRingMark (network_of _network.now) _standings.now instance result }
+    requires { AreRings (network_of _network.now) (map stands _ends.now) rings.now }
+    ensures { IsRingMark (network_of _network.now) (map stands _ends.now) instance result }
 {
     if instance >= rings.len() {
         return false;

@@ -1,7 +1,7 @@
 -- Inner. Texts that grow by the texts of items.
 use Rattle.std.specs.Prelude.{◌≡◌, ℕ, Bool, true, false, ◌==◌, List, ◌∷◌, ◌++◌, Some, slice_get}
 use Rattle.kahn_streams.specs.{declared.tree.Argument.Argument, declared.tree.Instance.Instance, declared.tree.Parameter.Parameter, declared.tree.Program.Program, Network.Schema}
-use Rattle.kahn_chain.specs.{declared.standing.Standing.Standing, declared.standing.Standing.TheVariants.Ended, declared.standing.Standing.TheVariants.Waits, declared.standing.Standing.TheVariants.Faulted, declared.standing.Standing.TheVariants.More, Chain.LeadsOn}
+use Rattle.kahn_chain.specs.{declared.standing.Standing.Standing, declared.standing.Standing.TheVariants.Waits, Chain.LeadsOn}
 use Rattle.kahn_graph.specs.Graph.{tip_text, values_text}
 
 -- behind the old text stands one of these
@@ -24,7 +24,5 @@ IsWaitAt N ss c p false = slice_get ss p ≡ Some (Waits c) → LeadsOn N ss p p
 
 -- one that stands so waits on channel c
 abbrev pub is_wait : ℕ → Standing → Bool
-is_wait c Ended = false
 is_wait c (Waits d) = d == c
-is_wait c Faulted = false
-is_wait c More = false
+is_wait c s = false

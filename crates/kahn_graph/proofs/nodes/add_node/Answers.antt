@@ -1,4 +1,4 @@
-use Rattle.kahn_graph.proofs.Common.{IsRingMark, ap₂, codes, network_of, node_text, subst, ◌++◌}
+use Rattle.kahn_graph.proofs.Common.{ap₂, codes, node_text, ◌++◌}
 use Rattle.kahn_graph.proofs.Texts.{grown}
 use Rattle.kahn_graph.proofs.nodes.add_node.Goals as goal
 
@@ -9,6 +9,6 @@ returns c =
     let ring = c.is_ring_instance-ring.result in
     let (tip, (x, found, is), after) = c.in_ok-add_tip.ensures in (
       node_text c.args.network.now c.end_of-end.result c.args.instance process arguments ring ++ (tip ++ codes "];\n"),
-      (process, arguments, x, ring, c.instance-made.ensures.declared, found, subst (λ l. IsRingMark (network_of c.args.network.now) l c.args.instance ring) c.requires.standings c.is_ring_instance-ring.ensures, ap₂ (λ o y. node_text c.args.network.now o c.args.instance process arguments ring ++ (y ++ codes "];\n")) c.end_of-end.ensures is),
+      (process, arguments, x, ring, c.instance-made.ensures.declared, found, c.is_ring_instance-ring.ensures, ap₂ (λ o y. node_text c.args.network.now o c.args.instance process arguments ring ++ (y ++ codes "];\n")) c.end_of-end.ensures is),
       grown _ _ _ _ _ c.in_ok-add_made.ensures (grown _ _ _ tip _ after c.in_ok-add.ensures),
     )

@@ -1,6 +1,6 @@
 use Rattle.kahn_graph.proofs.Common.{at_index, channel_names, network_of, rules}
 use Rattle.kahn_graph.proofs.Named.{port_within}
-use Rattle.kahn_graph.proofs.ports.port_name.Goals as goal
+use Rattle.kahn_graph.proofs.edges.port_name.Goals as goal
 
 pub index-parameter-requires : goal.index-parameter-requires
 index-parameter-requires c =

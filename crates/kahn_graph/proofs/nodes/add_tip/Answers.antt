@@ -1,6 +1,6 @@
 use Rattle.kahn_graph.proofs.Common.{at_index, rules}
 use Rattle.kahn_graph.proofs.Named.{as_many_trees}
-use Rattle.kahn_graph.proofs.tips.add_tip.Goals as goal
+use Rattle.kahn_graph.proofs.nodes.add_tip.Goals as goal
 
 pub index-placed-requires : goal.index-placed-requires
 index-placed-requires c =
