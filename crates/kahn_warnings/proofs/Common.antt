@@ -12,14 +12,14 @@ pub use Rattle.kahn_streams.specs.declared.tree.Action.{Action, Block', Held-Act
 pub use Rattle.kahn_streams.specs.declared.tree.Action.TheBlock.{items-the_row-Statement}
 pub use Rattle.kahn_streams.specs.declared.tree.Form.{Bracket', Conditional', Form, Level', Negate', Not', Row_of-Operand, end_of-Operand, more_of-Operand}
 pub use Rattle.kahn_streams.specs.declared.tree.Form.TheBlock.{items-the_row-Operand}
-pub use Rattle.kahn_streams.specs.declared.tree.Operator.TheVariants.{Add, Divide, Multiply, Remainder, Subtract}
+pub use Rattle.kahn_streams.specs.declared.tree.Operator.TheVariants.{Add, Divide, Multiply, Remainder, Subtract, Unequal}
 pub use Rattle.kahn_streams.specs.declared.value.Failure.TheVariants.{Division, Overflow}
 pub use Rattle.kahn_streams.specs.declared.value.Line.TheVariants.{Channel}
 pub use Rattle.kahn_streams.specs.declared.value.Value.TheVariants.{Integer, Logical}
 pub use Rattle.kahn_wanted.specs.Comments.{EndsLine}
 pub use Rattle.kahn_warnings.specs.Comments.{AreCommentWarnings, IsCommentWarning}
-pub use Rattle.kahn_warnings.specs.Constants.{ConstantsHold, chosen, combined, constant_of, divides, inverted, is_true, negate_fault, negated, sure_fault}
-pub use Rattle.kahn_warnings.specs.Faults.{AreNumbersOf64, AreOf64Bits, AreWrittenIn64, FaultsLie, IsOf64Bits, IsOperand, IsWrittenIn64, can_divide, can_fail, fault_places, is_failure, operator_can, place_where, sign_can, site_places}
+pub use Rattle.kahn_warnings.specs.Constants.{ConstantsHold, chosen, combined, constant_of, divides, from_0, is_true, sure_fault, truly}
+pub use Rattle.kahn_warnings.specs.Faults.{AreNumbersOf64, AreOf64Bits, AreWrittenIn64, FaultsLie, IsOf64Bits, IsOperand, IsWrittenIn64, can_fail, fault_places, is_failure, least, operator_can, place_where, site_places}
 pub use Rattle.kahn_warnings.specs.Loops.{IsUnchanged, LoopsHold, is_seen, never_ends}
 pub use Rattle.kahn_warnings.specs.Sites.{action_sites, else_sites, form_sites, level_sites, row_sites, site_at}
 pub use Rattle.kahn_warnings.specs.Telling.{AreNotesOf}

@@ -1,5 +1,5 @@
 -- Expressions with a value by their constants have it.
-use Rattle.kahn_warnings.proofs.Common.{Binary, Bool, Conditional, ConstantsHold, Divide, Division, Err, Expr, Fail, Failure, Give, If, Literal, Logical, Negate, None, Not, Ok, Operator, Option, Remainder, Result, Script, Some, Stmt, Store, Tapes, Turns, Value, Variable, Wait, While, ap, apply, chosen, combined, constant, constant_of, divides, exec, false, fun_ext, if◌then◌else◌, int_div, int_rem, inverted, is_zero, neg_ℤ, negate_fault, negated, none-some, not, number, play, ranged, refl, result_err, result_ok, same_Some, script_of, settle, suc, sure_fault, sym, true, truth, turns_of, value_of, zero, ℕ, ◌&&◌, ◌∙◌, ◌≡◌}
+use Rattle.kahn_warnings.proofs.Common.{Binary, Bool, Conditional, ConstantsHold, Divide, Division, Err, Expr, Fail, Failure, Give, If, Integer, Literal, Logical, Negate, None, Not, Ok, Operator, Option, Remainder, Result, Script, Some, Stmt, Store, Subtract, Tapes, Turns, Unequal, Value, Variable, Wait, While, ap, apply, arith, chosen, combined, constant, constant_of, divides, exec, false, from_0, fun_ext, if◌then◌else◌, int_div, int_rem, ints, is_zero, neg_ℤ, none-some, not, number, play, pos, ranged, refl, result_err, result_ok, same_Some, script_of, settle, suc, sure_fault, sym, true, truth, turns_of, value_of, truly, zero, ℕ, ◌&&◌, ◌-ℤ◌, ◌∙◌, ◌≡◌}
 
 good_ok : (r : Result Value Failure) (v : Value) → result_ok r ≡ Some v → r ≡ Ok v
 good_ok (Ok w) v e = ap Ok (same_Some w v e)
@@ -9,13 +9,27 @@ bad_err : (r : Result Value Failure) (k : Failure) → result_err r ≡ Some k �
 bad_err (Ok w) k e = absurd (none-some k e)
 bad_err (Err j) k e = ap Err (same_Some j k e)
 
-negated_of : (x : Option Value) (v : Value) → negated x ≡ Some v → (w : Value) × (x ≡ Some w) × (ranged (neg_ℤ (number w)) ≡ Ok v)
-negated_of None v h = absurd (none-some v h)
-negated_of (Some w) v h = (w, refl, good_ok (ranged (neg_ℤ (number w))) v h)
+-- a sign takes its operand from 0
+pub taken_from_0 : (w : Value) → ranged (neg_ℤ (number w)) ≡ apply Subtract (Integer (pos 0)) w
+taken_from_0 w =
+    let same : neg_ℤ (number w) ≡ pos 0 -ℤ number w = omega (arith, ints) in
+    ap ranged same
 
-inverted_of : (x : Option Value) (v : Value) → inverted x ≡ Some v → (w : Value) × (x ≡ Some w) × (Logical (not (truth w)) ≡ v)
+negated_of : (x : Option Value) (v : Value) → combined Subtract from_0 x ≡ Some v → (w : Value) × (x ≡ Some w) × (ranged (neg_ℤ (number w)) ≡ Ok v)
+negated_of None v h = absurd (none-some v h)
+negated_of (Some w) v h = (w, refl, taken_from_0 w ∙ good_ok (apply Subtract (Integer (pos 0)) w) v h)
+
+-- `not` tells it from true
+pub told_from_true : (w : Value) → apply Unequal w (Logical true) ≡ Ok (Logical (not (truth w)))
+told_from_true (Integer z) = refl
+told_from_true (Logical true) = refl
+told_from_true (Logical false) = refl
+
+inverted_of : (x : Option Value) (v : Value) → combined Unequal x truly ≡ Some v → (w : Value) × (x ≡ Some w) × (Logical (not (truth w)) ≡ v)
 inverted_of None v h = absurd (none-some v h)
-inverted_of (Some w) v h = (w, refl, same_Some (Logical (not (truth w))) v h)
+inverted_of (Some w) v h =
+    let is : apply Unequal w (Logical true) ≡ Ok v = good_ok (apply Unequal w (Logical true)) v h in
+    (w, refl, cc (told_from_true w))
 
 combined_of : (o : Operator) (x y : Option Value) (v : Value) → combined o x y ≡ Some v → (p q : Value) × (x ≡ Some p) × (y ≡ Some q) × (apply o p q ≡ Ok v)
 combined_of o None y v h = absurd (none-some v h)
@@ -48,12 +62,12 @@ holds (Conditional t a b) v s next h =
     taken true first second g = first g
     taken false first second g = second g
 
-pub sign_fails : {A : Type 0} (e : Expr) (k : Failure) (s : Store) (next : Value → Script A) → negate_fault (constant_of e) ≡ Some k → value_of (Negate e) s next ≡ Fail k
+pub sign_fails : {A : Type 0} (e : Expr) (k : Failure) (s : Store) (next : Value → Script A) → sure_fault Subtract from_0 (constant_of e) ≡ Some k → value_of (Negate e) s next ≡ Fail k
 sign_fails e k s next h = by (constant_of e) refl h
   where
-    by : (x : Option Value) → constant_of e ≡ x → negate_fault x ≡ Some k → value_of (Negate e) s next ≡ Fail k
+    by : (x : Option Value) → constant_of e ≡ x → sure_fault Subtract from_0 x ≡ Some k → value_of (Negate e) s next ≡ Fail k
     by None is g = absurd (none-some k g)
-    by (Some w) is g = holds e w s (λ x. settle (ranged (neg_ℤ (number x))) next) is ∙ ap (λ r. settle r next) (bad_err (ranged (neg_ℤ (number w))) k g)
+    by (Some w) is g = holds e w s (λ x. settle (ranged (neg_ℤ (number x))) next) is ∙ ap (λ r. settle r next) (taken_from_0 w ∙ bad_err (apply Subtract (Integer (pos 0)) w) k g)
 
 zero_fails : (c : Bool) (r : Result Value Failure) (k : Failure) → (if c then Some Division else None) ≡ Some k → (if c then Err Division else r) ≡ Err k
 zero_fails true r k g = ap Err (same_Some Division k g)

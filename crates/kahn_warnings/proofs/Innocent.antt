@@ -1,5 +1,6 @@
 -- Operators that aren't told have no such fault.
-use Rattle.kahn_warnings.proofs.Common.{Add, Bool, Divide, Division, Err, Failure, Integer, IsOf64Bits, IsOperand, Logical, Multiply, None, Ok, Operator, Option, Overflow, Remainder, Result, Some, Subtract, Value, ap, apply, arith, arithmetic, can_divide, can_fail, cond, div-le_self, div-lt_self, divides, false, fits_64, if◌then◌else◌, int_div, int_lt, int_rem, ints, is_eq, is_failure, is_zero, nat_lt, neg_ℤ, negsuc, number, operator_can, pos, ranged, refl, rem_below, result_err, sign_can, subst, suc, sym, true, unsigned_abs, zero, ℕ, ℤ, ◌&&◌, ◌*ℤ◌, ◌+ℤ◌, ◌-ℤ◌, ◌/◌, ◌<◌, ◌^◌, ◌∙◌, ◌≡◌, ◌≤◌, Less as Before, Equal as Same, Greater as Behind}
+use Rattle.kahn_warnings.proofs.Common.{Add, Bool, Divide, Division, Err, Failure, Integer, IsOf64Bits, IsOperand, Logical, Multiply, None, Ok, Operator, Option, Overflow, Remainder, Result, Some, Subtract, Value, ap, apply, arith, arithmetic, can_fail, div-le_self, div-lt_self, divides, false, fits_64, from_0, if◌then◌else◌, int_div, int_rem, is_failure, is_zero, least, nat_lt, neg_ℤ, negsuc, number, operator_can, pos, ranged, refl, rem_below, result_err, subst, suc, sym, true, unsigned_abs, zero, ℕ, ℤ, ◌*ℤ◌, ◌+ℤ◌, ◌-ℤ◌, ◌/◌, ◌<◌, ◌^◌, ◌∙◌, ◌≡◌, ◌≤◌}
+use Rattle.kahn_warnings.proofs.Holding.{taken_from_0}
 
 true_not : (b : Bool) → b ≡ true → b ≡ false → ⊥
 true_not true e f = cc
@@ -33,11 +34,13 @@ rem_fits x (negsuc b) f z = within (int_rem x (negsuc b)) (omega (arith, rem_bel
 halved : (a b : ℕ) → suc a / suc (suc b) < suc a
 halved a b = div-lt_self (omega arith) (omega arith)
 
-div_fits : (x d : ℤ) → fits_64 x ≡ true → is_zero d ≡ false → can_divide Overflow d ≡ false → fits_64 (int_div x d) ≡ true
+div_fits : (x d : ℤ) → fits_64 x ≡ true → is_zero d ≡ false → is_failure Overflow (result_err (arithmetic Divide (number least) d)) ≡ false → fits_64 (int_div x d) ≡ true
 div_fits x (pos zero) f z m = absurd cc
 div_fits (pos a) (pos (suc b)) f z m = less_short (a / suc b) (omega (arith, div-le_self a (suc b), short_less a f))
 div_fits (negsuc a) (pos (suc b)) f z m = within_neg (suc a / suc b) (omega (arith, div-le_self (suc a) (suc b), short_less a f))
-div_fits x (negsuc zero) f z m = absurd cc
+div_fits x (negsuc zero) f z m =
+    let bad : true ≡ false = m in
+    absurd cc
 div_fits (pos a) (negsuc (suc b)) f z m = within_neg (a / suc (suc b)) (omega (arith, div-le_self a (suc (suc b)), short_less a f))
 div_fits (negsuc a) (negsuc (suc b)) f z m = less_short (suc a / suc (suc b)) (omega (arith, halved a b, short_less a f))
 
@@ -97,11 +100,15 @@ never Overflow Remainder v w h s e =
     divided (is_zero (number w)) (int_rem (number v) (number w)) Overflow e (λ z is. cc) (λ z. ranged_fits (int_rem (number v) (number w)) Overflow (rem_fits (number v) (number w) s z))
 never k o v w h s e = absurd cc
 
-by_divisor : (k : Failure) (o : Operator) (v w : Value) → divides o ≡ true → can_divide k (number w) ≡ false → IsOf64Bits v → IsOf64Bits w → apply o v w ≡ Err k → ⊥
+not_by_zero : (b : Bool) (r : Result Value Failure) → is_failure Division (result_err (if b then Err Division else r)) ≡ false → b ≡ true → ⊥
+not_by_zero true r h e = cc
+not_by_zero false r h e = cc
+
+by_divisor : (k : Failure) (o : Operator) (v w : Value) → divides o ≡ true → is_failure k (result_err (apply o least w)) ≡ false → IsOf64Bits v → IsOf64Bits w → apply o v w ≡ Err k → ⊥
 by_divisor Division Divide v w d h p q e =
-    divided (is_zero (number w)) (int_div (number v) (number w)) Division e (λ z is. true_not (is_zero (number w)) z h) (λ z. ranged_whole (int_div (number v) (number w)))
+    divided (is_zero (number w)) (int_div (number v) (number w)) Division e (λ z is. not_by_zero (is_zero (number w)) _ h z) (λ z. ranged_whole (int_div (number v) (number w)))
 by_divisor Division Remainder v w d h p q e =
-    divided (is_zero (number w)) (int_rem (number v) (number w)) Division e (λ z is. true_not (is_zero (number w)) z h) (λ z. ranged_whole (int_rem (number v) (number w)))
+    divided (is_zero (number w)) (int_rem (number v) (number w)) Division e (λ z is. not_by_zero (is_zero (number w)) _ h z) (λ z. ranged_whole (int_rem (number v) (number w)))
 by_divisor Overflow Divide v w d h p q e =
     divided (is_zero (number w)) (int_div (number v) (number w)) Overflow e (λ z is. cc) (λ z. ranged_fits (int_div (number v) (number w)) Overflow (div_fits (number v) (number w) p z h))
 by_divisor Overflow Remainder v w d h p q e = never Overflow Remainder v w refl q e
@@ -118,17 +125,14 @@ pub operator : (k : Failure) (o : Operator) (l r : Option Value) → operator_ca
 operator k o None None h v w p q e = never k o v w h q e
 operator k o (Some a) None h v w p q e = never k o v w h q e
 operator k o (Some a) (Some b) h v w p q e = known k (apply o a b) h ((λ i. apply o (sym p.1 i) (sym q.1 i)) ∙ e)
-operator k o None (Some b) h v w p q e = by (can_fail k o) (divides o) refl refl h
+operator k o None (Some b) h v w p q e = by (divides o) refl h
   where
-    by : (c d : Bool) → can_fail k o ≡ c → divides o ≡ d → (c && (if d then can_divide k (number b) else true)) ≡ false → ⊥
-    by false d is his g = never k o v w is q.0 e
-    by true true is his g = by_divisor k o v w his (ap (λ x. can_divide k (number x)) q.1 ∙ g) p q.0 e
-    by true false is his g = cc
+    by : (d : Bool) → divides o ≡ d → (if d then is_failure k (result_err (apply o least b)) else can_fail k o) ≡ false → ⊥
+    by true is g = by_divisor k o v w is (ap (λ x. is_failure k (result_err (apply o least x))) q.1 ∙ g) p q.0 e
+    by false is g = never k o v w g q.0 e
 
-pub sign : (k : Failure) (o : Option Value) → sign_can k o ≡ false → (v : Value) → IsOperand o v → ranged (neg_ℤ (number v)) ≡ Err k → ⊥
-sign Overflow None h v p e = cc
-sign Division None h v p e = ranged_whole (neg_ℤ (number v)) e
-sign k (Some u) h v p e = known k (ranged (neg_ℤ (number u))) h (ap (λ x. ranged (neg_ℤ (number x))) (sym p.1) ∙ e)
+pub sign : (k : Failure) (o : Option Value) → operator_can k Subtract from_0 o ≡ false → (v : Value) → IsOperand o v → ranged (neg_ℤ (number v)) ≡ Err k → ⊥
+sign k o h v p e = operator k Subtract from_0 o h (Integer (pos 0)) v (refl, refl) p (sym (taken_from_0 v) ∙ e)
 
 pub some : (k : Failure) (o : Operator) → operator_can k o None None ≡ true → (v : Value) × (w : Value) × IsOf64Bits v × IsOf64Bits w × (apply o v w ≡ Err k)
 some Overflow Add h = (Integer (pos 9223372036854775807), Integer (pos 1), refl, refl, refl)
@@ -139,22 +143,10 @@ some Division Divide h = (Integer (pos 1), Integer (pos 0), refl, refl, refl)
 some Division Remainder h = (Integer (pos 1), Integer (pos 0), refl, refl, refl)
 some k o h = absurd cc
 
-by_zero : (b : Bool) (r : Result Value Failure) → b ≡ true → (if b then Err Division else r) ≡ Err Division
-by_zero true r e = refl
-by_zero false r e = absurd cc
-
-least : (d : ℤ) → can_divide Overflow d ≡ true → arithmetic Divide (negsuc 9223372036854775807) d ≡ Err Overflow
-least (pos n) h = absurd cc
-least (negsuc zero) h = refl
-least (negsuc (suc n)) h = by (int_lt (negsuc (suc n)) (negsuc 0)) refl h
-  where
-    by : (c : Bool) → int_lt (negsuc (suc n)) (negsuc 0) ≡ c → is_eq (cond c Before (cond (int_lt (negsuc 0) (negsuc (suc n))) Behind Same)) ≡ true
-        → arithmetic Divide (negsuc 9223372036854775807) (negsuc (suc n)) ≡ Err Overflow
-    by true e g = absurd cc
-    by false e g = absurd (omega (arith, ints))
+failed : (k : Failure) (r : Result Value Failure) → is_failure k (result_err r) ≡ true → r ≡ Err k
+failed Overflow (Err Overflow) h = refl
+failed Division (Err Division) h = refl
+failed k r h = absurd cc
 
 pub divisor : (k : Failure) (o : Operator) (w : Value) → divides o ≡ true → operator_can k o None (Some w) ≡ true → (v : Value) × IsOf64Bits v × (apply o v w ≡ Err k)
-divisor Division Divide w d h = (Integer (pos 1), refl, by_zero (is_zero (number w)) _ h)
-divisor Division Remainder w d h = (Integer (pos 1), refl, by_zero (is_zero (number w)) _ h)
-divisor Overflow Divide w d h = (Integer (negsuc 9223372036854775807), refl, least (number w) h)
-divisor k o w d h = absurd cc
+divisor k o w d h = (least, refl, failed k (apply o least w) (ap (λ b. if b then is_failure k (result_err (apply o least w)) else can_fail k o) (sym d) ∙ h))

@@ -1,7 +1,8 @@
 -- A body without a place never ends with that fault.
-use Rattle.kahn_warnings.proofs.Common.{Action, Actual, AllByRecursion, AreNumbersOf64, AreOf64Bits, AreWrittenIn64, Assign, Binary, Block', Bool, Bracket', Channel, Conditional, Conditional', ConstantSite, Err, Expr, Fail, Failure, Fault, Faulted, FaultsLie, Form, Give, Given, HasEnd, Held-Action-If-2, Histories, If, If', Inputs, IsOf64Bits, IsOperand, IsWrittenIn64, Level', Line, List, Literal, Logical, Negate, Negate', Schema, Nobody, None, None', Not, Not', Ok, Operator, Option, Port, Print, Reached, Reads, Repeat, Repeat', Rest, Result, Row_of-Operand, Row_of-Statement, Scope, Script, ScriptOutcome, Send, Sends, Seq, Skip, Some, Some', Source, Span, Statement, Stmt, Store, Tapes, Turns, Value, Variable, Wait, Waits, While, While', Written, [], action_sites, actual_at, ap, apply, arith, body_of, chosen, combined, constant, constant_of, else_of, else_sites, end_of-Operand, end_of-Statement, ending, exec, exec_at, expr_of, false, fault_places, fed, flat_map, form_sites, goes_to, if◌then◌else◌, input_list, instance_at, inverted, iterate, level_of, level_sites, more_of-Operand, more_of-Statement, neg_ℤ, negated, not, number, opening, operator_can, out, place_where, play, put, ranged, read, refl, result_ok, row_of, row_sites, script_of, settle, sign_can, site_places, slice_set, source, stmt_of, subst, suc, sym, tape_of, tapes_of, true, truth, turns_of, value_of, values_at, wait_at, zero, ℕ, ◌++◌, ◌==◌, ◌∙◌, ◌∷◌, ◌≡◌}
+use Rattle.kahn_warnings.proofs.Common.{Action, Actual, AllByRecursion, AreNumbersOf64, AreOf64Bits, AreWrittenIn64, Assign, Binary, Block', Bool, Bracket', Channel, Conditional, Conditional', ConstantSite, Err, Expr, Fail, Failure, Fault, Faulted, FaultsLie, Form, Give, Given, HasEnd, Held-Action-If-2, Histories, If, If', Inputs, Integer, IsOf64Bits, IsOperand, IsWrittenIn64, Level', Line, List, Literal, Logical, Negate, Negate', Schema, Nobody, None, None', Not, Not', Ok, Operator, Option, Port, Print, Reached, Reads, Repeat, Repeat', Rest, Result, Row_of-Operand, Row_of-Statement, Scope, Script, ScriptOutcome, Send, Sends, Seq, Skip, Some, Some', Source, Span, Statement, Stmt, Store, Subtract, Tapes, Turns, Unequal, Value, Variable, Wait, Waits, While, While', Written, [], action_sites, actual_at, ap, apply, arith, body_of, chosen, combined, constant, constant_of, else_of, else_sites, end_of-Operand, end_of-Statement, ending, exec, exec_at, expr_of, false, fault_places, fed, flat_map, form_sites, from_0, goes_to, if◌then◌else◌, input_list, instance_at, iterate, level_of, level_sites, more_of-Operand, more_of-Statement, neg_ℤ, not, number, opening, operator_can, out, place_where, play, pos, put, ranged, read, refl, result_ok, row_of, row_sites, script_of, settle, site_places, slice_set, source, stmt_of, subst, suc, sym, tape_of, tapes_of, true, truth, turns_of, value_of, values_at, wait_at, truly, zero, ℕ, ◌++◌, ◌==◌, ◌∙◌, ◌∷◌, ◌≡◌}
 use Rattle.kahn_streams.specs.declared.tree.Action as action
 use Rattle.kahn_streams.specs.declared.value.Line.TheVariants as line
+use Rattle.kahn_warnings.proofs.Holding.{taken_from_0, told_from_true}
 use Rattle.kahn_warnings.proofs.Innocent as innocent
 
 -- ---- expressions and statements none of whose operators can have such a fault
@@ -35,20 +36,17 @@ short_of : (o : Option Value) (v : Value) → IsOperand o v → IsOf64Bits v
 short_of None v p = p
 short_of (Some u) v p = p.0
 
-negated_is : (o : Option Value) (v u : Value) → IsOperand o v → ranged (neg_ℤ (number v)) ≡ Ok u → IsOperand (negated o) u
-negated_is None v u p e = innocent.ranged_short (neg_ℤ (number v)) u e
-negated_is (Some w) v u p e =
-    subst (λ r. IsOperand (result_ok r) u) (sym e ∙ ap (λ x. ranged (neg_ℤ (number x))) p.1) (innocent.ranged_short (neg_ℤ (number v)) u e, refl)
-
-inverted_is : (o : Option Value) (v : Value) → IsOperand o v → IsOperand (inverted o) (Logical (not (truth v)))
-inverted_is None v p = refl
-inverted_is (Some w) v p = (refl, ap (λ x. Logical (not (truth x))) p.1)
-
 combined_is : (o : Operator) (l r : Option Value) (v w u : Value) → IsOperand l v → IsOperand r w → apply o v w ≡ Ok u → IsOperand (combined o l r) u
 combined_is o None r v w u p q e = innocent.apply_short o v w u e
 combined_is o (Some a) None v w u p q e = innocent.apply_short o v w u e
 combined_is o (Some a) (Some b) v w u p q e =
     subst (λ x. IsOperand (result_ok x) u) (sym e ∙ (λ i. apply o (p.1 i) (q.1 i))) (innocent.apply_short o v w u e, refl)
+
+negated_is : (o : Option Value) (v u : Value) → IsOperand o v → ranged (neg_ℤ (number v)) ≡ Ok u → IsOperand (combined Subtract from_0 o) u
+negated_is o v u p e = combined_is Subtract from_0 o (Integer (pos 0)) v u (refl, refl) p (sym (taken_from_0 v) ∙ e)
+
+inverted_is : (o : Option Value) (v : Value) → IsOperand o v → IsOperand (combined Unequal o truly) (Logical (not (truth v)))
+inverted_is o v p = combined_is Unequal o truly v (Logical true) _ p (refl, refl) (told_from_true v)
 
 read_short : (s : Store) (x : ℕ) → AreShort s → IsOf64Bits (read s x)
 read_short [] x h = refl
@@ -238,8 +236,8 @@ parted k (x ∷ xs) ys e =
 
 mutual
   same_constant : (names : Scope) (f : Form) → constant_of (expr_of names f) ≡ constant_of (expr_of [] f)
-  same_constant names (Negate' p at e) = ap negated (same_constant names e)
-  same_constant names (Not' p at e) = ap inverted (same_constant names e)
+  same_constant names (Negate' p at e) = ap (combined Subtract from_0) (same_constant names e)
+  same_constant names (Not' p at e) = ap (λ x. combined Unequal x truly) (same_constant names e)
   same_constant names (Bracket' p at e) = same_constant names e
   same_constant names (Level' p at e shape rest) = same_level names _ _ rest (same_constant names e)
   same_constant names (Conditional' p at t q at' a r at'' b) = λ i. chosen (same_constant names t i) (same_constant names a i) (same_constant names b i)
@@ -253,7 +251,7 @@ mutual
   none_form : (k : Failure) (names : Scope) (f : Form) → places k (form_sites f) ≡ [] → IsInnocent k (expr_of names f)
   none_form k names (Negate' p at e) h =
       let are = parted k (form_sites e) _ h in
-      (none_form k names e are.0, innocent.sign k (constant_of (expr_of names e)) (ap (sign_can k) (same_constant names e) ∙ (one_place (sign_can k (constant_of (expr_of [] e))) at [] are.1).0))
+      (none_form k names e are.0, innocent.sign k (constant_of (expr_of names e)) (ap (operator_can k Subtract from_0) (same_constant names e) ∙ (one_place (operator_can k Subtract from_0 (constant_of (expr_of [] e))) at [] are.1).0))
   none_form k names (Not' p at e) h = none_form k names e h
   none_form k names (Bracket' p at e) h = none_form k names e h
   none_form k names (Level' p at e shape rest) h =

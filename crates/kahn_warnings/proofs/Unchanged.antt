@@ -78,6 +78,22 @@ pub same_branch : {A : Type 0} (c : Bool) (x y x' y' : Script A) → x ≡ x' �
 same_branch true x y x' y' h g = h
 same_branch false x y x' y' h g = g
 
+-- a loop whose test comes to a true value wherever such values hold, which its body keeps, goes on alike whatever is behind it
+pub never_out : {A : Type 0} (P : Store → Type 0) (test : Store → (Value → Script A) → Script A) (body : Store → (Store → Script A) → Script A) (v : Value) → truth v ≡ true
+    → ((r : Store) (go : Value → Script A) → P r → test r go ≡ go v)
+    → ((r : Store) (f g : Store → Script A) → P r → ((q : Store) → P q → f q ≡ g q) → body r f ≡ body r g)
+    → (j : ℕ) (r : Store) (f g : Store → Script A) → P r → turns_of j test body r f ≡ turns_of j test body r g
+never_out P test body v is came kept zero r f g its = refl
+never_out {A = A} P test body v is came kept (suc j) r f g its =
+    ap Turns (entered f ∙ (kept r _ _ its (λ q ours. never_out P test body v is came kept j q f g ours) ∙ sym (entered g)))
+  where
+    taken : (c : Bool) (x y : Script A) → c ≡ true → (elim c [ true ↦ x | false ↦ y ]) ≡ x
+    taken true x y e = refl
+    taken false x y e = absurd cc
+
+    entered : (e : Store → Script A) → test r (λ w. elim (truth w) [ true ↦ body r (λ q. turns_of j test body q e) | false ↦ e r ]) ≡ body r (λ q. turns_of j test body q e)
+    entered e = came r _ its ∙ taken (truth v) _ _ is
+
 module _ (t : Expr) (s : Store) where
   abbrev Spares : Stmt → Type 0
   Spares a = (x : ℕ) → is_named x t ≡ true → is_assigned_in x a ≡ false
@@ -114,29 +130,13 @@ module _ (t : Expr) (s : Store) where
   kept k (Repeat a) r f g spared is h =
       turned k (λ q go. go (Logical true)) (λ q go. script_of k a q go) (λ q d e its m. kept k a q d e spared its m) r f g is h
 
-  -- where the test came true
-  endless : {A : Type 0} (a : Stmt) → waits_in t ≡ false → Spares a → (v : Value) → result_of t s ≡ Ok v → truth v ≡ true
-      → (j k : ℕ) (r : Store) (f g : Store → Script A) → Agree t s r →
-      turns_of j (λ q go. value_of t q go) (λ q go. script_of k a q go) r f ≡ turns_of j (λ q go. value_of t q go) (λ q go. script_of k a q go) r g
-  endless a quiet spared v came is zero k r f g its = refl
-  endless {A = A} a quiet spared v came is (suc j) k r f g its =
-      ap Turns (entered f ∙ (kept k a r _ _ spared its (λ q ours. endless a quiet spared v came is j k q f g ours) ∙ sym (entered g)))
-    where
-      taken : (c : Bool) (x y : Script A) → c ≡ true → (elim c [ true ↦ x | false ↦ y ]) ≡ x
-      taken true x y e = refl
-      taken false x y e = absurd cc
-
-      entered : (e : Store → Script A) → value_of t r (λ w. elim (truth w) [ true ↦ script_of k a r (λ q. turns_of j (λ q go. value_of t q go) (λ q go. script_of k a q go) q e) | false ↦ e r ]) ≡ script_of k a r (λ q. turns_of j (λ q go. value_of t q go) (λ q go. script_of k a q go) q e)
-      entered e =
-          let next : Value → Script A = λ w. elim (truth w) [ true ↦ script_of k a r (λ q. turns_of j (λ q go. value_of t q go) (λ q go. script_of k a q go) q e) | false ↦ e r ] in
-          comes_to t s r next quiet its ∙ (ap (λ x. settle x next) came ∙ taken (truth v) (script_of k a r (λ q. turns_of j (λ q go. value_of t q go) (λ q go. script_of k a q go) q e)) (e r) is)
-
 pub never_left : (t : Expr) (a b : Stmt) → IsUnchanged t a → (n : ℕ) (s : Store) (T : Tapes) (v : Value) → eval n t s T ≡ at_once (Got v) T → truth v ≡ true →
     exec n (Seq (While t a) b) s T ≡ exec n (While t a) s T
 never_left t a b is n s T v came true' =
+    let has = is_ok (result_of t s) n T v (ap (λ c. play n c T) (sym (comes_to t s s Give is.0 (λ x named. refl))) ∙ came) in
     ap (λ c. play n c T)
-    (endless t s a is.0 is.1 v (is_ok (result_of t s) n T v (ap (λ c. play n c T) (sym (comes_to t s s Give is.0 (λ x named. refl))) ∙ came)) true' n n s
-    (λ r. script_of n b r Give) Give (λ x named. refl))
+    (never_out (Agree t s) (λ q go. value_of t q go) (λ q go. script_of n a q go) v true' (λ r go its. comes_to t s r go is.0 its ∙ ap (λ x. settle x go) has)
+    (λ r f g its h. kept t s n a r f g is.1 its h) n s (λ r. script_of n b r Give) Give (λ x named. refl))
 
 one_name : (y x : ℕ) → nat_eq y x ≡ true → x ≡ y
 one_name y x h = grind (arith, h)

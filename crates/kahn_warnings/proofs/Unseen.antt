@@ -1,27 +1,11 @@
 -- What a statement does that never ends, and what one does that isn't seen.
-use Rattle.kahn_warnings.proofs.Common.{Assign, Binary, Bool, Conditional, Err, Expr, Fail, Failure, Give, If, Literal, Logical, LoopsHold, Negate, None, Not, Ok, Option, Repeat, Rest, Result, Script, Sends, Seq, Skip, Some, Stmt, Store, Tapes, Turns, Value, Variable, Wait, Waits, While, [], ap, apply, constant_of, false, fun_ext, is_seen, is_true, neg_ℤ, never_ends, not, number, play, ranged, refl, script_of, settle, slice_set, suc, sym, true, truth, turns_of, value_of, waits_in, zero, ℕ, ◌||◌, ◌∙◌, ◌≡◌, and_parts, or_cases, or_parts, ⊎_elim}
-use Rattle.kahn_warnings.proofs.{Holding.holds, Unchanged.kept_value, Unchanged.never_left, Unchanged.same_branch}
+use Rattle.kahn_warnings.proofs.Common.{Assign, Binary, Bool, Conditional, Err, Expr, Fail, Failure, Give, If, Literal, Logical, LoopsHold, Negate, None, Not, Ok, Option, Repeat, Rest, Result, Script, Sends, Seq, Skip, Some, Stmt, Store, Tapes, Turns, Value, Variable, Wait, Waits, While, [], ap, apply, constant_of, false, fun_ext, is_seen, is_true, neg_ℤ, never_ends, not, number, play, ranged, refl, script_of, settle, slice_set, suc, true, truth, turns_of, value_of, waits_in, zero, ℕ, ◌||◌, ◌≡◌, and_parts, or_cases, or_parts, ⊎_elim}
+use Rattle.kahn_warnings.proofs.{Holding.holds, Unchanged.kept_value, Unchanged.never_left, Unchanged.never_out, Unchanged.same_branch}
 
 -- ---- whatever comes behind one that never ends
 
-repeated : {A : Type 0} (j k : ℕ) (a : Stmt) (s : Store) (f g : Store → Script A) →
-    turns_of j (λ r go. go (Logical true)) (λ r go. script_of k a r go) s f ≡ turns_of j (λ r go. go (Logical true)) (λ r go. script_of k a r go) s g
-repeated zero k a s f g = refl
-repeated (suc j) k a s f g = ap (λ (x : Store → Script _). Turns (script_of k a s x)) (fun_ext (λ r. repeated j k a r f g))
-
-endless : {A : Type 0} (j k : ℕ) (t : Expr) (a : Stmt) (v : Value) (s : Store) (f g : Store → Script A) → constant_of t ≡ Some v → truth v ≡ true →
-    turns_of j (λ r go. value_of t r go) (λ r go. script_of k a r go) s f ≡ turns_of j (λ r go. value_of t r go) (λ r go. script_of k a r go) s g
-endless zero k t a v s f g h is = refl
-endless {A = A} (suc j) k t a v s f g h is =
-    ap Turns (turned f ∙ (ap (script_of k a s) (fun_ext (λ r. endless j k t a v r f g h is)) ∙ sym (turned g)))
-  where
-    entered : (c : Bool) (x y : Script A) → c ≡ true → (elim c [ true ↦ x | false ↦ y ]) ≡ x
-    entered true x y e = refl
-    entered false x y e = absurd cc
-
-    turned : (e : Store → Script A) → value_of t s (λ w. elim (truth w) [ true ↦ script_of k a s (λ r. turns_of j (λ r go. value_of t r go) (λ r go. script_of k a r go) r e) | false ↦ e s ])
-        ≡ script_of k a s (λ r. turns_of j (λ r go. value_of t r go) (λ r go. script_of k a r go) r e)
-    turned e = holds t v s _ h ∙ entered (truth v) _ _ is
+alike : {A : Type 0} (k : ℕ) (a : Stmt) (r : Store) (f g : Store → Script A) → Unit {0} → ((q : Store) → Unit {0} → f q ≡ g q) → script_of k a r f ≡ script_of k a r g
+alike k a r f g t h = ap (λ (x : Store → Script _). script_of k a r x) (fun_ext (λ q. h q tt))
 
 unmoved : {A : Type 0} (k : ℕ) (b : Stmt) (s : Store) (f g : Store → Script A) → never_ends b ≡ true → script_of k b s f ≡ script_of k b s g
 unmoved k (Seq a b) s f g h =
@@ -35,8 +19,8 @@ unmoved k (While t a) s f g h = by (constant_of t) refl h
   where
     by : (o : Option Value) → constant_of t ≡ o → is_true o ≡ true → script_of k (While t a) s f ≡ script_of k (While t a) s g
     by None is e = absurd cc
-    by (Some v) is e = endless k k t a v s f g is e
-unmoved k (Repeat a) s f g h = repeated k k a s f g
+    by (Some v) is e = never_out (λ r. Unit {0}) (λ r go. value_of t r go) (λ r go. script_of k a r go) v e (λ r go _. holds t v r go is) (alike k a) k s f g tt
+unmoved k (Repeat a) s f g h = never_out (λ r. Unit {0}) (λ r go. go (Logical true)) (λ r go. script_of k a r go) (Logical true) refl (λ r go _. refl) (alike k a) k s f g tt
 unmoved k b s f g h = absurd cc
 
 -- ---- scripts that take nothing and send nothing

@@ -1,10 +1,10 @@
 -- Believed. Where in the body of a process a fault of arithmetic can come from.
-use Rattle.std.specs.Prelude.{◌≡◌, ℕ, ℤ, negsuc, Bool, true, false, ◌&&◌, neg_ℤ, List, [], ◌∷◌, Option, Some, None, Err, if◌then◌else◌, flat_map}
+use Rattle.std.specs.Prelude.{◌≡◌, ℕ, negsuc, Bool, true, false, neg_ℤ, List, [], ◌∷◌, Option, Some, None, Err, if◌then◌else◌, flat_map}
 use Rattle.std.specs.{List.AllByRecursion, Result.result_err}
-use Rattle.std.proofs.Common.{int_eq}
-use Rattle.kahn_streams.specs.{declared.span.Span.Span, declared.tree.Operator.Operator, declared.tree.Statement.Statement, declared.value.Value.Value, declared.value.Failure.Failure, declared.tree.Operator.TheVariants.Add, declared.tree.Operator.TheVariants.Subtract, declared.tree.Operator.TheVariants.Multiply, declared.tree.Operator.TheVariants.Divide, declared.tree.Operator.TheVariants.Remainder, View.Scope, View.body_of, declared.value.Failure.TheVariants.Overflow, declared.value.Failure.TheVariants.Division, Arithmetic.apply, Arithmetic.fits_64, Arithmetic.is_zero, Arithmetic.number, Arithmetic.ranged, Network.Schema, Network.instance_at, Meaning.Store, Meaning.constant, Meaning.exec, Script.Fault, Script.Tapes, Solution.Faulted, Solution.HasEnd, Solution.Inputs, Solution.opening}
+use Rattle.kahn_streams.specs.{declared.span.Span.Span, declared.tree.Operator.Operator, declared.tree.Statement.Statement, declared.value.Value.Value, declared.value.Failure.Failure, declared.tree.Operator.TheVariants.Add, declared.tree.Operator.TheVariants.Subtract, declared.tree.Operator.TheVariants.Multiply, declared.tree.Operator.TheVariants.Divide, declared.tree.Operator.TheVariants.Remainder, View.Scope, View.body_of, declared.value.Failure.TheVariants.Overflow, declared.value.Failure.TheVariants.Division, Arithmetic.apply, Arithmetic.fits_64, Arithmetic.number, Arithmetic.ranged, Network.Schema, Network.instance_at, Meaning.Store, Meaning.constant, Meaning.exec, Script.Fault, Script.Tapes, Solution.Faulted, Solution.HasEnd, Solution.Inputs, Solution.opening}
 use Rattle.kahn_streams.specs.Syntax as S
-use Rattle.kahn_warnings.specs.{Constants.divides, Constants.negate_fault, Sites.body_sites, declared.sites.ConstantSite.ConstantSite, declared.sites.SiteKind.SiteKind, declared.sites.SiteKind.TheVariants.Sign, declared.sites.SiteKind.TheVariants.Binary}
+use Rattle.kahn_streams.specs.declared.value.Value.TheVariants as value
+use Rattle.kahn_warnings.specs.{Constants.divides, Constants.from_0, Sites.body_sites, declared.sites.ConstantSite.ConstantSite, declared.sites.SiteKind.SiteKind, declared.sites.SiteKind.TheVariants.Binary}
 
 -- ---- which operators can have a fault
 
@@ -18,31 +18,23 @@ can_fail Division Divide = true
 can_fail Division Remainder = true
 can_fail k o = false
 
--- by a divisor: 0, or -1, which the least number overflows by
-abbrev pub can_divide : Failure → ℤ → Bool
-can_divide Division d = is_zero d
-can_divide Overflow d = int_eq d (negsuc 0)
-
 abbrev pub is_failure : Failure → Option Failure → Bool
 is_failure k None = false
 is_failure Overflow (Some Overflow) = true
 is_failure Division (Some Division) = true
 is_failure k (Some j) = false
 
+-- the least number, on which a division fails if it does by that divisor on any
+abbrev pub least : Value
+least = value.Integer (negsuc 9223372036854775807)
+
 -- by the values of its operands, as far as the constants in them tell
 abbrev pub operator_can : Failure → Operator → Option Value → Option Value → Bool
 operator_can k o (Some v) (Some w) = is_failure k (result_err (apply o v w))
-operator_can k o None (Some w) = can_fail k o && (if divides o then can_divide k (number w) else true)
+operator_can k o None (Some w) = if divides o then is_failure k (result_err (apply o least w)) else can_fail k o
 operator_can k o v None = can_fail k o
 
--- so can a sign
-abbrev pub sign_can : Failure → Option Value → Bool
-sign_can Overflow None = true
-sign_can Division None = false
-sign_can k (Some v) = is_failure k (negate_fault (Some v))
-
 abbrev pub site_can : Failure → SiteKind → Bool
-site_can k (Sign v) = sign_can k v
 site_can k (Binary o v w) = operator_can k o v w
 site_can k s = false
 
@@ -107,7 +99,7 @@ IsOperand (Some u) v = IsOf64Bits v × (v ≡ u)
 pub record FaultsLie : Type 0 where
   pub operator : (k : Failure) (o : Operator) (l r : Option Value) → operator_can k o l r ≡ false →
       (v w : Value) → IsOperand l v → IsOperand r w → apply o v w ≡ Err k → ⊥
-  pub sign : (k : Failure) (o : Option Value) → sign_can k o ≡ false → (v : Value) → IsOperand o v → ranged (neg_ℤ (number v)) ≡ Err k → ⊥
+  pub sign : (k : Failure) (o : Option Value) → operator_can k Subtract from_0 o ≡ false → (v : Value) → IsOperand o v → ranged (neg_ℤ (number v)) ≡ Err k → ⊥
   pub some : (k : Failure) (o : Operator) → operator_can k o None None ≡ true →
       (v : Value) × (w : Value) × IsOf64Bits v × IsOf64Bits w × (apply o v w ≡ Err k)
   pub divisor : (k : Failure) (o : Operator) (w : Value) → divides o ≡ true → operator_can k o None (Some w) ≡ true →

@@ -1,9 +1,9 @@
 -- Believed. The operators and the tests in the body of a process, with what the constants tell of their operands.
 use Rattle.std.specs.Prelude.{List, [], ◌∷◌, ◌++◌, Option, flat_map}
-use Rattle.kahn_streams.specs.{declared.span.Span.Span, declared.tree.Statement.Statement, declared.value.Value.Value, View.expr_of, View.expression_of}
+use Rattle.kahn_streams.specs.{declared.span.Span.Span, declared.tree.Operator.TheVariants.Subtract, declared.tree.Statement.Statement, declared.value.Value.Value, View.expr_of, View.expression_of}
 use Rattle.kahn_streams.specs.declared.tree.Form.{Form, Negate', Not', Bracket', Level', Conditional', Row_of-Operand, end_of-Operand, more_of-Operand}
 use Rattle.kahn_streams.specs.declared.tree.Action.{Action, Empty, Assign, Send, Print, Block', If', While', Repeat', Row_of-Statement, end_of-Statement, more_of-Statement, Held-Action-If-2, None', Some'}
-use Rattle.kahn_warnings.specs.{Constants.combined, Constants.constant_of, Uses.assigned_by, Uses.is_empty, Uses.varies_by, declared.sites.ConstantSite.ConstantSite, declared.sites.SiteKind.SiteKind, declared.sites.SiteKind.TheVariants.Sign, declared.sites.SiteKind.TheVariants.Binary, declared.sites.SiteKind.TheVariants.Test, declared.sites.SiteKind.TheVariants.Turn}
+use Rattle.kahn_warnings.specs.{Constants.combined, Constants.constant_of, Constants.from_0, Uses.assigned_by, Uses.is_empty, Uses.varies_by, declared.sites.ConstantSite.ConstantSite, declared.sites.SiteKind.SiteKind, declared.sites.SiteKind.TheVariants.Binary, declared.sites.SiteKind.TheVariants.Test, declared.sites.SiteKind.TheVariants.Turn}
 
 abbrev pub site_at : SiteKind → Span → ConstantSite
 site_at k at = record { kind = k; span = at }
@@ -11,7 +11,7 @@ site_at k at = record { kind = k; span = at }
 -- in an expression: of an operator its right operand is told, of a sign its only one
 abbrev mutual
   pub form_sites : Form → List ConstantSite
-  form_sites (Negate' p at e) = form_sites e ++ site_at (Sign (constant_of (expr_of [] e))) at ∷ []
+  form_sites (Negate' p at e) = form_sites e ++ site_at (Binary Subtract from_0 (constant_of (expr_of [] e))) at ∷ []
   form_sites (Not' p at e) = form_sites e
   form_sites (Bracket' p at e) = form_sites e
   form_sites (Level' p at e shape rest) = form_sites e ++ level_sites (constant_of (expr_of [] e)) rest

@@ -1,7 +1,7 @@
 -- Believed. Which names the body of a process uses, and which it assigns.
 use Rattle.std.specs.Prelude.{ℕ, Bool, true, false, ◌||◌, ◌&&◌, List, [], ◌∷◌, nat_eq}
 use Rattle.kahn_streams.specs.{declared.tree.Process.Process, declared.tree.Action.Action, declared.tree.Action.Empty, View.body_of, View.bytes_of, View.stmt_of}
-use Rattle.kahn_streams.specs.declared.tree.Form.{Form, Number, Logical, Negate', Not', Bracket', Level', Conditional', Row_of-Operand, end_of-Operand, more_of-Operand}
+use Rattle.kahn_streams.specs.declared.tree.Form.{Form, Negate', Not', Bracket', Level', Conditional', Row_of-Operand, end_of-Operand, more_of-Operand}
 use Rattle.kahn_streams.specs.declared.tree.Form as form
 use Rattle.kahn_streams.specs.Syntax.{Expr, Literal, Variable, Wait, Negate, Not, Binary, Conditional, Stmt, Skip, Assign, Send, Print, Seq, If, While, Repeat}
 

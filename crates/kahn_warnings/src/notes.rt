@@ -37,15 +37,6 @@ fn warning_words(kind: WarningKind) -> &'static str {
     }
 }
 
-/// The end of a comment.
-fn end_of(alloc: Global, warning: Warning) -> Result<Other, AllocError> {
-    let to = warning.span.to;
-    let from = to.saturating_sub(1);
-    let words = String::from_str(alloc, "comment ends here")?;
-    let span = Span { from, to };
-    Ok(Other { span, words })
-}
-
 /// The note on a warning.
 fn note_of(alloc: Global, warning: Warning) -> Result<Note, AllocError>
     ensures { IfOk result (λ note. note_place note ≡ warning_place warning) }
@@ -53,7 +44,15 @@ fn note_of(alloc: Global, warning: Warning) -> Result<Note, AllocError>
     let words = warning_words(warning.kind);
     let mut note = simple(alloc, Sort::Warning, warning.span, words)?;
     if let WarningKind::LongComment = warning.kind {
-        note.others.push(end_of(alloc, warning)?)?;
+        let (to, words) = (
+            warning.span.to,
+            String::from_str(alloc, "comment ends here")?,
+        );
+        let span = Span {
+            from: to.saturating_sub(1),
+            to,
+        };
+        note.others.push(Other { span, words })?;
     }
     Ok(note)
 }

@@ -1,21 +1,103 @@
 //! All that is warned of in a program.
 
 ghost use Rattle.std.specs.Prelude.{◌≡◌, ◌++◌, ◌&&◌, ◌||◌, IfOk, None, if◌then◌else◌};
-ghost use Rattle.std.specs.Option.{option_or};
+ghost use Rattle.std.specs.{List.list_any, Option.option_or};
 ghost use Rattle.kahn_streams.specs.View.{Scope, statement_of};
-ghost use Rattle.kahn_warnings.specs.{Loops.is_seen, Loops.never_ends, Warnings.AreWarnings, Warnings.bare_kind, Warnings.body_warnings, Warnings.declaration_warnings, Warnings.loop_kind, Warnings.statement_warnings};
+ghost use Rattle.kahn_warnings.specs.{Comments.AreCommentWarnings, Loops.LoopsHold, Loops.is_seen, Loops.never_ends, Uses.assigns, Uses.uses_name, Warnings.AreWarnings, Warnings.bare_kind, Warnings.body_warnings, Warnings.declaration_warnings, Warnings.is_of, Warnings.loop_kind, Warnings.name_kind, Warnings.name_warnings, Warnings.names_warnings, Warnings.process_kind, Warnings.statement_warnings, inner.Collecting.Are};
 
-use crate::comments::comment_warnings;
-use crate::constants::is_true;
+use crate::collected::{NameSet, has, is_empty, names_in, waits_in};
+use crate::constants::{add_constants, is_true};
 use crate::layout::misplaced;
-use crate::names::{add_names, process_kind};
 use crate::sites::constant_of;
-use crate::surely::add_constants;
-use crate::uses::{is_empty, waits_in};
 use crate::warning::WarningKind::{BareThen, Beside, Idle};
 use crate::warning::{Warning, WarningKind, add_warning};
-use kahn_streams::{Action, Declaration, Instance, NoMemory, Program, Span, Statement};
+use kahn_streams::{
+    Action, Declaration, Instance, Kind, Name, NoMemory, Process, Program, Span, Statement,
+};
+use kahn_wanted::{comments_of, swallows};
 use std::alloc::{AllocError, Global};
+
+/// The warnings of the comments of a text that has lexemes, in order. It refuses only where memory was refused.
+fn comment_warnings(alloc: Global, text: &str) -> Result<Vec<Warning>, NoMemory>
+    ensures { IfOk result (λ ws. AreCommentWarnings text.now ws.items) }
+{
+    let comments = comments_of(alloc, text)?;
+    let mut warnings = Vec::new(alloc);
+    for comment in &comments {
+        if swallows(text.as_bytes(), comment.from, comment.to, false) {
+            let (kind, span) = (WarningKind::LongComment, *comment);
+            warnings.push(Warning { kind, span })?;
+        }
+    }
+    Ok(warnings)
+}
+
+/// Whether one of the instances is of a process.
+fn has_instance(instances: &[Instance], process: &Process) -> bool
+    ensures { result ≡ list_any (is_of process.now) instances.now }
+{
+    instances.iter().any(|instance| instance.process.text.as_bytes()
+        == process.name.text.as_bytes())
+}
+
+/// What is warned of a process: that no instance names it.
+fn process_kind(instances: &[Instance], process: &Process) -> Option<WarningKind>
+    ensures { result ≡ process_kind instances.now process.now }
+{
+    if has_instance(instances, process) {
+        return None;
+    }
+    Some(WarningKind::NoInstance)
+}
+
+/// What is warned of a name that is used or isn't, and is assigned or isn't: of a variable of this kind, or of a parameter.
+fn name_kind(is_used: bool, is_assigned: bool, variable: Option<Kind>) -> Option<WarningKind>
+    ensures { result ≡ name_kind is_used is_assigned variable }
+{
+    match (is_used, is_assigned, variable) {
+        (false, false, _) => Some(WarningKind::Unused),
+        (false, true, _) => Some(WarningKind::Unread),
+        (true, false, Some(Kind::Integer)) => Some(WarningKind::StaysZero),
+        (true, false, Some(Kind::Logical)) => Some(WarningKind::StaysFalse),
+        (true, false, None) => None,
+        (true, true, _) => None,
+    }
+}
+
+/// Adds the warning of a name of a process.
+fn add_name(
+    warnings: &mut Vec<Warning>,
+    names: &(NameSet, NameSet),
+    _process: &Process,
+    variable: Option<Kind>,
+    name: &Name,
+) -> Result<(), AllocError>
+    requires used { Are (uses_name _process.now) names.now.0 }
+    requires assigned { Are (assigns _process.now) names.now.1 }
+    ensures { IfOk result (λ _. warnings.new.items ≡ warnings.old.items ++ name_warnings (uses_name _process.now) (assigns _process.now) variable name.now) }
+{
+    let kind = name_kind(has(&names.0, name), has(&names.1, name), variable);
+    add_warning(warnings, kind, Some(name.span))
+}
+
+/// Adds those of the parameters of a process, and then those of its variables.
+fn add_names(
+    warnings: &mut Vec<Warning>,
+    alloc: Global,
+    process: &Process,
+) -> Result<(), AllocError>
+    ensures { IfOk result (λ _. warnings.new.items ≡ warnings.old.items ++ names_warnings process.now) }
+{
+    let names = names_in(alloc, process)?;
+    for parameter in &process.parameters {
+        add_name(warnings, &names, process, None, &parameter.name)?;
+    }
+    for variable in &process.variables {
+        let kind = Some(variable.kind);
+        add_name(warnings, &names, process, kind, &variable.name)?;
+    }
+    Ok(())
+}
 
 /// What is warned of a loop, which may have no end, and may wait, send or print.
 fn loop_kind(is_endless: bool, is_seen: bool) -> Option<WarningKind>
@@ -159,3 +241,10 @@ pub fn warnings(alloc: Global, program: &Program, text: &str) -> Result<Vec<Warn
     }
     Ok(warnings)
 }
+
+/// The law of loops: what stands behind a statement that never ends is never done, a loop that doesn't wait, send or print takes
+/// nothing and sends nothing, and a name that is never assigned keeps its value. Its contract is what it does.
+#[tactic(auto, using(crate::proofs::Unseen::loops_hold))]
+pub fn loops_hold()
+    ensures { LoopsHold }
+{}

@@ -62,8 +62,7 @@ pub(crate) fn add_warning(
     ensures { IfOk result (λ _. warnings.new.items ≡ warnings.old.items ++ warned kind place) }
 {
     match (kind, place) {
-        (None, _) => Ok(()),
-        (Some(_), None) => Ok(()),
+        (None, _) | (Some(_), None) => Ok(()),
         (Some(kind), Some(span)) => Ok(warnings.push(Warning { kind, span })?),
     }
 }

@@ -1,5 +1,5 @@
 use Rattle.kahn_warnings.proofs.Common.{ap, append-nil, arith, common_steps, flat_map, parameter_warnings, sym, take, ◌++◌, ◌∙◌, ◌≡◌}
-use Rattle.kahn_warnings.proofs.names.add_names.Goals as goal
+use Rattle.kahn_warnings.proofs.program.add_names.Goals as goal
 
 pub loop-variable-init : goal.loop-variable-init
 loop-variable-init c =

@@ -1,6 +1,6 @@
 use Rattle.kahn_warnings.proofs.Common.{rules, the_lemmas}
 use Rattle.kahn_warnings.proofs.Lists.{row_varies}
-use Rattle.kahn_warnings.proofs.uses.+varies.Goals as goal
+use Rattle.kahn_warnings.proofs.collected.+varies.Goals as goal
 
 pub loop-operand-init : goal.loop-operand-init
 loop-operand-init t c = search (rules, the_lemmas, row_varies)

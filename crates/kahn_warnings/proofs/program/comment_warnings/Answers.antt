@@ -1,6 +1,6 @@
 use Rattle.kahn_warnings.proofs.Common.{All, All-push, Contains-get_or, EndsLine, IsCommentWarning, List, LongComment, Span, Warning, [], arith, get_or, length, refl, subst, sym, ℕ, ◌++◌, ◌<◌, ◌∷◌, ◌≡◌}
-use Rattle.kahn_warnings.proofs.comments.comment_warnings.Goals as goal
-use Rattle.kahn_warnings.proofs.comments.comment_warnings.Goals.{then-swallows+in_ok-push, else-swallows}
+use Rattle.kahn_warnings.proofs.program.comment_warnings.Goals as goal
+use Rattle.kahn_warnings.proofs.program.comment_warnings.Goals.{then-swallows+in_ok-push, else-swallows}
 
 one_more : (text : List ℕ) (cs : List Span) (i : ℕ) (d : Span) (old new : List Warning) → i < length cs → EndsLine text (get_or cs i d).from (get_or cs i d).to
     → new ≡ old ++ record { kind = LongComment; span = get_or cs i d } ∷ [] → All (IsCommentWarning text cs) old → All (IsCommentWarning text cs) new

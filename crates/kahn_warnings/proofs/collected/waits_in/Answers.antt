@@ -1,6 +1,6 @@
 use Rattle.kahn_warnings.proofs.Common.{ap, contains, varies_by, ◌∙◌}
 use Rattle.kahn_warnings.proofs.Lists.{form_waits}
-use Rattle.kahn_warnings.proofs.uses.waits_in.Goals as goal
+use Rattle.kahn_warnings.proofs.collected.waits_in.Goals as goal
 
 pub returns : goal.returns
 returns c names =

@@ -1,6 +1,6 @@
 use Rattle.kahn_streams.specs.View.{bytes_of}
 use Rattle.kahn_warnings.proofs.Common.{◌∙◌}
-use Rattle.kahn_warnings.proofs.names.add_name.Goals as goal
+use Rattle.kahn_warnings.proofs.program.add_name.Goals as goal
 
 pub returns : goal.returns
 returns c =
