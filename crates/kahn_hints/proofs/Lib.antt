@@ -1,4 +1,3 @@
 mod Nearest
-mod Sights
 mod Telling
 pub mod Common

@@ -1,5 +1,2 @@
 pub mod Hints
-pub mod Inputs
-pub mod Names
 pub mod Near
-pub mod Sight

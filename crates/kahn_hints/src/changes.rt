@@ -1,15 +1,15 @@
 //! Which change of one word was perhaps meant: each is tried, and the one that leaves the fewest faults is told.
 
 use crate::heads::{end_of, head_before};
-use crate::lost::{longer_of, spans_of};
-use crate::names::{NameKind, declared_kind, is_rarer, is_used, names_asked, names_seen};
+use crate::lost::{joined, longer_of, spans_of};
+use crate::mending::{found_kind, letters_at};
+use crate::names::{NameKind, counts_of, declared_kind, is_used, names_asked, names_seen};
 use crate::near::nearest;
 use crate::place::{NetworkPlace, called_first, is_in, side_of};
 use crate::trial::{Edit, EditKind, Trial, Tried, faults_behind, is_of_sides, statement_at};
-use kahn_marks::{add, is_within};
-use kahn_streams::{CheckFault, Declaration, Name, NoMemory, Process, Span};
-use kahn_syntax::{Class, Keyword, Sign};
-use std::alloc::AllocError;
+use kahn_marks::is_within;
+use kahn_streams::{CheckFault, Declaration, Kind, Name, NoMemory, Process, Span};
+use kahn_syntax::{Class, Keyword, Lexeme, Sign};
 
 /// What is written, and what is meant by it.
 type Rows = [(&'static str, &'static str); 4];
@@ -82,7 +82,7 @@ impl<'p> Trial<'p> {
     }
 
     /// The variable that was assigned last before the place what was taken from the channel there, unless that is all that is assigned; and the
-    /// next value of the channel; or, where it is assigned, the name that is waited on.
+    /// next value of the channel; or, where it is assigned, the name that is waited on, or the value sent on it.
     fn with_waited(&mut self) -> Tried {
         let place = self.place;
         let is_all = place.class(-1) == Some(Class::Sign(Sign::Becomes)) && place.is_last(1);
@@ -100,31 +100,18 @@ impl<'p> Trial<'p> {
         if let Some(name) = taken {
             self.put_one(EditKind::Near, place.at, place.part(name))?;
         }
-        self.with_send()?;
+        if let Some((statement, _)) = statement_at(place.lexemes, place.at.from) {
+            let (from, to) = (place.at.from, statement.to);
+            let whole = place.part(Span { from, to }).trim();
+            if let Some((name, value)) = whole.split_once(":=") {
+                let to = from.saturating_add(whole.len());
+                let pieces = ["send ", value.trim(), " on ", name.trim()];
+                let last = Span { from: to, to };
+                self.put(EditKind::Literal, (place.at, last), &pieces)?;
+            }
+        }
         let pieces = ["wait(", place.part(place.at), ")"];
         self.put(EditKind::Waited, (place.at, place.at), &pieces)
-    }
-
-    /// Where the name at the place is assigned: the value sent on it.
-    fn with_send(&mut self) -> Tried {
-        let (place, from) = (self.place, self.place.at.from);
-        let Some((statement, _)) = statement_at(place.lexemes, from) else {
-            return Ok(());
-        };
-        let to = statement.to;
-        let whole = place.part(Span { from, to }).trim();
-        let to = from.saturating_add(whole.len());
-        match whole.split_once(":=") {
-            Some((name, value)) => {
-                let pieces = ["send ", value.trim(), " on ", name.trim()];
-                self.put(
-                    EditKind::Literal,
-                    (place.at, Span { from: to, to }),
-                    &pieces,
-                )
-            }
-            None => Ok(()),
-        }
     }
 
     /// Those for a name that is declared twice: in the place of either one that isn't declared, or either left out.
@@ -166,13 +153,17 @@ impl<'p> Trial<'p> {
             }
             _ => {}
         }
-        let mut first = None;
-        for (on, target) in all.iter().zip(all.iter().skip(1)) {
-            if on.what == Class::Word(Keyword::On) && on.span.from >= place.at.from {
-                match first {
-                    Some(first) => self.with_swap(EditKind::Swap, first, target.span)?,
-                    None => first = Some(target.span),
+        for mark in [Keyword::Wait, Keyword::On] {
+            let (mut first, mut is_marked) = (None, false);
+            let is_open = |lexeme: &Lexeme| lexeme.what == Class::Sign(Sign::Open);
+            for lexeme in all {
+                if is_marked && !is_open(lexeme) && lexeme.span.from >= place.at.from {
+                    match first {
+                        Some(first) => self.with_swap(EditKind::Swap, first, lexeme.span)?,
+                        None => first = Some(lexeme.span),
+                    }
                 }
+                is_marked = lexeme.what == Class::Word(mark) || is_marked && is_open(lexeme);
             }
         }
         Ok(())
@@ -181,27 +172,40 @@ impl<'p> Trial<'p> {
     /// The declaration left out of a channel that nothing uses; an instance of a process that has none and could have the side; or else one
     /// instance more of any process, or a role in the declaration of the channel at the place.
     fn with_role(&mut self, role: &str) -> Tried {
-        let place = self.place;
-        let word = place.word();
-        if [NameKind::Source, NameKind::Target]
-            .iter()
-            .all(|side| place.passed(*side, word).is_none())
-        {
+        let (place, side) = (self.place, side_of(self.fault));
+        let source = place.passed(NameKind::Source, place.word());
+        let target = place.passed(NameKind::Target, place.word());
+        if source.or(target).is_none() {
             self.without_name(place.at)?;
         }
-        if let Some(process) = place.idle(side_of(self.fault)) {
-            return self.with_instance(process);
+        for fault in self.faults {
+            let is_slip = matches!(*fault, CheckFault::NoWriter(_)) && side == NameKind::Source;
+            match place.passed(side, letters_at(place.text, *fault)) {
+                Some(at) if is_slip => self.put_one(EditKind::Near, at, place.part(place.at))?,
+                _ => {}
+            }
+        }
+        if let Some(process) = place.taker(side, true) {
+            return self.with_instance(process, EditKind::Unused);
+        }
+        if let Some(process) = place.taker(side, false) {
+            self.with_instance(process, EditKind::Flip)?;
         }
         for declaration in &place.program.declarations {
             if let Declaration::Process(process) = declaration {
-                self.with_instance(process)?;
+                self.with_instance(process, EditKind::Unused)?;
             }
         }
-        if let Some(kind) = head_before(place).first() {
-            self.with_word(place.at, end_of(kind.span), role, true)?;
-            self.with_word(place.at, end_of(kind.span), role, false)?;
+        match head_before(place).first() {
+            Some(kind) => {
+                self.with_word(place.at, end_of(kind.span), role, true)?;
+                match side {
+                    NameKind::Target => self.with_word(place.at, end_of(kind.span), role, false),
+                    _ => Ok(()),
+                }
+            }
+            None => Ok(()),
         }
-        Ok(())
     }
 
     /// Those for a name that isn't declared: a near one, or the parameter for which an instance hands over its channel; or one that nothing
@@ -228,8 +232,8 @@ impl<'p> Trial<'p> {
         for name in &names {
             let is_meant = near.is_none() || nearest(place.word(), &[*name]).is_some();
             if is_meant && !is_used(place, name) {
-                let is_rare = near.is_some() && is_rarer(place, name);
-                self.doubt = if is_rare { 0 } else { 1 };
+                let counts = near.map_or((0, 0), |_| counts_of(place, name));
+                self.doubt = if counts.1 < counts.0 { 0 } else { 1 };
                 self.put_one(EditKind::Renamed, name.span, place.part(place.at))?;
             }
         }
@@ -243,17 +247,36 @@ impl<'p> Trial<'p> {
         }
     }
 
-    /// A declaration of the name at the place: of a channel; or of a variable that is assigned, with all others like it.
+    /// A declaration of the name at the place: of a channel; or of a variable that is assigned, with all others like it. None where a comment
+    /// holds one.
     fn with_declared(&mut self) -> Tried {
         let place = self.place;
-        let mut all = place.seen().iter();
+        let (word, asked, seen) = (place.part(place.at), place.asked(), place.seen());
+        let mut all = seen.iter();
         let begin = all.find(|lexeme| lexeme.what == Class::Word(Keyword::Begin));
-        let (Some(begin), Some(names)) = (begin, undeclared(place)?) else {
-            return Ok(());
-        };
-        for kind in ["integer ", "logical "] {
-            let pieces = [kind, role_for(place), names.as_str(), ";"];
-            self.put(EditKind::Declared, (begin.span, begin.span), &pieces)?;
+        let declared = names_seen(place.alloc, place.program, place.process, None)?;
+        let mut words: Vec<&str> = Vec::new(place.alloc);
+        if asked == NameKind::Channel {
+            words.push(word)?;
+        }
+        for (lexeme, behind) in seen.iter().zip(seen.iter().skip(1)) {
+            if asked == NameKind::Value && behind.what == Class::Sign(Sign::Becomes) {
+                let name = place.part(lexeme.span);
+                let is_declared = called_first(name.as_bytes(), &declared).is_some();
+                if !is_declared && !words.contains(&name) {
+                    words.push(name)?;
+                }
+            }
+        }
+        let names = joined(place.alloc, &words)?;
+        match begin {
+            Some(begin) if words.contains(&word) && !is_held(place) => {
+                for kind in ["integer ", "logical "] {
+                    let pieces = [kind, role_for(place), names.as_str(), ";"];
+                    self.put(EditKind::Declared, (begin.span, begin.span), &pieces)?;
+                }
+            }
+            _ => {}
         }
         Ok(())
     }
@@ -273,8 +296,13 @@ impl<'p> Trial<'p> {
         }
         let near = nearest(word, &names);
         let own = called_first(word, &all).map_or(0, |own| own.span.from);
+        let counts = match (near, self.fault) {
+            (Some(near), CheckFault::Unknown(_)) => counts_of(place, near),
+            _ => (0, 0),
+        };
         for name in &names {
             let way = match near {
+                Some(near) if near.span == name.span && counts == (1, 1) => EditKind::Tied,
                 Some(near) if near.span == name.span => EditKind::Near,
                 _
                     if side == NameKind::Channel
@@ -282,8 +310,8 @@ impl<'p> Trial<'p> {
                 _ => EditKind::Unused,
             };
             if self.tries > 0 && (are_used || !matches!(way, EditKind::Used)) {
-                self.doubt = match (way, self.fault) {
-                    (EditKind::Near, CheckFault::Unknown(_)) if is_rarer(place, name) => 2,
+                self.doubt = match way {
+                    EditKind::Near if counts.1 < counts.0 => 2,
                     _ => self.place.doubt_of(at, side, name, own < name.span.from),
                 };
                 self.put_one(way, at, name.text.as_str())?;
@@ -303,7 +331,15 @@ impl<'p> Trial<'p> {
         self.with_arranged(process, handed)?;
         self.with_heads(self.fault)?;
         self.with_directions(process.name.text.as_bytes())?;
-        if is_of_names(place, self.fault) {
+        let is_asked = match self.fault {
+            CheckFault::WrongKind(_) if place.process.is_some() => found_kind(place)?
+                == Some(Kind::Logical),
+            CheckFault::ValueExpected(_) => place.process.is_some(),
+            CheckFault::WrongDirection(_) => false,
+            _ => true,
+        };
+        let is_whole = place.span(0).is_some_and(|span| span.to == place.at.to);
+        if is_asked && is_whole && place.class(0) == Some(Class::Name) {
             self.with_names(place.at, true)?;
         }
         match place.passed_before(side_of(self.fault)) {
@@ -325,17 +361,6 @@ fn role_for(place: NetworkPlace) -> &'static str {
     }
 }
 
-/// Whether any other name may be meant.
-fn is_of_names(place: NetworkPlace, fault: CheckFault) -> bool {
-    let is_asked = match fault {
-        CheckFault::WrongKind(_) => place.process.is_none(),
-        CheckFault::ValueExpected(_) => place.process.is_some(),
-        CheckFault::WrongDirection(_) => false,
-        _ => true,
-    };
-    is_asked && place.class(0) == Some(Class::Name)
-}
-
 /// Whether a comment has the name at a place, and a kind.
 fn is_held(place: NetworkPlace) -> bool {
     let word = place.part(place.at);
@@ -350,39 +375,6 @@ fn is_held(place: NetworkPlace) -> bool {
         from = lexeme.span.to;
     }
     false
-}
-
-/// The name of a channel at a place of the program; in a process the names that it assigns and doesn't declare, if the one at the place is
-/// one of them. None where a comment holds a declaration.
-fn undeclared(place: NetworkPlace) -> Result<Option<String>, AllocError> {
-    let word = place.part(place.at);
-    let is_variable = place.asked() == NameKind::Value;
-    if is_held(place) || !is_variable && place.asked() != NameKind::Channel {
-        return Ok(None);
-    }
-    if !is_variable {
-        return Ok(Some(String::from_str(place.alloc, word)?));
-    }
-    let declared = names_seen(place.alloc, place.program, place.process, None)?;
-    let seen = place.seen();
-    let mut words: Vec<&str> = Vec::new(place.alloc);
-    let mut names = String::new(place.alloc);
-    for (lexeme, behind) in seen.iter().zip(seen.iter().skip(1)) {
-        if behind.what == Class::Sign(Sign::Becomes) {
-            let name = place.part(lexeme.span);
-            let is_declared = called_first(name.as_bytes(), &declared).is_some();
-            if !is_declared && !words.contains(&name) {
-                let between = if words.is_empty() { "" } else { ", " };
-                add(&mut names, &[between, name])?;
-                words.push(name)?;
-            }
-        }
-    }
-    Ok(if words.contains(&word) {
-        Some(names)
-    } else {
-        None
-    })
 }
 
 /// The change that leaves the fewest faults of all, and fewer than there are, of those that may be tried yet.
@@ -409,7 +401,10 @@ pub(crate) fn change_for<'p>(
     *tries = trial.tries;
     match trial.best.take() {
         Some(change) if change.is_one_of => Ok(None),
-        Some(change) if is_of_sides(fault) && change.left > 0 => Ok(None),
+        Some(change)
+            if is_of_sides(fault)
+                && !change.left.is_empty()
+                && !matches!(change.way, EditKind::Near) => Ok(None),
         found => Ok(found),
     }
 }

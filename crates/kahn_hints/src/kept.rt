@@ -44,7 +44,7 @@ fn follows(
 fn idle_for(place: NetworkPlace, fault: CheckFault) -> usize {
     match (fault, check_span(fault)) {
         (CheckFault::NoWriter(_) | CheckFault::NoReader(_), Some(span)) => {
-            let idle = place.moved_to(span).idle(side_of(fault));
+            let idle = place.moved_to(span).taker(side_of(fault), true);
             idle.map_or(0, |process| process.name.span.from)
         }
         _ => 0,

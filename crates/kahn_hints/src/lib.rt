@@ -4,7 +4,6 @@
 
 mod changes;
 mod heads;
-mod inputs;
 mod kept;
 mod lost;
 mod mending;
@@ -19,5 +18,5 @@ mod trial;
 pub use near::one_nearest;
 
 // For the crates above.
-pub use inputs::{add_inputs, add_unknown_channel, add_unknown_input};
 pub use notes::{FaultNotes, fault_notes};
+pub use sight::{add_unknown_channel, add_unknown_input};

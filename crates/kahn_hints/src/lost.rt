@@ -3,6 +3,7 @@
 use crate::names::{NameKind, taken_by};
 use crate::place::{Handed, NetworkPlace, channel_called, instance_of, is_called};
 use crate::trial::{EditKind, Trial, Tried};
+use kahn_fault::check_span;
 use kahn_marks::add;
 use kahn_streams::{Argument, Declaration, Instance, Kind, Name, Parameter, Process, Role, Span};
 use kahn_syntax::{Class, Sign};
@@ -44,33 +45,27 @@ fn spares_at<'p>(place: NetworkPlace<'p>) -> Result<Vec<Spare<'p>>, AllocError> 
     Ok(spares)
 }
 
-/// Whether an argument is what a parameter takes.
-fn fits(spares: &[Spare], parameter: &Parameter, one: &Handed) -> bool {
+/// Whether an argument is what a parameter takes; or, if that may be, a name that isn't declared, where it takes a channel.
+fn fits(
+    place: NetworkPlace,
+    spares: &[Spare],
+    parameter: &Parameter,
+    one: &Handed,
+    may_be_new: bool,
+) -> bool {
     let taken = taken_by(parameter);
     match one.argument {
         Argument::Number(_, _) => taken == (NameKind::Value, Kind::Integer),
         Argument::Logical(_, _) => taken == (NameKind::Value, Kind::Logical),
-        Argument::Channel(name) => spares.iter().any(|spare| spare.taken == taken
-            && is_called(name.text.as_bytes(), spare.name)),
-    }
-}
-
-/// Whether an argument is a name that isn't declared, where a parameter takes a channel.
-fn may_fit(place: NetworkPlace, parameter: &Parameter, one: &Handed) -> bool {
-    match one.argument {
         Argument::Channel(name) => {
-            let is_unknown = channel_called(place.program, name.text.as_bytes()).is_none();
-            is_unknown && taken_by(parameter).0 != NameKind::Value
+            let word = name.text.as_bytes();
+            let mut all = spares.iter();
+            all.any(|spare| spare.taken == taken && is_called(word, spare.name))
+                || may_be_new
+                    && taken.0 != NameKind::Value
+                    && channel_called(place.program, word).is_none()
         }
-        _ => false,
     }
-}
-
-/// Whether a channel is handed over already for a parameter that takes the same.
-fn is_given(parameters: &[Parameter], words: &[&str], parameter: &Parameter, word: &str) -> bool {
-    let taken = taken_by(parameter);
-    let mut all = parameters.iter().zip(words);
-    taken.0 != NameKind::Value && all.any(|(one, given)| taken_by(one) == taken && *given == word)
 }
 
 /// What may be handed over for the parameters of a process in the place of some arguments, as far as there is something for each: the first of
@@ -93,8 +88,7 @@ pub(crate) fn arranged<'p>(
         for (seat, one) in handed.iter().enumerate() {
             let last = next.saturating_add(count.saturating_sub(most));
             let is_next = !are_spare || next <= seat && seat <= last;
-            let is_fit = fits(&spares, parameter, one)
-                || count != most && may_fit(place, parameter, one);
+            let is_fit = fits(place, &spares, parameter, one, count != most);
             let text = place.part(one.span);
             let is_new = !used.contains(&seat);
             if word.is_none() && is_next && is_fit && is_new {
@@ -108,7 +102,7 @@ pub(crate) fn arranged<'p>(
         }
         for spare in &spares {
             let text = spare.name.text.as_str();
-            let is_new = word.is_none() && !is_given(parameters, &words, parameter, text);
+            let is_new = word.is_none() && !words.contains(&text);
             let mut all = handed.iter();
             let is_other = count >= most || !all.any(|one| one.is_channel(text.as_bytes()));
             if are_spare && is_new && is_other && spare.taken == taken_by(parameter) {
@@ -135,38 +129,13 @@ pub(crate) fn longer_of<'p>(place: NetworkPlace<'p>) -> Option<(&'p Process, &'p
 
 /// Whether a parameter takes the same as the one before it, or behind it.
 fn is_in_row(parameters: &[Parameter], number: usize) -> bool {
-    let first = number.saturating_sub(1);
-    let taken = parameters.get(number).map(taken_by);
-    let mut near = parameters
-        .iter()
-        .skip(first)
-        .take(number.saturating_add(2).saturating_sub(first));
-    let alike = near.filter(|one| Some(taken_by(one)) == taken);
-    alike.count() > 1
-}
-
-/// How many of the first arguments, or of the last, are as these words.
-fn same_ones(place: NetworkPlace, handed: &[Handed], words: &[&str], are_last: bool) -> usize {
-    let least = handed.len().min(words.len());
-    for number in 0..least {
-        let back = number.saturating_add(1);
-        let (seat, other) = match are_last {
-            true => (
-                handed.len().saturating_sub(back),
-                words.len().saturating_sub(back),
-            ),
-            false => (number, number),
-        };
-        match (handed.get(seat), words.get(other)) {
-            (Some(one), Some(word)) if place.part(one.span) == *word => {}
-            _ => return number,
-        }
-    }
-    least
+    let taken = |number: usize| parameters.get(number).map(taken_by);
+    let own = taken(number);
+    own == taken(number.saturating_add(1)) || number > 0 && own == taken(number.saturating_sub(1))
 }
 
 /// The parts of a list, with commas between.
-fn joined(alloc: Global, words: &[&str]) -> Result<String, AllocError> {
+pub(crate) fn joined(alloc: Global, words: &[&str]) -> Result<String, AllocError> {
     let mut list = String::new(alloc);
     for (number, word) in words.iter().enumerate() {
         add(&mut list, &[if number == 0 { "" } else { ", " }, word])?;
@@ -176,11 +145,18 @@ fn joined(alloc: Global, words: &[&str]) -> Result<String, AllocError> {
 
 impl<'p> Trial<'p> {
     /// Other arguments in the place of those that an instance hands over: the part of them that differs, with one beside it where one is lost.
-    /// None where that may be one of several, or is a single other name.
+    /// None where that may be one of several, or is a single other name; nor more spare channels than are lost, where others are at fault.
     pub(crate) fn with_arranged(&mut self, process: &Process, handed: &[Handed]) -> Tried {
+        let place = self.place;
+        let (count, most) = (handed.len(), process.parameters.len());
+        let is_all = self.faults.iter().all(|fault| {
+            check_span(*fault).is_some_and(|span| place.begin_of(span.from) == place.begin())
+        });
         for are_spare in [false, true] {
-            let words = arranged(self.place, &process.parameters, handed, are_spare)?;
-            if words.len() == process.parameters.len() {
+            let words = arranged(place, &process.parameters, handed, are_spare)?;
+            let is_here = |word: &str| handed.iter().any(|one| place.part(one.span) == word);
+            let spare = words.iter().filter(|word| !is_here(**word)).count();
+            if words.len() == most && (is_all || spare <= most.saturating_sub(count)) {
                 self.with_words_for(process, handed, &words)?;
             }
         }
@@ -192,8 +168,11 @@ impl<'p> Trial<'p> {
         let place = self.place;
         let (count, most) = (handed.len(), process.parameters.len());
         let least = count.min(most);
-        let mut front = same_ones(place, handed, words, false);
-        let mut back = same_ones(place, handed, words, true);
+        let mut pairs = handed.iter().zip(words);
+        let mut last = handed.iter().rev().zip(words.iter().rev());
+        let front = pairs.position(|(one, word)| place.part(one.span) != *word);
+        let back = last.position(|(one, word)| place.part(one.span) != *word);
+        let (mut front, mut back) = (front.unwrap_or(least), back.unwrap_or(least));
         if count < most && is_in_row(&process.parameters, front) {
             return Ok(());
         }
@@ -219,7 +198,7 @@ impl<'p> Trial<'p> {
     }
 
     /// One instance more of a process, over spare channels, with the values of its first instance.
-    pub(crate) fn with_instance(&mut self, process: &Process) -> Tried {
+    pub(crate) fn with_instance(&mut self, process: &Process, way: EditKind) -> Tried {
         let place = self.place;
         let first = instance_of(place.program, process);
         let values = place.handed_at(first.map_or(0, |first| first.process.span.from));
@@ -231,7 +210,7 @@ impl<'p> Trial<'p> {
                 let list = joined(place.alloc, &words)?;
                 let name = process.name.text.as_str();
                 let pieces = [") par ", name, "(", list.as_str(), ")"];
-                self.put(EditKind::Unused, (close.span, close.span), &pieces)
+                self.put(way, (close.span, close.span), &pieces)
             }
             _ => Ok(()),
         }

@@ -1,8 +1,5 @@
 //! The names of a process and of a program, by what they stand for.
 
-ghost use Rattle.std.specs.Prelude.{◌≡◌, ◌++◌, IfOk, map};
-ghost use Rattle.kahn_hints.specs.Names.{channels_asked, channels_in, is_asked};
-
 use crate::heads::head_before;
 use crate::place::{NetworkPlace, is_called, word_at};
 use kahn_streams::{Declaration, Direction, Kind, Name, Parameter, Process, Program, Role, Taking};
@@ -16,6 +13,8 @@ pub(crate) enum NameKind {
     Value,
     /// A channel of the program.
     Channel,
+    /// A channel whose values come from outside.
+    Input,
     /// A parameter that takes a channel to be read.
     Source,
     /// A parameter that takes a channel to be written.
@@ -58,7 +57,13 @@ pub(crate) fn names_seen<'p>(
                 Declaration::Process(process) if is_asked(NameKind::Process) => {
                     names.push(&process.name)?;
                 }
-                _ if is_asked(NameKind::Channel) => add_declared(&mut names, false, declaration)?,
+                Declaration::Channels(_, role, channels)
+                    if is_asked(NameKind::Channel)
+                        || is_asked(NameKind::Input) && *role == Role::Input => {
+                    for channel in channels {
+                        names.push(channel)?;
+                    }
+                }
                 _ => {}
             }
         }
@@ -80,19 +85,15 @@ pub(crate) fn names_seen<'p>(
 /// Whether a name stands in the part of a text that sees the names at a place, elsewhere than it is declared: assigned where that at the place
 /// is, or else not. A parameter has a value.
 pub(crate) fn is_used(place: NetworkPlace, name: &Name) -> bool {
-    let all = place.seen();
+    let (all, from) = (place.seen(), name.span.from);
     let is_assigned = place.class(1) == Some(Class::Sign(Sign::Becomes));
-    let is_given = match place.process {
-        Some(process) => process
-            .parameters
-            .iter()
-            .any(|one| one.name.span.from == name.span.from),
-        None => false,
-    };
+    let is_given = place.process.is_some_and(|process| {
+        let mut all = process.parameters.iter();
+        all.any(|one| one.name.span.from == from)
+    });
     is_assigned && is_given
         || all.iter().zip(all.iter().skip(1)).any(|(lexeme, next)| {
-            lexeme.what == Class::Name
-                && lexeme.span.from != name.span.from
+            lexeme.span.from != from
                 && is_assigned == (next.what == Class::Sign(Sign::Becomes))
                 && is_called(word_at(place.text, lexeme.span), name)
         })
@@ -110,71 +111,13 @@ pub(crate) fn declared_kind(place: NetworkPlace) -> NameKind {
     }
 }
 
-/// Whether a name stands less often in a text than that at a place.
-pub(crate) fn is_rarer(place: NetworkPlace, name: &Name) -> bool {
-    let (mut own, mut other) = (0_usize, 0_usize);
-    for lexeme in place.lexemes {
-        let word = word_at(place.text, lexeme.span);
-        if word == place.word() {
-            own = own.saturating_add(1);
-        } else if is_called(word, name) {
-            other = other.saturating_add(1);
-        }
-    }
-    other < own
-}
-
-/// Adds names of channels.
-fn add_channels<'p>(names: &mut Vec<&'p Name>, channels: &'p [Name]) -> Result<(), AllocError>
-    ensures { IfOk result (λ _. map (λ n. n.now) names.new.items ≡ map (λ n. n.now) names.old.items ++ channels.now) }
-{
-    for channel in channels {
-        names.push(channel)?;
-    }
-    Ok(())
-}
-
-/// Whether a channel is one of those that are asked for: all, or the inputs alone.
-fn is_asked(inputs: bool, role: Role) -> bool
-    ensures { result ≡ is_asked inputs role }
-{
-    match role {
-        Role::Input => true,
-        Role::Output | Role::Inner => !inputs,
-    }
-}
-
-/// Adds the names of the channels of a declaration; of inputs alone, if only these are asked for.
-fn add_declared<'p>(
-    names: &mut Vec<&'p Name>,
-    inputs: bool,
-    declaration: &'p Declaration,
-) -> Result<(), AllocError>
-    ensures { IfOk result (λ _. map (λ n. n.now) names.new.items ≡ map (λ n. n.now) names.old.items ++ channels_in inputs declaration.now) }
-{
-    match declaration {
-        Declaration::Channels(_, role, channels) => {
-            if is_asked(inputs, *role) {
-                add_channels(names, channels)
-            } else {
-                Ok(())
-            }
-        }
-        Declaration::Process(_) => Ok(()),
-    }
-}
-
-/// The names of the channels that a program declares, in order; of its inputs alone, if only these are asked for.
-pub(crate) fn channels_asked<'p>(
-    alloc: Global,
-    program: &'p Program,
-    inputs: bool,
-) -> Result<Vec<&'p Name>, AllocError>
-    ensures { IfOk result (λ names. map (λ n. n.now) names.items ≡ channels_asked inputs program.now) }
-{
-    let mut names = Vec::new(alloc);
-    for declaration in &program.declarations {
-        add_declared(&mut names, inputs, declaration)?;
-    }
-    Ok(names)
+/// How often that at a place and a name stand in a text.
+pub(crate) fn counts_of(place: NetworkPlace, name: &Name) -> (usize, usize) {
+    let (word, letters) = (place.word(), name.text.as_bytes());
+    let count_of = |word: &[u8]| {
+        let all = place.lexemes.iter();
+        all.filter(|lexeme| word_at(place.text, lexeme.span) == word)
+            .count()
+    };
+    (count_of(word), count_of(letters))
 }

@@ -6,12 +6,12 @@ ghost use Rattle.kahn_hints.specs.Hints.{LessensFaults, TellsFault, TellsMore, T
 
 use crate::changes::change_for;
 use crate::kept::{is_held, limit_of};
-use crate::mending::{found_kind, is_mended};
+use crate::mending::{are_fewer, found_kind, is_mended, is_same_fault};
 use crate::place::{NetworkPlace, beginning, handed_in};
 use crate::said::{
     add_advice, add_change, add_found, add_unsure, facts_of, is_elsewhere, others_of,
 };
-use crate::trial::{Edit, is_of_sides, tries_of};
+use crate::trial::{Edit, EditKind, is_of_sides, tries_of};
 use kahn_fault::{check_span, check_words};
 use kahn_marks::{Fix, MOST_NOTES, Note, Other, Sort};
 use kahn_streams::{CheckFault, NoMemory, Program, Span};
@@ -60,9 +60,9 @@ fn told_of(
     let mut words = String::from_str(place.alloc, check_words(fault))?;
     add_found(&mut words, place, fault, &facts)?;
     match change {
-        Some(change) if !is_of_sides(fault) => {
+        Some(change) if !is_of_sides(fault) || matches!(change.way, EditKind::Near) => {
             add_change(&mut words, place, change)?;
-            let is_sure = is_mended(place.alloc, place.text, faults, &change.fix)?;
+            let is_sure = are_fewer(place.text, faults, change.other.as_str(), &change.left);
             if change.fix.span.from != place.at.from && is_elsewhere(change, place.at) && !is_sure {
                 add_unsure(&mut words, place, change)?;
             }
@@ -70,6 +70,26 @@ fn told_of(
         _ => add_advice(&mut words, place, fault, &facts)?,
     }
     Ok((words, others_of(place, fault, &facts)?))
+}
+
+/// Adds the faults that a change mends to those that are told.
+fn add_mended(
+    told: &mut Vec<CheckFault>,
+    text: &str,
+    faults: &[CheckFault],
+    change: &Option<Edit>,
+) -> Result<(), NoMemory> {
+    if let Some(change) = change {
+        let (other, left) = (change.other.as_str(), &change.left);
+        let is_sure = are_fewer(text, faults, other, left);
+        for fault in faults.iter().take(MOST_NOTES) {
+            let mut all = left.iter();
+            if is_sure && !all.any(|one| is_same_fault(text, *fault, other, *one)) {
+                told.push(*fault)?;
+            }
+        }
+    }
+    Ok(())
 }
 
 /// The change that is told apart from the words of a fault at a place.
@@ -98,15 +118,14 @@ fn found_at(
     place: NetworkPlace,
     faults: &[CheckFault],
     fault: CheckFault,
+    told: &mut Vec<CheckFault>,
     tries: &mut usize,
 ) -> Result<ToldFault, NoMemory>
     ensures { IfOk result (λ found. Contains faults.now fault → TellsFault text.now faults.now found.note fault) }
 {
     let change = change_for(place, faults, tries, fault)?;
-    let is_whole = match &change {
-        Some(change) => change.left == 0,
-        None => false,
-    };
+    let is_whole = change.as_ref().is_some_and(|change| change.left.is_empty());
+    add_mended(told, text, faults, &change)?;
     let (words, others) = told_of(place, faults, fault, &change)?;
     let note = Note {
         sort: Sort::Error,
@@ -159,7 +178,15 @@ impl ToldNotes {
             return Ok(false);
         }
         let place = begin.moved_to(at);
-        let found = found_at(alloc, text, place, faults, fault, &mut self.tries)?;
+        let found = found_at(
+            alloc,
+            text,
+            place,
+            faults,
+            fault,
+            &mut self.told,
+            &mut self.tries,
+        )?;
         if found.is_whole {
             self.notes.clear();
             self.notes.push(found.note)?;

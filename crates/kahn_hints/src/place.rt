@@ -366,15 +366,18 @@ impl<'p> NetworkPlace<'p> {
         Some(&one.parameter?.name)
     }
 
-    /// The first process without an instance that takes the channel of its letters so.
-    pub(crate) fn idle(&self, side: NameKind) -> Option<&'p Process> {
+    /// The first process that takes the channel of its letters so: one without an instance, or one that has some and takes no other channel.
+    pub(crate) fn taker(&self, side: NameKind, is_idle: bool) -> Option<&'p Process> {
         let wanted = (side, self.channel()?.0);
         for declaration in &self.program.declarations {
             if let Declaration::Process(process) = declaration {
-                let mut taken = process.parameters.iter().map(taken_by);
-                if taken.any(|taken| taken == wanted)
-                    && instance_of(self.program, process).is_none()
-                {
+                let mut all = process.parameters.iter().map(taken_by);
+                let mut others = process.parameters.iter().map(taken_by);
+                let is_other = |taken: (NameKind, Kind)| taken.0 != NameKind::Value
+                    && taken != wanted;
+                let is_meant = all.any(|taken| taken == wanted)
+                    && (is_idle || !others.any(is_other));
+                if is_meant && instance_of(self.program, process).is_none() == is_idle {
                     return Some(process);
                 }
             }

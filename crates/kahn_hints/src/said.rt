@@ -4,12 +4,12 @@ use crate::lost::{arranged, longer_of};
 use crate::names::{NameKind, names_asked, names_seen, taken_by};
 use crate::near::nearest;
 use crate::place::{NetworkPlace, called_first, is_called, is_in, side_of};
-use crate::sight::{TOLD, add_meant, add_names};
+use crate::sight::add_near;
 use crate::trial::{Edit, EditKind};
 use itoa::Buffer;
 use kahn_fault::check_words;
-use kahn_marks::{Other, add, add_spot, first_ones};
-use kahn_streams::{CheckFault, Kind, Process, Role, Span};
+use kahn_marks::{Other, add, add_spot};
+use kahn_streams::{CheckFault, Instance, Kind, Process, Role, Span};
 use kahn_syntax::{Class, Keyword, Sign};
 use std::alloc::AllocError;
 
@@ -61,6 +61,7 @@ channel has no reader | idle | ; `@` has no instance, and could read it
 channel has no writer | inner unread | ; it is handed to no process: leave its declaration out
 channel has no writer | inner | ; hand it to an `out` parameter, or declare it `input` where its values come from outside
 channel has no writer | - | ; hand it to an `out` parameter
+channel has no reader | inner sink | ; hand it to one more instance of `@`, or declare it `output` where its values are to be reported
 channel has no reader | inner | ; hand it to an `in` parameter, or declare it `output` where its values are to be reported
 channel has no reader | - | ; hand it to an `in` parameter, or leave its declaration out
 ";
@@ -96,22 +97,6 @@ fn sentence_of(table: &'static str, fault: CheckFault, facts: &[&str]) -> Option
     None
 }
 
-/// Whether a sign of a comparison stands in the part at a place.
-fn is_compared(place: NetworkPlace) -> bool {
-    place.seen().iter().any(|lexeme| is_in(place.at, lexeme.span)
-        && matches!(
-            lexeme.what,
-            Class::Sign(
-                Sign::Equal
-                    | Sign::Unequal
-                    | Sign::Less
-                    | Sign::AtMost
-                    | Sign::Greater
-                    | Sign::AtLeast
-            )
-        ))
-}
-
 /// What is known of the place of a fault; of one of kinds, which was found.
 pub(crate) fn facts_of(
     place: NetworkPlace,
@@ -122,6 +107,7 @@ pub(crate) fn facts_of(
     let channel = place.channel();
     let kind = kind.or(channel.map(|channel| channel.0));
     let (asked, side, word) = (place.asked(), side_of(fault), place.word());
+    let (own, next) = (place.class(0), place.class(1));
     let mut facts = Vec::new(place.alloc);
     for (holds, fact) in [
         (true, ALWAYS),
@@ -130,26 +116,21 @@ pub(crate) fn facts_of(
         (channel.is_some(), "channel"),
         (matches!(channel, Some((_, Role::Inner))), "inner"),
         (place.called().is_some(), "is-process"),
-        (place.class(0) == Some(Class::Name), "named"),
+        (own == Some(Class::Name), "named"),
         (kind == Some(Kind::Integer), "integer"),
         (kind == Some(Kind::Logical), "logical"),
         (asked == NameKind::Process, "wants-process"),
         (asked == NameKind::Source, "source"),
         (asked == NameKind::Target, "target"),
         (asked == NameKind::Value, "value"),
-        (
-            place.class(1) == Some(Class::Sign(Sign::Becomes)),
-            "assigned",
-        ),
+        (next == Some(Class::Sign(Sign::Becomes)), "assigned"),
         (word.len() > 1, "long"),
-        (
-            place.class(0) == Some(Class::Word(Keyword::If)),
-            "conditional",
-        ),
-        (is_compared(place), "compared"),
+        (own == Some(Class::Word(Keyword::If)), "conditional"),
+        (word.iter().any(|byte| b"<=>".contains(byte)), "compared"),
         (parameter == Some(NameKind::Source), "from-channel"),
         (parameter == Some(NameKind::Target), "to-channel"),
-        (place.idle(side).is_some(), "idle"),
+        (place.taker(side, true).is_some(), "idle"),
+        (place.taker(side, false).is_some(), "sink"),
         (place.passed(NameKind::Source, word).is_none(), "unread"),
         (place.passed_before(side).is_some(), "passed"),
     ] {
@@ -161,16 +142,10 @@ pub(crate) fn facts_of(
 }
 
 /// Adds how many parameters a process has and how many arguments an instance, each behind some words.
-fn add_numbers(
-    words: &mut String,
-    before: &str,
-    process: &Process,
-    between: &str,
-    arguments: usize,
-) -> Added {
+fn add_numbers(words: &mut String, lead: (&str, &str), of: &Process, one: &Instance) -> Added {
     let (mut first, mut second) = (Buffer::new(), Buffer::new());
-    add(words, &[before, first.format(process.parameters.len())])?;
-    add(words, &[between, second.format(arguments)])
+    add(words, &[lead.0, first.format(of.parameters.len())])?;
+    add(words, &[lead.1, second.format(one.arguments.len())])
 }
 
 /// Adds how many arguments are wanted and found at an instance, and which of two parameters at most has none.
@@ -178,12 +153,11 @@ fn add_counts(words: &mut String, place: NetworkPlace) -> Added {
     let (Some(process), Some(instance)) = (place.called(), place.instance()) else {
         return Ok(());
     };
-    let arguments = instance.arguments.len();
-    add_numbers(words, ": wanted ", process, ", found ", arguments)?;
+    add_numbers(words, (": wanted ", ", found "), process, instance)?;
     let handed = place.handed_at(place.at.from);
     let parameters = &process.parameters;
     let given = arranged(place, parameters, handed, true)?;
-    if arguments >= parameters.len() {
+    if handed.len() >= parameters.len() {
         return Ok(());
     }
     for word in &given {
@@ -230,26 +204,23 @@ fn shown<'p>(place: NetworkPlace<'p>) -> &'p str {
 fn add_unknown(words: &mut String, place: NetworkPlace, advice: &str) -> Added {
     if let Some((process, instance)) = longer_of(place) {
         add(words, &["; `", process.name.text.as_str()])?;
-        let before = "` has fewer parameters than an instance has arguments: ";
-        return add_numbers(words, before, process, " and ", instance.arguments.len());
+        let lead = "` has fewer parameters than an instance has arguments: ";
+        return add_numbers(words, (lead, " and "), process, instance);
     }
     if let Some(name) = place.parameter_for().filter(|_| !advice.is_empty()) {
         let its = name.text.as_str();
         return add(words, &["; `", place.name(), "` has it as `", its, "`"]);
     }
     let names = names_asked(place)?;
-    match nearest(place.word(), &names) {
-        Some(name) if is_called(place.word(), name) => Ok(()),
-        Some(name) => add_meant(words, name),
-        None => {
-            let (list, _) = first_ones(&names, TOLD);
-            let is_listed = place.process.is_none() || place.channel().is_none();
-            if is_listed && !list.is_empty() {
-                words.push_str("; in sight: ")?;
-                add_names(words, list)?;
-            }
-            add_filled(words, place, advice, place.name())
-        }
+    let near = nearest(place.word(), &names);
+    let is_own = near.is_some_and(|name| is_called(place.word(), name));
+    let is_listed = place.process.is_none() || place.channel().is_none();
+    if !is_own && (is_listed || near.is_some()) {
+        add_near(words, place.word(), "; in sight: ", &names)?;
+    }
+    match near {
+        None => add_filled(words, place, advice, place.name()),
+        Some(_) => Ok(()),
     }
 }
 
@@ -296,40 +267,37 @@ pub(crate) fn add_advice(
         let lead = "; this instance is the same as the one at ";
         return add_spot(words, lead, place.text, first.from);
     }
-    let idle = place.idle(side_of(fault));
-    let process = idle.map_or("", |idle| idle.name.text.as_str());
+    let side = side_of(fault);
+    let taker = place.taker(side, true).or(place.taker(side, false));
+    let process = taker.map_or("", |taker| taker.name.text.as_str());
     add_filled(words, place, sentence, process)
 }
 
-/// Where another place stands that has to do with a fault: a process that could have the side, where the channel is handed over first, where
-/// the name is declared, in its process or outside, or the parameter that takes it.
-fn second_place(place: NetworkPlace, fault: CheckFault) -> Result<Option<Span>, AllocError> {
-    let side = side_of(fault);
-    let process = match fault {
-        CheckFault::NoWriter(_) | CheckFault::NoReader(_) => {
-            return Ok(place.idle(side).map(|process| process.name.span));
-        }
-        CheckFault::TooMany(_) | CheckFault::NoMemory => return Ok(None),
-        CheckFault::Unknown(_) => None,
-        _ => place.process,
-    };
-    let names = names_seen(place.alloc, place.program, process, None)?;
-    let declared = called_first(place.word(), &names).map(|name| name.span);
-    let taken = match fault {
-        CheckFault::ChannelExpected(_) => place.parameter().map(|one| one.name.span),
-        _ => None,
-    };
-    Ok(place.passed_before(side).or(declared).or(taken))
-}
-
-/// The other places that have to do with a fault.
+/// The other place that has to do with a fault, if there is one: a process that could have the side, where the channel is handed over first,
+/// where the name is declared, in its process or outside, or the parameter that takes it.
 pub(crate) fn others_of(
     place: NetworkPlace,
     fault: CheckFault,
     facts: &[&str],
 ) -> Result<Vec<Other>, AllocError> {
     let mut others = Vec::new(place.alloc);
-    if let Some(span) = second_place(place, fault)? {
+    let side = side_of(fault);
+    let process = place
+        .process
+        .filter(|_| !matches!(fault, CheckFault::Unknown(_)));
+    let names = names_seen(place.alloc, place.program, process, None)?;
+    let declared = called_first(place.word(), &names);
+    let second = match fault {
+        CheckFault::NoWriter(_) | CheckFault::NoReader(_) => {
+            place.taker(side, true).map(|process| process.name.span)
+        }
+        CheckFault::TooMany(_) | CheckFault::NoMemory => None,
+        CheckFault::ChannelExpected(_) if declared.is_none() => {
+            place.parameter().map(|one| one.name.span)
+        }
+        _ => place.passed_before(side).or(declared.map(|name| name.span)),
+    };
+    if let Some(span) = second {
         let sentence = sentence_of(ELSEWHERE, fault, facts).unwrap_or("declared here");
         let words = String::from_str(place.alloc, sentence)?;
         others.push(Other { span, words })?;
@@ -340,7 +308,7 @@ pub(crate) fn others_of(
 /// Whether a change is told apart from the words of a fault at a place: it is made elsewhere.
 pub(crate) fn is_elsewhere(change: &Edit, at: Span) -> bool {
     match change.way {
-        EditKind::Near | EditKind::Literal | EditKind::Unused | EditKind::Used => {
+        EditKind::Near | EditKind::Tied | EditKind::Literal | EditKind::Unused | EditKind::Used => {
             change.fix.span != at
         }
         EditKind::Swap => false,
@@ -359,6 +327,7 @@ pub(crate) fn add_change(words: &mut String, place: NetworkPlace, change: &Edit)
             words.push_str("` interchanged?")
         }
         EditKind::Waited => add(words, &["; its next value is `", put, "`"]),
+        EditKind::Tied => add(words, &["; did you mean `", put, "`? nothing uses it"]),
         EditKind::Handed => add(words, &["; `", place.name(), "` has it as `", put, "`"]),
         _ if is_elsewhere(change, place.at) => Ok(()),
         _ => add(words, &["; did you mean `", put, "`?"]),

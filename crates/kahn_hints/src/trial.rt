@@ -32,6 +32,8 @@ const MOST_BEHIND: usize = 6;
 pub(crate) enum EditKind {
     /// The nearest of the names in sight is put in the place of another.
     Near,
+    /// The same, where either of them stands nowhere else.
+    Tied,
     /// A value of the other kind, or a send for an assignment.
     Literal,
     /// Two arguments are interchanged, or a value and the channel of a `send`.
@@ -65,8 +67,9 @@ pub(crate) struct Edit {
     pub(crate) fix: Fix,
     /// Two parts that are interchanged.
     pub(crate) parts: (Span, Span),
-    /// How many faults it leaves.
-    pub(crate) left: usize,
+    /// The text with it, and the faults that it leaves.
+    pub(crate) other: String,
+    pub(crate) left: Vec<CheckFault>,
     /// The less of it, the better.
     cost: usize,
     /// Whether another name leaves as few.
@@ -252,7 +255,7 @@ impl<'p> Trial<'p> {
             self.fault,
             CheckFault::Unknown(_) | CheckFault::DeclaredTwice(_)
         );
-        let is_near = is_named && matches!(way, EditKind::Near);
+        let is_near = is_named && matches!(way, EditKind::Near | EditKind::Tied);
         let is_fewer = count < faults.len() || count == faults.len() && (are_behind || is_near);
         let is_less = are_known && left.len() < faults.len()
             || !matches!(way, EditKind::Without) && is_fewer;
@@ -281,19 +284,19 @@ impl<'p> Trial<'p> {
         let Some(other) = applied(alloc, self.place.text, &fix)? else {
             return Ok(());
         };
-        let Some(faults) = faults_in(alloc, other.as_str())? else {
+        let Some(left) = faults_in(alloc, other.as_str())? else {
             return Ok(());
         };
-        if let Some(cost) = self.cost_of(other.as_str(), way, &fix, &faults) {
-            let (left, is_one_of) = (faults.len(), false);
+        if let Some(cost) = self.cost_of(other.as_str(), way, &fix, &left) {
             let cost = cost.saturating_mul(MOST_DOUBTS).saturating_add(doubt);
             let change = Edit {
                 way,
                 fix,
                 parts,
+                other,
                 left,
                 cost,
-                is_one_of,
+                is_one_of: false,
             };
             self.best = Some(better(self.best.take(), change));
         }

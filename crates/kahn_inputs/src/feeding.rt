@@ -10,7 +10,7 @@ use crate::fitting::{
 use crate::meant::meant_lines;
 use crate::seeking::{FoundLine, LineKind, find_line, first_named};
 use crate::strange::{head_words, strange_words, word_words};
-use kahn_hints::{add_inputs, add_unknown_input};
+use kahn_hints::add_unknown_input;
 use kahn_marks::{Note, Other, Sort, add};
 use kahn_streams::{InputFault, Kind, Network, NoMemory, Span, channel_named};
 use kahn_texts::TextFault;
@@ -158,25 +158,24 @@ fn entry_text(
     fault: InputFault,
 ) -> Result<String, AllocError> {
     let mut words = String::new(alloc);
-    words.push_str(match fault {
-        InputFault::UnknownName(_) => "no such channel",
-        InputFault::NotAnInput(_) =>
-            "not an input channel: give the line another name, or leave it out",
-        InputFault::GivenTwice(_) => "given twice; all values of a channel stand on one line, once",
-        InputFault::WrongKind(_) => "kind does not agree",
-        InputFault::TooMany(_) => "too many values; at most 1048576",
-        InputFault::NoMemory => "no memory",
-    })?;
+    let program = network.program();
     match fault {
-        InputFault::UnknownName(_) => add_unknown_input(
-            &mut words,
-            alloc,
-            network.program(),
-            name,
-        )?,
-        InputFault::NotAnInput(_) => add_inputs(&mut words, alloc, network.program())?,
-        InputFault::WrongKind(_) => words.push_str(kind_words(kind).0)?,
-        _ => {}
+        InputFault::UnknownName(_) => {
+            words.push_str("no such channel")?;
+            add_unknown_input(&mut words, alloc, program, name)?;
+        }
+        InputFault::NotAnInput(_) => {
+            words.push_str("not an input channel: give the line another name, or leave it out")?;
+            add_unknown_input(&mut words, alloc, program, b"")?;
+        }
+        InputFault::WrongKind(_) => {
+            add(&mut words, &["kind does not agree", kind_words(kind).0])?
+        }
+        InputFault::GivenTwice(_) => {
+            words.push_str("given twice; all values of a channel stand on one line, once")?;
+        }
+        InputFault::TooMany(_) => words.push_str("too many values; at most 1048576")?,
+        InputFault::NoMemory => words.push_str("no memory")?,
     }
     Ok(words)
 }

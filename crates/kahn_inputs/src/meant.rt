@@ -6,7 +6,7 @@ ghost use Rattle.kahn_inputs.specs.Meant.{AreMeantLines, joined_lines};
 use crate::strange::{digits_from, marks_between, meant_word, plain_line};
 use itoa::Buffer;
 use kahn_marks::{add, is_within};
-use kahn_streams::{Kind, Network, NoMemory, Role, channel_named};
+use kahn_streams::{Channel, Kind, Network, NoMemory, Role, channel_named};
 use kahn_texts::{TextFault, read_input, value_of, word_bytes};
 use std::alloc::{AllocError, Global};
 
@@ -45,12 +45,12 @@ fn whole_number(word: &str) -> Option<i64> {
 fn truth(word: &str) -> Option<bool> {
     let letters = word.as_bytes();
     let is_word = letters.iter().all(|byte| byte.is_ascii_alphabetic());
-    if word == "1" || is_word && is_within(letters, b"true", 1) {
-        Some(true)
-    } else if word == "0" || is_word && is_within(letters, b"false", 1) {
-        Some(false)
-    } else {
-        None
+    match word {
+        "1" => Some(true),
+        "0" => Some(false),
+        _ if is_word && is_within(letters, b"true", 1) => Some(true),
+        _ if is_word && is_within(letters, b"false", 1) => Some(false),
+        _ => None,
     }
 }
 
@@ -121,16 +121,12 @@ impl<'n> TextReading<'n> {
 
     /// The only input without an entry that the text doesn't name.
     fn left(&self) -> Option<usize> {
-        let mut left = None;
-        for (number, input) in self.inputs.iter().enumerate() {
-            if input.line.is_empty() && !input.is_told {
-                if left.is_some() {
-                    return None;
-                }
-                left = Some(number);
-            }
+        let mut all = self.inputs.iter();
+        let left = all.position(|input| input.line.is_empty() && !input.is_told)?;
+        if all.any(|input| input.line.is_empty() && !input.is_told) {
+            return None;
         }
-        left
+        Some(left)
     }
 
     /// Reads the name of an input, or of a column of no input.
@@ -206,19 +202,8 @@ impl<'n> TextReading<'n> {
         }
     }
 
-    /// Whether a line is the first one of a table: names alone, of which one is that of an input.
-    fn is_table(&self, line: &str) -> bool {
-        let mut has_input = false;
-        for word in line.split_whitespace() {
-            if !is_plain(word) {
-                return false;
-            }
-            has_input = has_input || self.channel(word, false, false).is_some();
-        }
-        has_input
-    }
-
-    /// Reads a line, in which a `:` stands apart; answers whether all of its words are understood.
+    /// Reads a line, in which a `:` stands apart; answers whether all of its words are understood. The first one of a table has names alone, of
+    /// which one is that of an input.
     fn line(&mut self, line: &str) -> Result<bool, AllocError> {
         let (head, rest) = line.split_once(" : ").unwrap_or(("", line));
         let head = head.trim();
@@ -231,7 +216,9 @@ impl<'n> TextReading<'n> {
         }
         self.is_head = false;
         let Some(channel) = first else {
-            let is_table = self.is_table(line);
+            let mut words = line.split_whitespace();
+            let is_table = line.split_whitespace().all(is_plain)
+                && words.any(|word| self.channel(word, false, false).is_some());
             return self.words(line, true, is_table);
         };
         self.name(channel)?;
@@ -241,10 +228,7 @@ impl<'n> TextReading<'n> {
 
     /// Reads the words of a line, or those behind its name; answers whether all are understood.
     fn words(&mut self, line: &str, is_open: bool, is_table: bool) -> Result<bool, AllocError> {
-        let mut words = Vec::new(self.alloc);
-        for word in line.split_whitespace() {
-            words.push(word)?;
-        }
+        let words = line.split_whitespace().collect::<Vec<&str>>(self.alloc)?;
         let is_value = matches!(words.first(), Some(word) if value_of(word.as_bytes()).is_some());
         let is_done = self.columns.len() == 1 && self.count > 0;
         if is_open && is_done && is_value && self.left().is_some() {
@@ -258,12 +242,12 @@ impl<'n> TextReading<'n> {
                 self.is_head = false;
             } else if let Some(channel) = self.channel(word, is_name, is_table) {
                 let is_bare = self.count == 0 && !self.is_head && !self.columns.is_empty();
-                if self.is_range || is_bare && !is_first {
+                if self.is_range || is_bare && !is_first && !self.columns.contains(&channel) {
                     return Ok(false);
                 }
                 self.name(channel)?;
             } else if !(is_first && matches!(*word, "-" | "*")) && !self.other(word)? {
-                return Ok(is_first && words.len() == 1 && meant_word(word) == "~");
+                return Ok(next.is_none() && meant_word(word) == "~");
             }
         }
         Ok(true)
@@ -274,13 +258,13 @@ impl<'n> TextReading<'n> {
         let (mut lines, mut is_any) = (Vec::new(self.alloc), false);
         for input in &self.inputs {
             let has_values = input.line.len() > input.name.len().saturating_add(1);
-            if !input.line.is_empty() && !has_values && !input.is_told {
-                return Ok(None);
-            }
-            is_any = is_any || has_values;
             if !input.line.is_empty() {
+                if !has_values && !input.is_told {
+                    return Ok(None);
+                }
                 lines.push(String::from_str(self.alloc, input.line.as_str())?)?;
             }
+            is_any = is_any || has_values;
         }
         if !is_any || self.is_range {
             return Ok(None);
@@ -309,12 +293,12 @@ fn inputs_of<'n>(
 ) -> Result<Vec<EntryReading<'n>>, AllocError> {
     let mut inputs = Vec::new(alloc);
     for number in 0..network.channels() {
-        let channel = network.channel(number);
+        let Channel { name, kind, role } = network.channel(number);
         let bytes = text.as_bytes();
         let mut words = bytes.split(|byte| !(byte.is_ascii_alphanumeric() || *byte == b'_'));
-        if let Role::Input = channel.role {
-            let is_told = words.any(|word| word == channel.name.as_bytes());
-            let (name, kind, line) = (channel.name, channel.kind, String::new(alloc));
+        if let Role::Input = role {
+            let is_told = words.any(|word| word == name.as_bytes());
+            let line = String::new(alloc);
             inputs.push(EntryReading {
                 name,
                 kind,

