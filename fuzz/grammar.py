@@ -141,7 +141,7 @@ def is_true(text, lexemes, at, place, line):
         return text[ref.byte_of(text, *place):].startswith(told[1].encode()) and told[2].lower() in {"comment", *ref.KEYWORDS} and told[1].lower() not in ref.KEYWORDS
     if line == "the second `begin` has no `end`":
         return ends < begins
-    if told := re.fullmatch(r"`begin` has no `end`: (?:it ends before \d+:\d+|by its indentation it ends (?:before line (\d+)|at the end of the text))", line):
+    if told := re.fullmatch(r"`begin` has no `end`(?:, or that at \d+:\d+ has none)?: (?:it ends before \d+:\d+|by its indentation it ends (?:before line (\d+)|at the end of the text))", line):
         before = [x for x in lexemes[:at] if not told[1] or ref.place(text, x[2])[0] < int(told[1])]
         return ends < begins and tuple(map(int, place)) in unclosed(text, before)
     return begins < ends if line.startswith(("`end` has no `begin`", "several statements stand behind")) else True

@@ -2,12 +2,11 @@
 
 ghost use Rattle.std.specs.Prelude.{Contains, IfSome};
 
-use crate::changes::offered;
-use crate::foreign::closing_word;
+use crate::characters::foreign_word;
 use crate::mending::{Fixed, mending};
-use crate::place::{Place, before, front, near};
+use crate::place::{Place, before, front, near, offered};
 use crate::said::{Saying, Words, line_of, put_at, put_behind, sentence, spot_words};
-use crate::table::{finds, has_word, may_stand};
+use crate::table::{cell, finds, has_word, may_stand};
 use crate::words::class_word;
 use kahn_marks::part_of;
 use kahn_syntax::{Lexeme, Span};
@@ -30,23 +29,19 @@ struct LineLexeme {
 /// The lexemes of a text, each with its line; a tab goes to the next multiple of 8.
 fn seats(place: Place) -> Result<Vec<LineLexeme>, AllocError> {
     let mut seats = Vec::new(place.alloc);
-    let (mut at, mut line, mut deep, mut first) = (0, 1usize, 0usize, true);
+    let (mut from, mut line, mut deep, mut first) = (0, 1usize, 0usize, true);
     for lexeme in place.lexemes {
         let (word, span) = (class_word(lexeme.what), lexeme.span);
-        let (from, to) = (at, span.from);
+        let to = span.from;
         for byte in part_of(place.text, Span { from, to }).bytes() {
-            match (byte, first) {
-                (b'\n', _) => {
-                    line = line.saturating_add(1);
-                    deep = 0;
-                    first = true;
-                }
-                (b' ', true) => deep = deep.saturating_add(1),
-                (b'\t', true) => deep = (deep | 7).saturating_add(1),
-                (_, _) => first = false,
-            }
+            (line, deep, first) = match (byte, first) {
+                (b'\n', _) => (line.saturating_add(1), 0, true),
+                (b' ', true) => (line, deep.saturating_add(1), true),
+                (b'\t', true) => (line, (deep | 7).saturating_add(1), true),
+                (_, _) => (line, deep, false),
+            };
         }
-        at = span.from;
+        from = span.from;
         seats.push(LineLexeme {
             word,
             span,
@@ -58,20 +53,26 @@ fn seats(place: Place) -> Result<Vec<LineLexeme>, AllocError> {
     Ok(seats)
 }
 
+/// The word of the lexeme with a number; nothing where there is none.
+fn word_of(seats: &[LineLexeme], number: usize) -> &'static str {
+    seats.get(number).map_or("", |seat| seat.word)
+}
+
 /// The number of the lexeme to which the statements before an `end` belong, which has that number: on its line, or on the nearest line
-/// that is as deep. Behind it stands no block, and none that another one leads to.
+/// that is as deep. Behind it stands a statement that is no block.
 fn guard_of(seats: &[LineLexeme], number: usize, end: LineLexeme) -> Option<usize> {
     let (mut depth, mut found) = (0usize, None);
     for (number, seat) in front(seats, number).iter().enumerate().rev().take(FAR) {
-        let behind = seats.get(number.saturating_add(1));
-        let next = behind.map_or("", |behind| behind.word);
         depth = match (seat.word, depth) {
             ("process", _) | ("begin", 0) => return found,
             ("begin", _) => depth.saturating_sub(1),
             ("end", _) => depth.saturating_add(1),
             (_, _) => depth,
         };
-        let is_guard = next != "begin" && has_word("do then else repeat", seat.word);
+        let next = word_of(seats, number.saturating_add(1));
+        let is_led = has_word("send print if while repeat", next)
+            || word_of(seats, number.saturating_add(2)) == ":=";
+        let is_guard = is_led && has_word("do then else repeat", seat.word);
         let leads = depth == 0 && is_guard && (seat.word != "else" || next != "if");
         let is_level = end.first && seat.deep == end.deep;
         if end.first && seat.deep < end.deep {
@@ -171,12 +172,8 @@ fn open_there(begins: &[Lexeme], span: Span) -> Option<Lexeme>
 /// The `end` before a lexeme with which a place is mended, before a semicolon there or with one.
 fn closing(place: Place, seats: &[LineLexeme], number: usize) -> Fixed {
     let last = number.saturating_sub(1);
-    let is_ended = seats.get(last).is_some_and(|last| last.word == ";");
-    let first = if is_ended {
-        last.saturating_sub(1)
-    } else {
-        last
-    };
+    let is_ended = word_of(seats, last) == ";";
+    let first = last.saturating_sub(if is_ended { 1 } else { 0 });
     for (at, put) in [(first, "end"), (last, "end"), (last, "end;")] {
         let part = seats.get(at).map_or(place.span, |seat| seat.span);
         let fix = put_behind(place.alloc, place.text, part, put)?;
@@ -188,37 +185,47 @@ fn closing(place: Place, seats: &[LineLexeme], number: usize) -> Fixed {
     Ok(None)
 }
 
-/// What is said of the `begin` that has no `end`: by its indentation its block ends before a line, or on that of the `begin`; one that stands
-/// beside another one is left out.
+/// What is said of the `begin` that has no `end`: by its indentation its block ends before a line, or on that of the `begin`, where another
+/// one may be meant; one that stands beside another one is left out.
 fn unclosed(place: Place, seats: &[LineLexeme]) -> Saying {
     let (alloc, text) = (place.alloc, place.text);
     let Some((number, end)) = unclosed_at(place, seats)? else {
         return Ok(None);
     };
-    let beside = [number.checked_sub(1), number.checked_add(1)];
-    let mut beside = beside.iter().filter_map(|number| seats.get((*number)?));
-    let Some(begin) = seats.get(number) else {
-        return Ok(None);
-    };
-    if beside.any(|seat| seat.word == "begin") {
-        let fix = put_at(alloc, text, begin.span, begin.span, "")?;
-        if let Some(fix) = mending(alloc, text, place.span, Some(fix))? {
-            let words = String::from_str(alloc, "the second `begin` has no `end`")?;
-            return Ok(Some((Some((begin.span, words)), Some(fix), None)));
-        }
-    }
     let open = open_behind(alloc, front(place.lexemes, end))?;
-    let Some(one) = open_there(&open, begin.span) else {
+    let Some(one) = seats
+        .get(number)
+        .and_then(|begin| open_there(&open, begin.span))
+    else {
         return Ok(None);
     };
+    let is_second = word_of(seats, number.wrapping_sub(1)) == "begin"
+        || word_of(seats, number.wrapping_add(1)) == "begin";
+    let out = put_at(alloc, text, one.span, one.span, "")?;
+    let out = if is_second { Some(out) } else { None };
+    if let Some(fix) = mending(alloc, text, place.span, out)? {
+        let words = String::from_str(alloc, "the second `begin` has no `end`")?;
+        return Ok(Some((Some((one.span, words)), Some(fix), None)));
+    }
+    let line = seats.get(number).map_or(0, |begin| begin.line);
     let (words, from) = match seats.get(end) {
-        Some(end) if begin.line == end.line => ("it ends before #", end.span.from),
+        Some(end) if line == end.line => ("it ends before #", end.span.from),
         Some(end) => ("by its indentation it ends before line @", end.span.from),
         None => ("by its indentation it ends at the end of the text", 0),
     };
     let at = spot_words(alloc, text, from)?;
     let ending = sentence(alloc, words, line_of(at.as_str()), at.as_str())?;
-    let words = sentence(alloc, "`begin` has no `end`: @", ending.as_str(), "")?;
+    let mut inner = seats
+        .get(number.saturating_add(1)..end)
+        .unwrap_or(&[])
+        .iter();
+    let inner = inner.find(|seat| seat.word == "begin" && seat.line == line);
+    let spot = spot_words(alloc, text, inner.map_or(0, |inner| inner.span.from))?;
+    let words = match inner {
+        Some(_) => "`begin` has no `end`, or that at # has none: @",
+        None => "`begin` has no `end`: @",
+    };
+    let words = sentence(alloc, words, ending.as_str(), spot.as_str())?;
     let fix = closing(place, seats, end)?;
     Ok(Some((Some((one.span, words)), fix, None)))
 }
@@ -273,25 +280,25 @@ pub(crate) fn closer_said(place: Place) -> Saying {
     let (alloc, text) = (place.alloc, place.text);
     let is_else = finds("else", near(place, 0)) && may_stand("end", place.wanted);
     let is_late = finds(";", near(place, -1)) && offered(before(place, 1), 1, "nothing").is_some();
-    let number = match closing_word(place) {
-        Some(-1) => place.number.saturating_sub(1),
+    let word = foreign_word(place).filter(|(_, row)| cell(row, 1) == "end");
+    let number = match word {
+        Some((at, _)) => at.number,
         None if !is_else || is_late => return Ok(None),
-        _ => place.number,
+        None => place.number,
     };
     let all = seats(place)?;
     let (Some(guard), Some(end)) = (guard_before(&all, number), all.get(number)) else {
         return Ok(None);
     };
-    if is_else {
-        let words =
-            "one statement stands between `@` and `else`: insert `begin` behind `@` at #, and `end` before `else`";
-        let words = led_words(place, words, guard, guard.span.from)?;
-        return Ok(Some((None, None, Some(words))));
-    }
-    let fix = put_at(alloc, text, end.span, end.span, "end")?;
-    let fix = mending(alloc, text, place.span, Some(fix))?;
-    let words = "insert `begin` after `@` at #: it makes one statement of several, to its `end`";
+    let words = if is_else {
+        "one statement stands between `@` and `else`: insert `begin` behind `@` at #, and `end` before `else`"
+    } else {
+        "insert `begin` after `@` at #: it makes one statement of several, to its `end`"
+    };
     let words = led_words(place, words, guard, guard.span.from)?;
+    let end = put_at(alloc, text, end.span, end.span, "end")?;
+    let fix = if is_else { None } else { Some(end) };
+    let fix = mending(alloc, text, place.span, fix)?;
     Ok(Some((None, fix, Some(words))))
 }
 

@@ -9,27 +9,28 @@
 pub(crate) const RULES: &str = "
 any | < = | line | a merge left its marks: keep one of the two parts, and leave out the lines that begin with `<<<<<<<`, `=======` and `>>>>>>>`
 any | > | line | lines that are quoted in a mail begin with `>`: leave it out of all of them
+number | name | joined | decimal
 any | if process repeat while send print wait in out input output channel | twice | out
-any | any | always | shifted
+any | any | always | parted | shifted
 any | any | always | parted
 any | any | always | blurred
 , | integer logical | -number | last | ;
 any | any | always | words
 any | any | always | slip
 any | any | always | remark
+any | any | always | remark | last
 any | any | always | meant
 any | any | always | closer
 any | any | -, | foreign
 any | any | +) | foreign
 any | any | always | parted | likely
-any | name | unknown near !>;_end_else_nothing | instead | send process if while else do then channel on end begin par
-any | name | unknown near >begin | instead | repeat
-begin ; do then else | name | unknown near far !>;_end_else_nothing | out
-any | send print | +value | `send` and `print` are statements, and give no value: `X := wait(C)` takes one
+any | name | !declared near !>;_end_else_nothing | instead | send process if while else do then channel on end begin par
+any | name | !declared near >begin | instead | repeat
+begin ; do then else | name | !declared near far !>;_end_else_nothing | out
+any | send print | +value !line | `send` and `print` are statements, and give no value: `X := wait(C)` takes one
 any | any | named near | `^` is a keyword, and no name, in any letter case: take another one
-any | any | loud | `$` is a keyword, and no name, in any letter case: take another one
 any | end | far near | instead | send
-any | in or | far near | instead | on
+any | in or | far | instead | on
 any | any | always | blocks
 - | > | joined | there is no arrow: `send E on C` sends, `X := wait(C)` takes, and `;` stands between statements
 < > | < > | joined | there is no shift: `X * 16`, `X div 16`
@@ -42,27 +43,20 @@ any | name | +integer -declaration -statement !>integer_logical | a parameter ha
 any | any | twice near | out
 in out input output | in out input output | always | out
 any | in out input output | >in_out_input_output | out
-, | in out input output channel | far here | out
 name | := | chained | a statement assigns to one name: `X := E; Y := X`
 any | name | near >on +:= | put | send
 any | = <= - | here | instead | :=
 any | := | here | instead | =
-in out integer logical channel input output | ; , | near | out
 begin | ; | >integer_logical_process_name | out
 ; else then do begin repeat ( | , | near | out
 any | , | near >;_end_else_nothing | out
 begin ; | name | near >,_; | put | integer
-any | , | near | instead | ; par on
 any | , | ending | instead | ;
-any | ; | near | instead | , par on
 any | input | always | instead | in
 any | output | always | instead | out
 any | in | always | instead | input
 any | out | always | instead | output
 any | ; , | >else_do_then_par_on_) | out
-; | par | always | out
-any | begin | near >process | out
-any | begin | whole here | out
 any | any | always | put | ;
 any | any | !joined | put | ,
 name number | name number | +, !joined | behind | ,
@@ -76,12 +70,12 @@ any | any | whole here | put | begin end
 number ) | name | declared -then -do | put | *
 number ) | ( | always | put | *
 in out input output | any | always | put | channel
+any | ; , ) ( := begin end then do else on par | whole here alone !opens | out
 any | any | !>begin | exchange
 any | any | far | put | send if while
 any | any | always | put | process
-name | - | joined -) | a name has letters, digits and `_`
 then begin do else ; repeat | wait | always | `wait(C)` is a value: a statement takes one by `X := wait(C)`
-begin do else ; repeat | ( - | always | a statement begins with a name or a keyword; a comment goes from `comment` to `;`
+begin do else ; repeat | ( - | +statement | a statement begins with a name or a keyword; a comment goes from `comment` to `;`
 begin do else ; | do | always | a loop is `while E do S`, or `repeat S`, which has no end
 repeat | number | always | `repeat` goes on for ever: `while I < 10 do begin ..; I := I + 1 end` is ten turns
 process | ( | always | a process has a name: `process P(integer in U; integer out W); begin .. end`
@@ -91,15 +85,15 @@ on | any | always | a channel's name stands behind `on`: `send E on C`
 any | on | +operator +end | `on` stands behind the value of a `send`: `send E on C`; `print E` needs no channel
 any | in out input output channel integer logical wait not if ( | +true | an instance hands over channels and literals, by their places: `P(A, -1, true)`
 any | process | +statement | no process stands in the body of another one: all of them stand side by side
-any | in out | +channel | an input is `integer input channel C`, an output `integer output channel C`
 any | channel | always | outside of processes `integer channel C` declares one; a process gets it by `integer in U` or `integer out W`
+name | name | +:= !>:=_( >,_; | last | integer
+; par begin | ( | +name | the name of a process stands before these brackets: `P(A, B)`
 nothing | name | always | a program has no name: it goes from `begin` to `end`
 integer logical | name | +channel handed | put | channel
 any | name | +channel | variables are declared in processes; a channel is `integer channel C`
 ) | ) | far near | out
 any | ) | opens | this `)` has no `(`: insert `(` before it, or leave it out
 any | begin | +:= | a loop that counts is `while I < N do begin S; I := I + 1 end`, and one without an end `repeat S`
-any | ; name number | +, +) -; | a comma stands between two arguments: `P(A, B)`
 any | number | +name -declaration | a name begins with a letter
 ) | name | +; -end -, | `;` stands behind the parameters, and variables behind `begin`: `process P(integer in U); begin integer X; .. end`
 end | begin | +; -end | a file has one program, which ends before this `begin`
@@ -107,10 +101,9 @@ end | if while repeat do process | always | an `end` stands alone: no word says 
 any | if while repeat wait send print | +declaration | statements stand in processes alone
 ; | name process if while repeat send print | +begin | the body of a process stands between `begin` and `end`
 any | integer logical | +statement -integer >name | out
-any | integer logical | +statement | variables are declared right behind the first `begin` of a process, channels outside of processes
-any | integer logical | +begin -statement | variables are declared right behind the first `begin` of a process, channels outside of processes
 any | integer logical | +value | a kind changes no value: `if T then 1 else 0` makes a number of `T`, `X <> 0` a truth value of `X`
 any | integer logical process | +end -statement | channels and processes are declared before all instances
+any | integer logical | !+declaration | variables are declared right behind the first `begin` of a process, channels outside of processes
 any | end | +declaration | a program ends with its instances: `p(A, B) par q(B, C)`
 any | begin | +declaration >integer_logical | a process begins with its heading: `process P(integer in U; integer out W);`
 any | begin | +declaration | instances stand without `begin`: `p(A) par q(B)`
@@ -129,8 +122,9 @@ name | , | +; | a value goes on one channel: `send E on C; send E on D`
 name | ( | +:= | a body calls nothing and starts nothing: `send E on C` sends a value, and instances stand behind all processes
 name | ( | +operator | a body calls nothing: there are no functions, `wait(C)` takes a value, and nothing tells whether one is there
 any | name print | line +; here | behind | ;
-+ - * div mod = <> < <= > >= and or not ( := send print if while then else | ; ) end on then do else , par nothing * div mod = <> < <= > >= and or | +value | a value is missing behind `$`, or `$` is too much
++ - * div mod = <> < <= > >= and or not ( := send print if while then else | ; ) end on then do else , par send print while repeat nothing * div mod = <> < <= > >= and or | +value | a value is missing behind `$`, or `$` is too much
 any | and begin channel div do else end false if in input integer logical mod not on or out output par print process repeat send then true wait while := ( ) , + - * = <> < <= > >= | far near | out
+name ) | number | !line +operator far | an operator stands between two values: `X + 1`
 any | number ; | far here | out
 in out integer logical | ; ) | +name | a name is missing behind `$`
 end | name | far here | out
@@ -138,7 +132,6 @@ any | else | +end | an `else` stands behind `if E then S`, where S is one statem
 name | any | given near | instead | :=
 number | name | joined | a number has decimal digits alone
 any | any | near | instead | ) ( , on then do begin end par ;
-any | number | far near | instead | * ( )
 any | , | +on | `send` sends one value: `send E on C; send F on C`
 nothing | any | always | a program is like `begin integer output channel B; process p(integer out W); begin send 1 on W end; p(B) end`
 name | name | +( -operator | an instance is `P(A, B)`: brackets stand round what it hands over; words for readers stand between `comment` and `;`

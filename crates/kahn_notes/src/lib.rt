@@ -3,10 +3,7 @@
 #![tactic(auto)]
 
 mod blocks;
-mod changes;
 mod characters;
-mod commented;
-mod foreign;
 mod habits;
 mod mending;
 mod patterns;
@@ -21,5 +18,4 @@ mod words;
 
 // For the crates above.
 pub use characters::character_help;
-pub use commented::{commented_note, held_remark};
-pub use unexpected::unexpected_note;
+pub use unexpected::{commented_note, held_remark, unexpected_note};

@@ -2,7 +2,7 @@
 
 use crate::mending::{Fixed, mending};
 use crate::patterns::PATTERNS;
-use crate::place::{front, is_name, names_behind};
+use crate::place::{MOST, front, is_name, names_of};
 use crate::said::{Meaning, filled, is_capital, replacing, sentence};
 use crate::table::{cell, has_word, row_of};
 use kahn_marks::part_of;
@@ -10,10 +10,8 @@ use kahn_syntax::Span;
 use kahn_wanted::is_of_word;
 use std::alloc::{AllocError, Global};
 
-/// How many bytes before a place, and how many behind it, are looked at.
-const NEAR: usize = 8192;
-
-const BEHIND: usize = 256;
+/// How many bytes behind a place, or of a line before it, are looked at.
+pub(crate) const BEHIND: usize = 256;
 
 /// How many words and signs before a place a pattern begins at most, and how many parts that fit are tried.
 const BEFORE: usize = 24;
@@ -115,7 +113,7 @@ fn is_ended(window: Window, word: &str, piece: &str, next: &str) -> bool {
             "T" => false,
             "N" => !is_name(word),
             "L" => word != "," && !is_name(word),
-            _ => has_word(ENDS, word),
+            _ => has_word(ENDS, word) || (piece != "G" && word == ","),
         }
 }
 
@@ -185,20 +183,14 @@ fn waits_twice(template: &str, meant: &[Meaning]) -> bool {
 
 /// The change of a pattern that fits from a number on, if the text is read past it then; at the end of a line also with a `;` behind it, or
 /// before a comment.
-fn change_at(
-    window: Window,
-    start: usize,
-    pattern: &[&str],
-    put: &str,
-    tries: &mut usize,
-) -> Fixed {
-    let Some((end, meant)) = matched(window, start, pattern)? else {
+fn change_at(window: Window, from: usize, pattern: &[&str], put: &str, tries: &mut usize) -> Fixed {
+    let Some((end, meant)) = matched(window, from, pattern)? else {
         return Ok(None);
     };
     if end < window.number || waits_twice(put, &meant) {
         return Ok(None);
     }
-    let (Some(span), Some(rest)) = (part_between(window, start, end), tries.checked_sub(1)) else {
+    let (Some(span), Some(rest)) = (part_between(window, from, end), tries.checked_sub(1)) else {
         return Ok(None);
     };
     *tries = rest;
@@ -226,10 +218,10 @@ pub(crate) fn rewritten(alloc: Global, text: &str, plain: &str, at: usize) -> Fi
     let rest = text.get(at..).unwrap_or("");
     let line_end = at.saturating_add(rest.find("\n").unwrap_or(rest.len()).min(BEHIND));
     let to = text.len().min(line_end.saturating_add(BEHIND));
-    let pieces = pieces_of(alloc, text, at.saturating_sub(NEAR), to)?;
+    let pieces = pieces_of(alloc, text, at.saturating_sub(MOST), to)?;
     let number = pieces.partition_point(|piece| piece.from < at);
-    let written = names_behind(alloc, text, front(&pieces, number), "out")?;
-    let read = names_behind(alloc, text, front(&pieces, number), "in")?;
+    let written = names_of(alloc, text, front(&pieces, number), "out")?;
+    let read = names_of(alloc, text, front(&pieces, number), "in")?;
     let window = Window {
         alloc,
         text,

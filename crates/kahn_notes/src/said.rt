@@ -1,8 +1,8 @@
 //! What is said of a place where a text goes wrong, beside what was expected there, and the changes that are told.
 
-use crate::mending::mending;
-use crate::place::{Place, is_name};
-use crate::table::has_word;
+use crate::mending::{Fixed, mending};
+use crate::place::{Place, is_name, near};
+use crate::table::{has_word, stands_as};
 use crate::words::class_word;
 use kahn_marks::{Fix, add, add_spot, part_of};
 use kahn_streams::NoMemory;
@@ -13,11 +13,8 @@ use std::alloc::{AllocError, Global};
 /// Where a heading stands and what it says, where that isn't what was expected at the place.
 pub(crate) type Heading = Option<(Span, String)>;
 
-/// What is said of a place: the heading, the change that mends it, and a sentence.
-pub(crate) type Said = (Heading, Option<Fix>, Option<String>);
-
-/// What is said, where something is.
-pub(crate) type Saying = Result<Option<Said>, NoMemory>;
+/// What is said of a place, where something is: the heading, the change that mends it, and a sentence.
+pub(crate) type Saying = Result<Option<(Heading, Option<Fix>, Option<String>)>, NoMemory>;
 
 /// What is put together of pieces.
 pub(crate) type Words = Result<String, AllocError>;
@@ -82,68 +79,51 @@ pub(crate) fn put_behind(alloc: Global, text: &str, part: Span, put: &str) -> Fi
 }
 
 /// Two lexemes in the other order; not those of two lines, nor a number and a word right behind it.
-fn interchanged(
-    alloc: Global,
-    text: &str,
-    one: Span,
-    other: Span,
-) -> Result<Option<String>, AllocError> {
+fn interchanged(place: Place, one: Span, other: Span) -> Fixed {
     let (from, to) = (one.to, other.from);
-    let between = part_of(text, Span { from, to });
-    let (first, second) = (part_of(text, one), part_of(text, other));
+    let between = part_of(place.text, Span { from, to });
+    let (first, second) = (part_of(place.text, one), part_of(place.text, other));
     let is_number = first.starts_with(|first: char| first.is_ascii_digit());
     if between.contains('\n') || (is_number && between.is_empty() && is_name(second)) {
         return Ok(None);
     }
-    let mut put = String::from_str(alloc, second)?;
+    let mut put = String::from_str(place.alloc, second)?;
     add(&mut put, &[between, first])?;
-    Ok(Some(put))
+    let to = other.to;
+    Ok(Some(replacing(Span { to, ..one }, put)))
 }
 
-/// What a change puts in the text; none where this is a name or a number, of which there are many.
-fn put_of(place: Place, change: Change) -> Result<Option<String>, AllocError> {
-    let end = change.at.saturating_add(change.out);
-    let put = match (change.put, place.lexemes.get(change.at..end)) {
-        (Some(_), Some([one, other])) => {
-            return interchanged(place.alloc, place.text, one.span, other.span);
-        }
-        (Some(Class::Name | Class::Number(_)), _) => return Ok(None),
-        (Some(class), _) => class_word(class),
-        (None, _) => "",
+/// A change, if there is one, as it is made in the text; none that puts a name or a number there, of which there are many.
+pub(crate) fn fix_of(place: Place, change: Option<Change>) -> Fixed {
+    let Some(change) = change else {
+        return Ok(None);
     };
-    let put = filled(place.alloc, put, is_capital(place.text), &[])?;
-    Ok(Some(put))
-}
-
-/// A change as it is made in the text.
-pub(crate) fn fix_of(place: Place, change: Change) -> Result<Option<Fix>, AllocError> {
-    let end = change.at.saturating_add(change.out);
-    let lexemes = place.lexemes;
-    let one = change
-        .at
-        .checked_sub(1)
-        .and_then(|number| lexemes.get(number));
-    let begins = |class| has_word("send if process while integer logical", class_word(class));
-    let is_first = change.put.is_some_and(begins);
-    let (beside, span) = match (lexemes.get(change.at..end), one, lexemes.get(change.at)) {
-        (Some([first, .., last]), _, _) => {
-            let to = last.span.to;
-            let span = Span { to, ..first.span };
-            (span, span)
-        }
-        (Some([only]), _, _) => (only.span, only.span),
-        (_, Some(one), _) if !is_first => {
-            let from = one.span.to;
-            (one.span, Span { from, to: from })
-        }
+    let (alloc, text, number) = (place.alloc, place.text, change.at);
+    let end = number.saturating_add(change.out);
+    let out = place.lexemes.get(number..end).unwrap_or(&[]);
+    let at = Place { number, ..place };
+    if let [one, other] = out {
+        return interchanged(place, one.span, other.span);
+    }
+    let put = match change.put {
+        Some(Class::Name | Class::Number(_)) => return Ok(None),
+        Some(class) => class_word(class),
+        None => "",
+    };
+    let is_truth = put == "integer" && stands_as(at, "true");
+    let put = if is_truth { "logical" } else { put };
+    let is_first = has_word("send if process while integer logical", put);
+    let before = near(at, -1).filter(|_| !is_first);
+    let fix = match (out.first(), before, near(at, 0)) {
+        (Some(only), _, _) => put_at(alloc, text, only.span, only.span, put)?,
+        (_, Some(one), _) => put_behind(alloc, text, one.span, put)?,
         (_, _, Some(next)) => {
             let to = next.span.from;
-            (next.span, Span { to, ..next.span })
+            put_at(alloc, text, Span { to, ..next.span }, next.span, put)?
         }
-        (_, _, _) => return Ok(None),
+        (_, _, None) => return Ok(None),
     };
-    let put = put_of(place, change)?;
-    Ok(put.map(|put| Fix { span, put, beside }))
+    Ok(Some(fix))
 }
 
 /// What is said of a part of a text that a change replaces or leaves out.

@@ -1,23 +1,50 @@
-//! Words that were parted, grew together or lost a letter to a neighbour.
+//! Words that were parted, grew together or lost a letter to a neighbour, and numbers of other languages.
 
 use crate::mending::{Fixed, mending};
-use crate::place::{Place, front, name_at, near};
+use crate::place::{MOST, Place, front, name_at, near};
 use crate::said::{replacing, sentence};
+use crate::table::has_word;
+use crate::words::class_word;
+use itoa::Buffer;
 use kahn_marks::{is_within, part_of};
 use kahn_syntax::{Class, Keyword, Lexeme, Span};
 use kahn_wanted::{CLASSES, is_of_word};
 
-/// How many lexemes are looked at for a name.
-const MOST_NAMES: usize = 8192;
+/// The number that is written in another language by digits and a word right behind them.
+fn value_of(digits: &str, word: &str) -> Option<i64> {
+    let (sort, rest) = word.split_at_checked(1)?;
+    let number = digits.parse::<i64>().ok()?;
+    match (number, sort) {
+        (0, "x" | "X") => i64::from_str_radix(rest, 16).ok(),
+        (0, "o" | "O") => i64::from_str_radix(rest, 8).ok(),
+        (0, "b" | "B") => i64::from_str_radix(rest, 2).ok(),
+        (_, "e" | "E") => number.checked_mul(10i64.checked_pow(rest.parse::<u32>().ok()?)?),
+        (_, _) if has_word("l ll u ul ull f", word) => Some(number),
+        (_, _) => None,
+    }
+}
+
+/// The number of another language before a place, with the word there, as it is written here.
+pub(crate) fn decimal(place: Place) -> Fixed {
+    let span = part_at(place, -1, 0).unwrap_or(place.span);
+    let cut = place.span.from.saturating_sub(span.from);
+    let parts = part_of(place.text, span).split_at_checked(cut);
+    let Some(number) = parts.and_then(|(digits, word)| value_of(digits, word)) else {
+        return Ok(None);
+    };
+    let mut buffer = Buffer::new();
+    let put = String::from_str(place.alloc, buffer.format(number))?;
+    Ok(Some(replacing(span, put)))
+}
 
 /// Whether a word is a keyword.
-fn is_keyword(word: &str) -> bool {
+pub(crate) fn is_keyword(word: &str) -> bool {
     Keyword::named(word.as_bytes()).is_some()
 }
 
 /// Whether a word is a keyword, a number or a lexeme of the text.
 fn is_there(place: Place, word: &str) -> bool {
-    let mut lexemes = front(place.lexemes, MOST_NAMES).iter();
+    let mut lexemes = front(place.lexemes, MOST).iter();
     is_keyword(word)
         || word.parse::<i64>().is_ok()
         || lexemes.any(|one| part_of(place.text, one.span) == word)
@@ -31,28 +58,23 @@ fn is_near(word: &str, other: &str) -> bool {
         && !word.ends_with(other)
 }
 
-/// The keyword or the name of some lexemes from which a word is one slip away; none if it is one of them but for what ends it.
-fn nearest<'t>(text: &'t str, lexemes: &[Lexeme], word: &str) -> Option<&'t str> {
+/// The name of some lexemes or the keyword from which a word is one slip away; none if it is one of them but for what ends it.
+pub(crate) fn nearest<'t>(text: &'t str, lexemes: &[Lexeme], word: &str) -> Option<&'t str> {
     let bare = word.trim_end_matches(|one: char| !one.is_ascii_alphanumeric());
-    for one in front(lexemes, MOST_NAMES) {
-        if bare.len() < word.len() && part_of(text, one.span) == bare {
+    let mut near = None;
+    for one in front(lexemes, MOST).iter().rev() {
+        let name = part_of(text, one.span);
+        if bare.len() < word.len() && name == bare {
             return None;
         }
-    }
-    for one in front(lexemes, MOST_NAMES) {
-        let name = part_of(text, one.span);
         if one.what == Class::Name && is_near(word, name) {
-            return Some(name);
+            near = Some(name);
         }
     }
-    for class in &CLASSES {
-        if let Class::Word(keyword) = class {
-            if is_near(word, keyword.letters()) {
-                return Some(keyword.letters());
-            }
-        }
-    }
-    None
+    let mut classes = CLASSES.iter();
+    let keyword = classes.find(|one| is_keyword(class_word(**one))
+        && is_near(word, class_word(**one)));
+    near.or(keyword.map(|one| class_word(*one)))
 }
 
 /// What stands from one lexeme so many behind a place to another, if that is on a line, and words begin and end it.
@@ -74,7 +96,7 @@ fn is_used(place: Place, count: isize) -> bool {
     let Some(name) = name_at(place, count) else {
         return false;
     };
-    let lexemes = front(place.lexemes, MOST_NAMES).iter();
+    let lexemes = front(place.lexemes, MOST).iter();
     let same = lexemes.filter(|one| part_of(place.text, one.span) == name);
     same.count() > 1
 }
@@ -101,58 +123,37 @@ pub(crate) fn blurred(place: Place) -> Fixed {
     Ok(None)
 }
 
-/// Whether two words may have been written as one: both are keywords or lexemes of the text, one is a keyword, and the other a name; or, if
-/// they are only likely, both are keywords, or one is that has more than three letters.
-fn are_parts(place: Place, one: &str, other: &str, likely: bool) -> bool {
+/// Whether two words may have been written as one: both are keywords or lexemes of the text, and of one lexeme one is a keyword, and the
+/// other a name; or, if they are only likely, both are keywords, or one is that has more than three letters.
+fn are_parts(place: Place, one: &str, other: &str, how: &str) -> bool {
     let (first, second) = (is_keyword(one), is_keyword(other));
-    if likely {
+    if how == "likely" {
         return (first && second) || (first && one.len() > 3) || (second && other.len() > 3);
     }
-    first != second && is_there(place, one) && is_there(place, other)
+    (first != second || how == "shifted") && is_there(place, one) && is_there(place, other)
 }
 
-/// A part of the text as a word cut in two behind so many letters, if that mends the place.
-fn cut_at(place: Place, span: Span, word: &str, cut: usize) -> Fixed {
-    let (one, other) = word.split_at_checked(cut).unwrap_or(("", ""));
-    let put = sentence(place.alloc, "@ #", one, other)?;
-    mending(
-        place.alloc,
-        place.text,
-        place.span,
-        Some(replacing(span, put)),
-    )
-}
-
-/// A lexeme at a place or before it as two words.
-pub(crate) fn parted(place: Place, likely: bool) -> Fixed {
-    for count in [-1, 0, -2] {
-        let span = near(place, count).map_or(place.span, |lexeme| lexeme.span);
-        let word = part_of(place.text, span);
-        let end = if is_keyword(word) { 0 } else { word.len() };
-        for cut in 1..end {
-            let (one, other) = word.split_at_checked(cut).unwrap_or(("", ""));
-            if are_parts(place, one, other, likely) {
-                let fix = cut_at(place, span, word, cut)?;
-                if fix.is_some() {
-                    return Ok(fix);
-                }
-            }
-        }
-    }
-    Ok(None)
-}
-
-/// Two lexemes round a place with the blank between them one letter further on or back, if both are keywords or lexemes of the text then.
-pub(crate) fn shifted(place: Place) -> Fixed {
-    for (first, last) in [(-1, 0), (0, 1), (-2, -1)] {
+/// A lexeme at a place or before it as two words, or as one that is there twice; or, if they are shifted, two lexemes with the blank between
+/// them elsewhere.
+pub(crate) fn parted(place: Place, how: &str) -> Fixed {
+    let spots = match how {
+        "shifted" => [(-1, 0), (0, 1), (-2, -1)],
+        _ => [(-1, -1), (0, 0), (-2, -2)],
+    };
+    for (first, last) in spots {
         let span = part_at(place, first, last).unwrap_or(place.span);
         let part = part_of(place.text, span);
-        let (one, other) = part.split_once(" ").unwrap_or(("", ""));
+        let (one, other) = part.split_once(" ").unwrap_or((part, ""));
         let word = sentence(place.alloc, "@#", one, other)?;
-        for cut in [one.len().saturating_add(1), one.len().saturating_sub(1)] {
+        let is_one = is_keyword(part) || other.is_empty() == (how == "shifted");
+        let end = if is_one { 0 } else { word.len() };
+        for cut in 1..end {
             let (one, other) = word.as_str().split_at_checked(cut).unwrap_or(("", ""));
-            if is_there(place, one) && is_there(place, other) {
-                let fix = cut_at(place, span, word.as_str(), cut)?;
+            if are_parts(place, one, other, how) {
+                let is_twice = one == other && how != "shifted";
+                let form = if is_twice { "@" } else { "@ #" };
+                let fix = replacing(span, sentence(place.alloc, form, one, other)?);
+                let fix = mending(place.alloc, place.text, place.span, Some(fix))?;
                 if fix.is_some() {
                     return Ok(fix);
                 }

@@ -1,11 +1,10 @@
 //! Tables of words, a row a line, with cells between bars; and what stands at a place, by such words.
 
-use crate::changes::{are_twice, offered};
-use crate::place::{Place, before, front, is_declared, name_at, near};
-use crate::said::is_capital;
+use crate::place::{Place, before, front, is_known, name_at, near, offered, word_at};
+use crate::spaced::is_keyword;
 use crate::words::class_word;
 use kahn_marks::part_of;
-use kahn_syntax::{Class, Lexeme, Span};
+use kahn_syntax::{Lexeme, Span};
 use kahn_wanted::{LexemeGroup, Wanted};
 
 /// A cell of a row; nothing where there is none.
@@ -46,76 +45,70 @@ pub(crate) fn may_stand(word: &str, wanted: &Wanted) -> bool {
     wanted.groups.iter().any(|group| groups.contains(group))
 }
 
-/// What stands behind the lexeme so many behind a place, and before the next; nothing where there are no two.
-fn between<'p>(place: Place<'p>, count: isize) -> Option<&'p str> {
-    let (one, other) = (near(place, count)?, near(place, count.saturating_add(1))?);
-    let (from, to) = (one.span.to, other.span.from);
+/// What stands behind the lexeme at a place, and before the next; nothing where there are no two.
+fn between<'p>(place: Place<'p>) -> Option<&'p str> {
+    let (from, to) = (near(place, 0)?.span.to, near(place, 1)?.span.from);
     Some(part_of(place.text, Span { from, to }))
-}
-
-/// Whether one of some classes, with `_` between, stands behind the lexeme at a place.
-fn leads_to(words: &str, place: Place) -> bool {
-    let next = near(place, 1).map_or("nothing", |lexeme| class_word(lexeme.what));
-    words.split("_").any(|word| word == next)
-}
-
-/// Whether the name so many behind a place is one that the lexemes before it declare.
-fn is_known(place: Place, count: isize) -> bool {
-    name_at(place, count).is_some_and(|name| is_declared(place, name))
-}
-
-/// Whether a value may be given to what stands before a place: no bracket follows, or it isn't the name of a process.
-fn may_be_given(place: Place) -> bool {
-    let is_process = name_at(place, -1).is_some_and(|name| place.processes.contains(&name));
-    !finds("(", near(place, 0)) || (is_known(place, -1) && !is_process)
 }
 
 /// Whether a test in a word holds of a place.
 fn is_so(test: &str, place: Place) -> bool {
-    let mut best = place.offers.best.iter();
+    let (mut best, last) = (place.offers.best.iter(), before(place, 1));
     match test {
-        "joined" => between(place, -1).is_some_and(|between| between.is_empty()),
-        "line" => between(place, -1).is_none_or(|between| between.contains('\n')),
-        "ending" => between(place, 0).is_some_and(|between| between.contains('\n')),
+        "joined" => between(last) == Some(""),
+        "line" => between(last).is_none_or(|between| between.contains('\n')),
+        "ending" => between(place).is_some_and(|between| between.contains('\n')),
         "here" => place.back == 0,
         "near" => place.back < 2,
+        "alone" => offered(place, 0, "name number + = and ( )").is_none(),
         "whole" => place.offers.whole,
         "far" => place.offers.far,
-        "twice" => are_twice(place, -1, 0),
+        "twice" => {
+            word_at(last) == word_at(place)
+                && !finds("number + -", near(last, 0))
+                && (!finds(")", near(last, 0)) || between(last) != Some(""))
+        }
         "chained" => finds(":=", near(place, -2)) && finds("name", near(place, -3)),
         "waiting" => finds("wait", near(place, -3)),
         "called" => finds("(", near(place, 0)) && !may_stand(":=", place.wanted),
-        "named" => is_word(place) && offered(place, 1, "name").is_some(),
+        "named" => is_keyword(word_at(place)) && offered(place, 1, "name").is_some(),
         "opens" => best.any(|one| one.put.is_some_and(|class| class_word(class) == "(")),
-        "declared" => is_known(place, 0),
-        "given" => is_known(place, -1),
-        "loud" => is_loud(place),
+        "declared" => is_known(place),
+        "given" => is_known(last),
         "handed" => stands_as(place, "handed"),
         "grouped" => is_grouped(place),
-        "unknown" => name_at(place, 0).is_some() && !is_known(place, 0),
-        "assigned" => may_be_given(place),
+        "assigned" => {
+            !finds("(", near(place, 0)) || (is_known(last) && !stands_as(last, "process"))
+        }
         _ => true,
     }
 }
 
-/// Whether a keyword stands at a place.
-fn is_word(place: Place) -> bool {
-    near(place, 0).is_some_and(|lexeme| matches!(lexeme.what, Class::Word(_)))
+/// Whether a name stands at a place as a channel that is written or read, among arguments, as a truth value, or as what is assigned to.
+fn is_as(at: Place, what: &str) -> bool {
+    let waits = finds("wait", near(at, -2));
+    let (one, next) = (near(at, -1), near(at, 1));
+    match what {
+        "handed" => !waits && finds("( ,", one) && finds(") ,", next),
+        "wired" => waits || finds("on", one),
+        "assigned" => finds(":=", next),
+        "process" => finds("process", one),
+        _ => {
+            finds("not and or", one)
+                || finds("and or", next)
+                || (finds("if while", one) && finds("then do", next))
+                || (finds(":=", next) && finds("true false not", near(at, 2)))
+        }
+    }
 }
 
-/// Whether the name at a place stands elsewhere as a channel that is written or read, or among arguments.
-fn stands_as(place: Place, what: &str) -> bool {
+/// Whether the name at a place stands anywhere as this.
+pub(crate) fn stands_as(place: Place, what: &str) -> bool {
     let Some(name) = name_at(place, 0) else {
         return false;
     };
     for (number, lexeme) in place.lexemes.iter().enumerate() {
-        let at = Place { number, ..place };
-        let waits = finds("wait", near(at, -2));
-        let stands = match what {
-            "handed" => !waits && finds("( ,", near(at, -1)) && finds(") ,", near(at, 1)),
-            _ => waits || finds("on", near(at, -1)),
-        };
-        if stands && part_of(place.text, lexeme.span) == name {
+        if part_of(place.text, lexeme.span) == name && is_as(Place { number, ..place }, what) {
             return true;
         }
     }
@@ -133,33 +126,17 @@ fn is_grouped(place: Place) -> bool {
     false
 }
 
-/// Whether the lexeme before a place is a keyword in capitals among others in small letters, where a name may stand.
-fn is_loud(place: Place) -> bool {
-    let last = before(place, 1);
-    let word = near(last, 0).map_or("", |last| part_of(place.text, last.span));
-    is_word(last)
-        && !is_capital(place.text)
-        && word.bytes().all(|byte| byte.is_ascii_uppercase())
-        && offered(last, 1, "name").is_some()
-}
-
-/// Whether a test holds of a place: behind `+` stands what may stand there, behind `-` what may not, and behind `>` what stands behind the
-/// lexeme there.
-fn is_met(test: &str, place: Place) -> bool {
-    match test.split_at_checked(1).unwrap_or(("", "")) {
+/// Whether a test holds of a place, or, behind `!`, doesn't: behind `+` stands what may stand there, behind `-` what may not, and behind `>`
+/// what stands behind the lexeme there.
+pub(crate) fn holds(test: &str, place: Place) -> bool {
+    let bare = test.strip_prefix("!").unwrap_or(test);
+    let is_met = match bare.split_at_checked(1).unwrap_or(("", "")) {
         ("+", word) => may_stand(word, place.wanted),
         ("-", word) => !may_stand(word, place.wanted),
-        (">", words) => leads_to(words, place),
-        (_, _) => is_so(test, place),
-    }
-}
-
-/// Whether a test holds of a place, or, behind `!`, doesn't.
-pub(crate) fn holds(test: &str, place: Place) -> bool {
-    match test.strip_prefix("!") {
-        Some(test) => !is_met(test, place),
-        None => is_met(test, place),
-    }
+        (">", words) => words.split("_").any(|word| finds(word, near(place, 1))),
+        (_, _) => is_so(bare, place),
+    };
+    is_met == (bare.len() == test.len())
 }
 
 /// Whether a row of a table fits at a place: the lexeme before it, the one there, and the tests.
