@@ -1,11 +1,11 @@
 //! Which change of one word was perhaps meant: each is tried, and the one that leaves the fewest faults is told.
 
 use crate::heads::{end_of, head_before};
-use crate::lost::{joined, longer_of, spans_of};
+use crate::lost::{joined, longer_of};
 use crate::mending::{found_kind, letters_at};
 use crate::names::{NameKind, counts_of, declared_kind, is_used, names_asked, names_seen};
 use crate::near::nearest;
-use crate::place::{NetworkPlace, called_first, is_in, side_of};
+use crate::place::{NetworkPlace, called_first, is_in, side_of, word_at};
 use crate::trial::{Edit, EditKind, Trial, Tried, faults_behind, is_of_sides, statement_at};
 use kahn_marks::is_within;
 use kahn_streams::{CheckFault, Declaration, Kind, Name, NoMemory, Process, Span};
@@ -320,20 +320,25 @@ impl<'p> Trial<'p> {
         Ok(())
     }
 
-    /// Those of several names, of heads, and of other names.
+    /// Those of several names, of heads, and of other names: of a truth value for a number, if it is used elsewhere too.
     fn with_others(&mut self) -> Tried {
         let place = self.place;
         let Some(process) = place.process.or(place.made()) else {
             return Ok(());
         };
         let handed = place.handed_at(place.at.from);
-        self.with_swaps(EditKind::Swap, &spans_of(place.alloc, handed)?)?;
+        let spans = handed.iter().map(|one| one.span);
+        let spans = spans.collect::<Vec<Span>>(place.alloc)?;
+        self.with_swaps(EditKind::Swap, &spans)?;
         self.with_arranged(process, handed)?;
         self.with_heads(self.fault)?;
         self.with_directions(process.name.text.as_bytes())?;
+        let all = place.seen().iter();
+        let uses = all.filter(|one| word_at(place.text, one.span) == place.word());
         let is_asked = match self.fault {
-            CheckFault::WrongKind(_) if place.process.is_some() => found_kind(place)?
-                == Some(Kind::Logical),
+            CheckFault::WrongKind(_) if place.process.is_some() => {
+                uses.count() > 3 && found_kind(place)? == Some(Kind::Logical)
+            }
             CheckFault::ValueExpected(_) => place.process.is_some(),
             CheckFault::WrongDirection(_) => false,
             _ => true,

@@ -19,11 +19,6 @@ struct Spare<'p> {
     name: &'p Name,
 }
 
-/// Where arguments stand.
-pub(crate) fn spans_of(alloc: Global, handed: &[Handed]) -> Result<Vec<Span>, AllocError> {
-    handed.iter().map(|one| one.span).collect(alloc)
-}
-
 /// The channels for each side that neither the outside has nor an instance but the one at a place.
 fn spares_at<'p>(place: NetworkPlace<'p>) -> Result<Vec<Spare<'p>>, AllocError> {
     let mut spares: Vec<Spare<'p>> = Vec::new(place.alloc);
