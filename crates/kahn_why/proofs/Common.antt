@@ -11,7 +11,7 @@ pub use Rattle.kahn_streams.specs.Script.{Cut, Dry, Fault, Got, Reached, ScriptO
 pub use Rattle.kahn_streams.specs.Solution.{AreInputsExtended, Ending, HasEnd, Histories, Inputs, IsExtended, IsPrefix, ending, exec_at, fed, goes_to, input_list, iterate, out, source, tape_of, tapes_of, values_at}
 pub use Rattle.kahn_why.specs.Noting.{AreFaultLines, HasShown, StandsIn}
 pub use Rattle.kahn_why.specs.Refusing.{AreAllowed, IsNoteOn, IsPlacedNote, IsRefusal, IsRefusedFor, IsRefusedWords, IsSyntaxNote, IsSyntaxRefusal, expected_of}
-pub use Rattle.kahn_why.specs.Why.{IsEndedOrFaulted, IsFinal, LastForGood, StayForGood, came_to, standings_of}
+pub use Rattle.kahn_why.specs.Why.{IsEndedOrFaulted, IsFinal, LastForGood, StayForGood, came_to, finding_lead, standings_of}
 pub use Rattle.kahn_why.specs.inner.Stuck.{AreForGood, AreStuck}
 pub use Rattle.kahn_why.specs.inner.Told.{HasRefused, HasWritten, IsAdmitted}
 pub use Rattle.std.proofs.Common.{All, Bool, Err, List, None, Option, Result, Some, [], ap, append_assoc, arith, eq-eqb, false, get_or, if◌then◌else◌, inl, inr, le_refl, le_trans, length, map, max, pos, refl, string_bytes, subst, suc, sym, take, true, ℕ, ⊎_elim, ◌++◌, ◌<◌, ◌==◌, ◌∙◌, ◌∷◌, ◌≡◌, ◌≤◌, ◌⊎◌}

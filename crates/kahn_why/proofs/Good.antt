@@ -1,5 +1,5 @@
 -- Instances that wait for good: there is a solution above the iterates in which what they send stays as it is.
-use Rattle.kahn_why.proofs.Common.{[], Bool, List, Some, ap, false, le_refl, le_trans, max, pos, refl, subst, suc, sym, true, ℕ, ◌∙◌, ◌≡◌, ◌≤◌, append-nil, Store, Schema, Source, Given, Written, Nobody, Hands, Node, Reads, actual_at, instance_at, ScriptOutcome, Got, Dry, Fault, Cut, Reached, Tapes, play, IsExtended, AreInputsExtended, Histories, Inputs, Ending, HasEnd, IsPrefix, ending, exec_at, fed, input_list, iterate, out, source, tape_of, tapes_of, values_at, goes_to, AreStuck, AreForGood}
+use Rattle.kahn_why.proofs.Common.{[], Bool, List, Some, ap, false, le_refl, le_trans, max, pos, refl, subst, suc, sym, true, ℕ, ◌∙◌, ◌≡◌, ◌≤◌, append-nil, Store, Schema, Source, Given, Written, Nobody, Hands, Node, Reads, actual_at, instance_at, ScriptOutcome, Dry, Reached, Tapes, play, IsExtended, AreInputsExtended, Histories, Inputs, Ending, HasEnd, IsPrefix, ending, exec_at, fed, input_list, iterate, out, source, tape_of, tapes_of, values_at, goes_to, AreStuck, AreForGood}
 use mathlib.Core.Path.{fun_ext}
 use Rattle.std.proofs.{Math.Nat.le-max_left, Math.Nat.le-max_right, lemmas.List.append_cancel_left}
 use Rattle.kahn_streams.specs.{Syntax.Number, declared.value.Value.Value, declared.value.Line.Line, declared.value.Line.TheVariants.Channel, Laws.AreSame, Laws.IsSolution, Laws.KeepsTape}

@@ -1,7 +1,7 @@
 -- What the parts of explaining say of the whole.
 use Rattle.std.proofs.Common.{append-nil}
 use Rattle.std.specs.Io.KnownBytes.{Appends}
-use Rattle.kahn_why.proofs.Common.{◌≡◌, ℕ, Bool, List, [], ◌++◌, Option, None, Result, Err, inl, inr, refl, string_bytes, subst, sym, IsUnchecked, WorkFault, Syntax, Check, Text, Run, Write, AreAllowed, IsRefusal, IsRefusedFor, HasRefused, HasWritten, IsAdmitted, Came, Refused}
+use Rattle.kahn_why.proofs.Common.{◌≡◌, ℕ, Bool, List, [], ◌++◌, Option, None, Result, Err, inl, inr, refl, string_bytes, subst, sym, IsUnchecked, WorkFault, Syntax, Check, AreAllowed, IsRefusal, IsRefusedFor, HasRefused, HasWritten, IsAdmitted, Came, Refused}
 use Rattle.std.specs.Prelude.{Ok}
 use Rattle.kahn_streams.specs.Written.{AppendsFront}
 use Rattle.kahn_why.specs.{Data.HasToldData, declared.explaining.Admitted.Admitted}

@@ -1,5 +1,5 @@
 -- Ends whose causes are final are for good: the instances on the chain are stuck.
-use Rattle.kahn_why.proofs.Common.{◌≡◌, ℕ, ◌==◌, ◌⊎◌, inl, inr, ⊎_elim, List, [], ◌∷◌, ◌++◌, get_or, Bool, true, false, if◌then◌else◌, Option, Some, None, refl, sym, ap, subst, ◌∙◌, eq-eqb, eqb-true, option_map, Schema, Reads, Written, actual_at, instance_at, channel_source, ScriptOutcome as Came, Dry, Cut, Store, Inputs, Histories, ending, exec_at, AreInputsExtended, Awaits, Leads, stays, onward, LeadsOn, standing_of, stands, Standing, Input, Stopped, Ring, end_of, waiting, HasEndAt, IsDryOn, IsEnd, IsOutcome, IsRight, IsWaiting, Answer, Verdict, Finished, Bound, Memory, IsEndedOrFaulted, StayForGood, standings_of, AreStuck}
+use Rattle.kahn_why.proofs.Common.{◌≡◌, ℕ, ◌==◌, ◌⊎◌, inl, inr, ⊎_elim, List, [], ◌∷◌, ◌++◌, get_or, Bool, true, Option, Some, None, refl, sym, ap, subst, ◌∙◌, eq-eqb, eqb-true, option_map, Schema, Reads, Written, actual_at, instance_at, channel_source, ScriptOutcome as Came, Dry, Cut, Store, Inputs, Histories, ending, exec_at, AreInputsExtended, Awaits, Leads, stays, onward, LeadsOn, standing_of, stands, Standing, Input, Stopped, Ring, end_of, waiting, HasEndAt, IsDryOn, IsEnd, IsOutcome, IsRight, IsWaiting, Answer, Verdict, Memory, IsEndedOrFaulted, StayForGood, standings_of, AreStuck}
 use Rattle.std.specs.List.{list_any, slice_get}
 use Rattle.std.proofs.lemmas.{Bool.or_cases, Bool.or_left, Bool.or_right, List.Folds.list_any-append}
 use Rattle.std.proofs.lemmas.Option.{slice_get-map, get_or_from_slice_get}

@@ -1,5 +1,5 @@
 -- What is told of an input text, or why nothing is.
-use Rattle.kahn_why.proofs.Common.{ℕ, List, Option, Some, Result, Err, inl, inr, refl, string_bytes, subst, sym, Global, String, IsUnchecked, WorkFault, Syntax, Check, Text, Run, Write, HasWritten, Came, Refused}
+use Rattle.kahn_why.proofs.Common.{ℕ, List, Option, Some, Result, Err, inl, inr, refl, string_bytes, subst, sym, Global, String, IsUnchecked, WorkFault, Syntax, Check, HasWritten, Came, Refused}
 use Rattle.kahn_texts.specs.declared.input.TextFault.{TextFault}
 use Rattle.kahn_why.specs.Telling.{HasToldInput, IsNoteFor}
 

@@ -1,10 +1,10 @@
 -- Believed. The note on why a program text is refused.
-use Rattle.std.specs.Prelude.{◌≡◌, ◌⊎◌, ◌++◌, ℕ, All, Bool, true, Contains, List, [], Option, Some, None, Err, IfSome, MatchOption, string_bytes}
+use Rattle.std.specs.Prelude.{◌≡◌, ◌⊎◌, ◌++◌, ℕ, Bool, true, List, [], Option, Some, None, Err, IfSome, MatchOption, string_bytes}
 use Rattle.std.specs.{declared.alloc.Global.Global, declared.string.String.String}
 use Rattle.kahn_streams.specs.{declared.span.Span.Span, declared.tree.Program.Program, declared.fault.CheckFault.CheckFault, Faults.verdict, Faults.faults}
 use Rattle.kahn_check.specs.Parts.{faults_by_part}
 use Rattle.kahn_syntax.specs.{declared.fault.What.What, declared.fault.SyntaxFault.SyntaxFault, declared.fault.SyntaxFault.TheVariants.Expected}
-use Rattle.kahn_fault.specs.{declared.work.WorkFault.WorkFault, declared.work.WorkFault.TheVariants.Syntax, declared.work.WorkFault.TheVariants.Check, declared.work.WorkFault.TheVariants.Text, declared.work.WorkFault.TheVariants.Run, declared.work.WorkFault.TheVariants.Write, Message.check_span, Message.syntax_span, Message.syntax_words, Work.IsChecked, Work.IsParsed, Work.IsUnchecked}
+use Rattle.kahn_fault.specs.{declared.work.WorkFault.WorkFault, declared.work.WorkFault.TheVariants.Syntax, declared.work.WorkFault.TheVariants.Check, Message.check_span, Message.syntax_span, Message.syntax_words, Work.IsChecked, Work.IsParsed, Work.IsUnchecked}
 use Rattle.kahn_marks.specs.{Notes.IsRendered, declared.rendering.Note.Note}
 use Rattle.kahn_notes.specs.Notes.{IsNoteAt, Mends}
 use Rattle.kahn_why.specs.Noting.{AreFaultLines, AreWarningLines}

@@ -2,7 +2,7 @@
 use Rattle.std.specs.Prelude.{◌≡◌, ℕ, List, Option, Some, None, Result, Ok, Err, string_bytes}
 use Rattle.std.specs.{declared.alloc.Global.Global, declared.string.String.String, Io.KnownBytes.Appends}
 use Rattle.kahn_streams.specs.{declared.tree.Program.Program, declared.fault.RunFault.TheVariants.NoMemory, Written.AppendsFront}
-use Rattle.kahn_fault.specs.{Work.IsChecked, Work.IsUnchecked, declared.work.WorkFault.WorkFault, declared.work.WorkFault.TheVariants.Syntax, declared.work.WorkFault.TheVariants.Check, declared.work.WorkFault.TheVariants.Text, declared.work.WorkFault.TheVariants.Run, declared.work.WorkFault.TheVariants.Write}
+use Rattle.kahn_fault.specs.{Work.IsChecked, Work.IsUnchecked, declared.work.WorkFault.WorkFault, declared.work.WorkFault.TheVariants.Text, declared.work.WorkFault.TheVariants.Run, declared.work.WorkFault.TheVariants.Write}
 use Rattle.kahn_texts.specs.declared.input.TextFault.{TextFault}
 use Rattle.kahn_inputs.specs.Feeding.{IsInputNote}
 use Rattle.kahn_marks.specs.declared.rendering.Note.{Note}

@@ -1,15 +1,15 @@
-//! What explaining comes to: from a program text to its network, or to why it is refused.
+//! What explaining comes to: from a program text to its network, or to why it or the input text is refused.
 
-ghost use Rattle.std.specs.Prelude.{◌++◌, Bool};
+ghost use Rattle.std.specs.Prelude.{◌++◌, Bool, IfOk};
 ghost use Rattle.kahn_fault.specs.Work.{IsUnchecked};
-ghost use Rattle.kahn_why.specs.inner.Told.{HasAdmitted, HasRefused, HasWritten, IsStrictAbout};
+ghost use Rattle.kahn_why.specs.{Telling.AreInputLines, Telling.HasToldInput, inner.Told.HasAdmitted, inner.Told.HasRefused, inner.Told.HasWritten, inner.Told.IsStrictAbout};
 
-use crate::noting::warned_lines;
-use crate::refusing::refusal_note;
+use crate::refusing::{refusal_note, rendered, warned_lines};
 use crate::why::Finding;
 use kahn_fault::{WorkFault, checked};
+use kahn_inputs::input_note;
 use kahn_streams::{Network, NoMemory, RunFault};
-use kahn_texts::write_line;
+use kahn_texts::{TextFault, write_line};
 use std::alloc::Global;
 use std::io::Write;
 
@@ -91,4 +91,37 @@ pub fn admit<W: Write>(
         return Err(write_both("", notes.as_str(), Came::Refused, writer));
     }
     Ok(Admitted { network, notes })
+}
+
+/// The note on why an input text is refused, in lines, where that has a place.
+fn input_lines(
+    alloc: Global,
+    path: &str,
+    network: &Network,
+    text: &str,
+    fault: TextFault,
+) -> Result<Option<String>, NoMemory>
+    ensures { IfOk result (AreInputLines network.now path.now text.now fault) }
+{
+    let note = input_note(alloc, network, text, fault)?;
+    Ok(rendered(alloc, path, text, &note)?)
+}
+
+/// Writes why an input text is refused, where that has a place; the fault is answered where it has none.
+pub fn refuse_input<W: Write>(
+    alloc: Global,
+    path: &str,
+    program: &str,
+    text: &str,
+    fault: TextFault,
+    writer: &mut W,
+) -> Result<Came, WorkFault>
+    ensures { HasToldInput path.now program.now text.now fault (W.contents writer.old) (W.contents writer.new) result }
+{
+    let network = checked(alloc, program)?;
+    match input_lines(alloc, path, &network, text, fault) {
+        Ok(Some(note)) => write_both("", note.as_str(), Came::Refused, writer),
+        Ok(None) => Err(WorkFault::Text(fault)),
+        Err(NoMemory) => Err(WorkFault::Run(RunFault::NoMemory)),
+    }
 }

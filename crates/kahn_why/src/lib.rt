@@ -3,16 +3,11 @@
 
 mod data;
 mod explaining;
-mod json;
-mod laws;
-mod noting;
 mod refusing;
-mod telling;
 mod why;
 
-pub use explaining::Came;
-pub use laws::for_good;
-pub use telling::refuse_input;
+pub use explaining::{Came, refuse_input};
+pub use why::for_good;
 
 // For the crates above.
 pub use data::write_data;

@@ -1,18 +1,20 @@
-//! Why a program text is refused, as a note on the place.
+//! Why a program text is refused, and what is warned of in it, as notes on the places.
 
-ghost use Rattle.std.specs.Prelude.{◌≡◌, IfOk, MatchOption, None, string_bytes};
+ghost use Rattle.std.specs.Prelude.{◌≡◌, All, IfOk, MatchOption, None, string_bytes};
 ghost use Rattle.kahn_fault.specs.{Work.IsUnchecked, Message.check_span};
 ghost use Rattle.kahn_syntax.specs.Texts.{IsTextFault as IsSyntaxFault};
+ghost use Rattle.kahn_why.specs.Noting.{AreWarningLines, HasShown, StandsIn};
 ghost use Rattle.kahn_why.specs.Refusing.{IsNoteOn, IsPlacedNote, IsRefusal, IsRefusedWords, IsRenderedAs, IsSyntaxNote, IsSyntaxRefusal, expected_of};
 
-use crate::noting::faults_note;
 use kahn_check::{CheckFault, every, part_by_part};
 use kahn_fault::{WorkFault, check_span, syntax_span, syntax_words};
-use kahn_marks::{Note, render};
-use kahn_notes::{character_help, commented_note, unexpected_note};
-use kahn_streams::{NoMemory, Span};
+use kahn_hints::fault_notes;
+use kahn_marks::{MOST_NOTES, Note, add_more, first_ones, render};
+use kahn_notes::{character_help, commented_note, held_remark, unexpected_note};
+use kahn_streams::{NoMemory, Program, Span};
 use kahn_syntax::{SyntaxFault, What, parse};
 use kahn_wanted::comments_of;
+use kahn_warnings::warning_notes;
 use std::alloc::{AllocError, Global};
 
 /// The words of a fault of a program text, with what the language has in the place of such a character.
@@ -95,7 +97,84 @@ fn syntax_refusal(
     Ok(rendered(alloc, path, program, &note)?)
 }
 
-/// The notes on what is wrong with the network of a program text, where its first fault has a place.
+/// What is said below the note on a name that isn't declared: of the comment that holds its declaration.
+fn held_words(
+    alloc: Global,
+    text: &str,
+    comments: &[Span],
+    faults: &[CheckFault],
+    note: &Note,
+) -> Result<String, AllocError> {
+    let from = note.span.from;
+    let mut all = faults.iter();
+    if all.any(|fault| matches!(fault, CheckFault::Unknown(span) if span.from == from)) {
+        return held_remark(alloc, text, note.span, comments);
+    }
+    Ok(String::new(alloc))
+}
+
+/// Adds a note, between what stands before it and behind it.
+fn add_note(
+    lines: &mut String,
+    alloc: Global,
+    path: &str,
+    text: &str,
+    note: &Note,
+    before: &str,
+    behind: &str,
+) -> Result<(), AllocError>
+    ensures { IfOk result (λ _. HasShown path.now text.now note.now (string_bytes lines.old) (string_bytes lines.new)) }
+{
+    let one = render(alloc, path, text, note)?;
+    lines.push_str(before)?;
+    lines.push_str(one.as_str())?;
+    lines.push_str(behind)?;
+    Ok(())
+}
+
+/// Notes in lines, with such a text between, and what is said below those on these faults of a program whose text has these comments.
+fn note_lines(
+    alloc: Global,
+    path: &str,
+    text: &str,
+    notes: &[Note],
+    between: &str,
+    comments: &[Span],
+    faults: &[CheckFault],
+) -> Result<String, AllocError>
+    ensures { IfOk result (λ lines. All (StandsIn path.now text.now (string_bytes lines)) notes.now) }
+{
+    let mut lines = String::new(alloc);
+    for note in notes {
+        let held = held_words(alloc, text, comments, faults, note)?;
+        let before = if lines.is_empty() { "" } else { between };
+        add_note(&mut lines, alloc, path, text, note, before, held.as_str())?;
+    }
+    Ok(lines)
+}
+
+/// The notes on what is warned of in a program of this text, at most 20 of them, and how many more there are; the empty text where there is
+/// nothing to warn of. It refuses only where memory was refused.
+pub(crate) fn warned_lines(
+    alloc: Global,
+    path: &str,
+    text: &str,
+    program: &Program,
+) -> Result<String, NoMemory>
+    ensures { IfOk result (λ lines. AreWarningLines path.now text.now program.now (string_bytes lines)) }
+{
+    let notes = warning_notes(alloc, text, program)?;
+    if notes.is_empty() {
+        return Ok(String::new(alloc));
+    }
+    let (told, more) = first_ones(&notes, MOST_NOTES);
+    let mut lines = note_lines(alloc, path, text, told, "", &[], &[])?;
+    add_more(&mut lines, "", "warning", more.len())?;
+    Ok(lines)
+}
+
+/// The notes on what is wrong with the network of a program text, with a blank line between, and how many more faults there are, where its
+/// first fault has a place.
 fn network_note(
     alloc: Global,
     path: &str,
@@ -117,8 +196,11 @@ fn network_note(
     }
     part_by_part();
     let comments = comments_of(alloc, program)?;
-    let note = faults_note(alloc, path, program, &tree, &comments, &faults)?;
-    Ok(Some(note))
+    let told = fault_notes(alloc, program, &tree, &faults)?;
+    let (notes, between) = (&told.notes, "\n");
+    let mut lines = note_lines(alloc, path, program, notes, between, &comments, &faults)?;
+    add_more(&mut lines, between, "fault", told.more)?;
+    Ok(Some(lines))
 }
 
 /// The note on a fault of a program text, where it has a place: what stands there and what may stand there, or the words of

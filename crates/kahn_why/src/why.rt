@@ -1,10 +1,7 @@
 //! Why the run of an answer stopped.
 
 mod lines;
-mod telling;
 mod told;
-mod verdict;
 mod words;
 
-pub use telling::{causes, explained, explained_each};
-pub use told::{Explanation, Finding};
+pub use told::{Explanation, Finding, causes, explained, explained_each, for_good};

@@ -2,9 +2,17 @@
 use Rattle.std.specs.Prelude.{◌≡◌, ◌⊎◌, ℕ, Bool, true, false, List, [], Option, None, Result, Ok, Err, string_bytes}
 use Rattle.std.specs.Io.KnownBytes.{Appends}
 use Rattle.kahn_streams.specs.{declared.fault.RunFault.TheVariants.NoMemory, Written.AppendsFront}
-use Rattle.kahn_fault.specs.{Work.IsChecked, Work.IsUnchecked, declared.work.WorkFault.WorkFault, declared.work.WorkFault.TheVariants.Syntax, declared.work.WorkFault.TheVariants.Check, declared.work.WorkFault.TheVariants.Text, declared.work.WorkFault.TheVariants.Run, declared.work.WorkFault.TheVariants.Write}
+use Rattle.kahn_streams.specs.{Network.network_of, declared.answer.End.End, declared.answer.Verdict.Verdict, declared.tree.Program.Program}
+use Rattle.kahn_chain.specs.Reasons.{AreReasons}
+use Rattle.kahn_fault.specs.{Work.IsChecked, Work.IsUnchecked, declared.work.WorkFault.WorkFault, declared.work.WorkFault.TheVariants.Text, declared.work.WorkFault.TheVariants.Run, declared.work.WorkFault.TheVariants.Write}
 use Rattle.kahn_texts.specs.declared.bytes.WriteFault.{WriteFault}
-use Rattle.kahn_why.specs.{Noting.AreWarningLines, Refusing.IsRefusal, Refusing.IsRefusedFor, declared.explaining.Admitted.Admitted, declared.explaining.Came.Came, declared.explaining.Came.TheVariants.Stopped, declared.explaining.Came.TheVariants.Refused}
+use Rattle.kahn_why.specs.{Why.BeginsWith, Why.came_to, declared.why.told.Explanation.Explanation, Noting.AreWarningLines, Refusing.IsRefusal, Refusing.IsRefusedFor, declared.explaining.Admitted.Admitted, declared.explaining.Came.Came, declared.explaining.Came.TheVariants.Stopped, declared.explaining.Came.TheVariants.Refused}
+
+-- the reasons are those of the instances, the run came to that, and the words say so first
+pub record IsToldWhy (t : Program) (v : Verdict) (ends : List End) (e : Explanation) : Type 0 where
+  pub reasons : AreReasons (network_of t) v ends e.reasons.items
+  pub told : e.told ≡ came_to v e.reasons.items
+  pub begins : BeginsWith e.told (string_bytes e.text)
 
 -- the text went out, and that came of it; or a fault of the writer
 abbrev pub HasWritten : List ℕ → Came → Option (List ℕ) → Option (List ℕ) → Result Came WorkFault → Type 0

@@ -1,25 +1,40 @@
 //! The causes of a run, each with those that wait because of it, or each instance with its cause.
 
 use crate::why::words::{
-    Places, Story, Wrote, add_led, add_those, add_wait, add_who, advice, for_ever, led_to,
-    source_of,
+    Places, Story, Wrote, add_led, add_those, add_wait, add_who, for_ever, led_to, source_of,
+    writer_of,
 };
 use itoa::Buffer;
 use kahn_chain::{Cause, Reason};
 use kahn_marks::{MOST_NOTES, Other, Sort, add, add_more, first_ones, part_of, render, simple};
 use kahn_streams::{Failure, Outcome, Process, Span};
-use kahn_syntax::{Class, Keyword, Lexeme, SyntaxFault, lex};
+use kahn_syntax::{Class, Keyword, lex};
 use kahn_texts::process_name;
 use kahn_warnings::fault_places;
 use std::alloc::AllocError;
 
-/// The waits on the parameter of that name in the text of a process, of which these lexemes follow its name.
-fn waits_on(story: &Story, lexemes: &[Lexeme], name: &str) -> Places {
+/// Where an instance of a process waits on a channel, in the order of the program text.
+fn channel_waits(story: &Story, instance: usize, process: &Process, channel: usize) -> Places {
     let mut places = Vec::new(story.alloc);
+    if channel >= story.network.channels() {
+        return Ok(places);
+    }
+    let parameter = match story.network.reader(channel) {
+        Some(side) if side.instance == instance => process.parameters.get(side.parameter),
+        _ => None,
+    };
+    let Some(parameter) = parameter else {
+        return Ok(places);
+    };
+    let Ok(lexemes) = lex(story.alloc, story.program) else {
+        return Err(AllocError);
+    };
+    let (name, begin) = (parameter.name.text.as_str(), process.name.span.from);
     for (number, lexeme) in lexemes.iter().enumerate() {
         let waited = lexemes.get(number.saturating_add(2));
         let close = lexemes.get(number.saturating_add(3));
         match (lexeme.what, waited, close) {
+            _ if lexeme.span.from < begin => {}
             (Class::Word(Keyword::Process), _, _) => return Ok(places),
             (Class::Word(Keyword::Wait), Some(waited), Some(close)) => {
                 if part_of(story.program, waited.span) == name {
@@ -33,39 +48,17 @@ fn waits_on(story: &Story, lexemes: &[Lexeme], name: &str) -> Places {
     Ok(places)
 }
 
-/// Where an instance of a process waits on a channel, in the order of the program text.
-fn channel_waits(story: &Story, instance: usize, process: &Process, channel: usize) -> Places {
-    let none = Vec::new(story.alloc);
-    if channel >= story.network.channels() {
-        return Ok(none);
-    }
-    let parameter = match story.network.reader(channel) {
-        Some(side) if side.instance == instance => process.parameters.get(side.parameter),
-        _ => None,
-    };
-    let lexemes = match lex(story.alloc, story.program) {
-        Ok(lexemes) => lexemes,
-        Err(SyntaxFault::NoMemory) => return Err(AllocError),
-        Err(_) => return Ok(none),
-    };
-    let from = process.name.span.from;
-    let first = lexemes.partition_point(|lexeme| lexeme.span.from < from);
-    match (parameter, lexemes.get(first..)) {
-        (Some(parameter), Some(rest)) => waits_on(story, rest, parameter.name.text.as_str()),
-        _ => Ok(none),
-    }
-}
-
 /// Where an instance waits, or where its fault can have come from, in the order of the text.
 fn places_of(story: &Story, reason: &Reason) -> Places {
-    if reason.instance >= story.network.instances() {
-        return Ok(Vec::new(story.alloc));
+    let (instance, none) = (reason.instance, Vec::new(story.alloc));
+    if instance >= story.network.instances() {
+        return Ok(none);
     }
-    let process = story.network.instance(reason.instance).process;
+    let process = story.network.instance(instance).process;
     match reason.end.outcome {
-        Outcome::Waits(channel) => channel_waits(story, reason.instance, process, channel),
+        Outcome::Waits(channel) => channel_waits(story, instance, process, channel),
         Outcome::Faulted(kind) => fault_places(story.alloc, kind, &process.statements),
-        _ => Ok(Vec::new(story.alloc)),
+        _ => Ok(none),
     }
 }
 
@@ -74,7 +67,11 @@ fn below(story: &Story, reason: &Reason, waiting: &[Reason]) -> Result<Vec<Strin
     let mut below = Vec::new(story.alloc);
     if let (Cause::Ring(one), Outcome::Waits(channel)) = (reason.cause, reason.end.outcome) {
         if one == reason.instance {
-            let words = advice(story.network, one, channel);
+            let words = if writer_of(story.network, channel) == Some(one) {
+                "its own queue is empty: let it send before it waits"
+            } else {
+                "this ring wants a first value (let one of its processes send before it waits), or one of them takes more than another sends: kahn_explain --trace shows what came"
+            };
             below.push(String::from_str(story.alloc, words)?)?;
         }
     }
@@ -114,17 +111,6 @@ fn add_error(
     add_more(text, "", "place", more.len())
 }
 
-/// The first instance of the process of an instance that has its fault.
-fn told_before(story: &Story, reason: &Reason) -> Option<usize> {
-    let name = process_name(story.network, reason.instance);
-    let mut all = story.reasons.iter();
-    let first = all.find(|other| {
-        other.end.outcome == reason.end.outcome
-            && process_name(story.network, other.instance) == name
-    });
-    Some(first?.instance)
-}
-
 /// Adds an instance that has a fault; answers with the places that it can have come from, unless they were told of an instance before it.
 fn add_faulted(words: &mut String, story: &Story, reason: &Reason, kind: Failure) -> Places {
     let does = match kind {
@@ -132,10 +118,16 @@ fn add_faulted(words: &mut String, story: &Story, reason: &Reason, kind: Failure
         Failure::Division => " has a fault, division",
     };
     add_who(words, story.network, reason.instance, &[does])?;
-    match told_before(story, reason) {
-        Some(before) if before != reason.instance => {
+    let name = process_name(story.network, reason.instance);
+    let mut all = story.reasons.iter();
+    let first = all.find(|other| {
+        other.end.outcome == reason.end.outcome
+            && process_name(story.network, other.instance) == name
+    });
+    match first {
+        Some(before) if before.instance != reason.instance => {
             words.push_str(": see ")?;
-            add_who(words, story.network, before, &[])?;
+            add_who(words, story.network, before.instance, &[])?;
             Ok(Vec::new(story.alloc))
         }
         _ => places_of(story, reason),
@@ -171,27 +163,23 @@ fn add_reason(text: &mut String, story: &Story, reason: &Reason, waiting: &[Reas
     add_error(text, story, words.as_str(), &places, below)
 }
 
-/// Adds the instances of a ring, with those that wait because of it below the first.
-fn add_ring(text: &mut String, story: &Story, first: usize, waiting: &[Reason]) -> Wrote {
-    let members = led_to(story, first, true)?;
-    let (told, more) = first_ones(&members, MOST_NOTES);
-    for reason in told {
-        let is_first = reason.instance == first;
-        add_reason(text, story, reason, if is_first { waiting } else { &[] })?;
-    }
-    add_more(text, "", "wait", more.len())
-}
-
-/// Adds the cause that is at an instance, if one is, with those that wait because of it.
+/// Adds the cause that is at an instance, if one is, with those that wait because of it: of a ring all its instances, and those below the
+/// first.
 fn add_cause(text: &mut String, story: &Story, instance: usize) -> Wrote {
     let waiting = led_to(story, instance, false)?;
-    let reason = story
-        .reasons
-        .iter()
-        .find(|reason| reason.instance == instance);
+    let mut all = story.reasons.iter();
+    let reason = all.find(|reason| reason.instance == instance);
     match (reason, waiting.first()) {
         (Some(reason), _) if source_of(reason.cause) != instance => Ok(()),
-        (Some(reason), _) if reason.is_on_ring => add_ring(text, story, instance, &waiting),
+        (Some(reason), _) if reason.is_on_ring => {
+            let members = led_to(story, instance, true)?;
+            let (told, more) = first_ones(&members, MOST_NOTES);
+            for reason in told {
+                let is_first = reason.instance == instance;
+                add_reason(text, story, reason, if is_first { &waiting } else { &[] })?;
+            }
+            add_more(text, "", "wait", more.len())
+        }
         (Some(reason), _) => add_reason(text, story, reason, &waiting),
         (None, Some(first)) => {
             let mut words = String::new(story.alloc);

@@ -95,12 +95,7 @@ pub(crate) fn for_ever(reason: &Reason) -> &'static str {
 
 /// Whether there was input.
 pub(crate) fn is_fed(network: &Network, input: &Input) -> bool {
-    for channel in 0..network.channels() {
-        if input.count(channel) > 0 {
-            return true;
-        }
-    }
-    false
+    (0..network.channels()).any(|channel| input.count(channel) > 0)
 }
 
 /// Adds that one waits on an input, and how many values came, all of which are taken, where that is known.
@@ -124,7 +119,7 @@ fn add_input(text: &mut String, story: &Story, channel: usize) -> Wrote {
 }
 
 /// Who writes a channel, if it isn't an input.
-fn writer_of(network: &Network, channel: usize) -> Option<usize> {
+pub(crate) fn writer_of(network: &Network, channel: usize) -> Option<usize> {
     if channel >= network.channels() {
         return None;
     }
@@ -183,13 +178,4 @@ pub(crate) fn add_led(text: &mut String, network: &Network, reason: &Reason) -> 
         Cause::Ring(_) => " is in a deadlock",
     };
     add_who(text, network, source, &[words, for_ever(reason)])
-}
-
-/// What mends a ring, said of the instance in it with the least number, which waits on the channel.
-pub(crate) fn advice(network: &Network, instance: usize, channel: usize) -> &'static str {
-    if writer_of(network, channel) == Some(instance) {
-        "its own queue is empty: let it send before it waits"
-    } else {
-        "this ring wants a first value (let one of its processes send before it waits), or one of them takes more than another sends: kahn_explain --trace shows what came"
-    }
 }

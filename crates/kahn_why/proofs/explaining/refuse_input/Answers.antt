@@ -1,6 +1,6 @@
 use Rattle.std.proofs.{Common.refl, lemmas.Result.err_from_is_err_and}
 use Rattle.kahn_why.proofs.Unfed.{input_out, unfed}
-use Rattle.kahn_why.proofs.telling.refuse_input.Goals as goal
+use Rattle.kahn_why.proofs.explaining.refuse_input.Goals as goal
 
 pub returns-in_err-network : goal.returns-in_err-network
 returns-in_err-network g c =

@@ -1,6 +1,6 @@
 use Rattle.std.proofs.Common.{string_bytes}
 use Rattle.kahn_why.proofs.Noted.{has_shown}
-use Rattle.kahn_why.proofs.noting.add_note.Goals as goal
+use Rattle.kahn_why.proofs.refusing.add_note.Goals as goal
 
 pub returns : goal.returns
 returns c =

@@ -1,6 +1,6 @@
 -- The notes so far stand in the lines.
 use Rattle.kahn_why.proofs.Common.{All, string_bytes, take, StandsIn}
-use Rattle.kahn_why.proofs.noting.faults_note.Given as goal
+use Rattle.kahn_why.proofs.refusing.note_lines.Given as goal
 
 abbrev pub invariant-loop-note : goal.invariant-loop-note
-invariant-loop-note l = All (StandsIn l.path l.text (string_bytes l.lines)) (take l.note-index l.note-items)
+invariant-loop-note l = All (StandsIn l.path l.text (string_bytes l.lines)) (take l.note-index l.notes)
