@@ -3,6 +3,7 @@ use Rattle.kahn_explain.proofs.Common.{◌≡◌, ◌∙◌, ℕ, zero, suc, ◌
 use Rattle.std.proofs.lemmas.List.Elements.{All-from_recursion}
 use Rattle.kahn_streams.specs.{declared.tree.Kind.TheVariants.Integer, Syntax.prints_in}
 use Rattle.kahn_code.specs.Cells.{is_streamed}
+use Rattle.kahn_streams.proofs.By_number.{mapped_at}
 
 -- ---- an output has a stream
 
@@ -31,19 +32,14 @@ in_front [] ys j x e = absurd cc
 in_front (y ∷ xs) ys zero x e = e
 in_front (y ∷ xs) ys (suc j) x e = in_front xs ys j x e
 
-stream_at : (ss : List Stream) (j : ℕ) (c : Line) → slice_get (map stream_line ss) j ≡ Some c → (s : Stream) × (slice_get ss j ≡ Some s) × (s.line ≡ c)
-stream_at [] j c e = absurd cc
-stream_at (s ∷ ss) zero c e = let same : s.line ≡ c = cc in (s, refl, same)
-stream_at (s ∷ ss) (suc j) c e = stream_at ss j c e
-
 pub has_line : (N : Schema) (watch : Option ℕ) (a : Answer) (c : ℕ) → map stream_line a.streams.items ≡ stream_lines N watch → c < length N.channels
     → is_streamed N watch c ≡ true → HasLine a (Channel c)
 has_line N watch a c named below is =
     let row = slice_get-get_or N.channels c (Integer, Inner) below in
     let (j, at) = listed watch N.channels 0 c c _ (omega arith) row is in
-    let (s, has, line) = stream_at a.streams.items j (Channel c)
+    let (s, has, line) = mapped_at stream_line a.streams.items j (Channel c)
     (ap (λ l. slice_get l j) named ∙ in_front (channel_lines watch N.channels 0) (print_lines N.instances 0) j (Channel c) at) in
-    (s, (j, has), line)
+    (s, (j, has), sym line)
 
 pub output_streamed : (N : Schema) (watch : Option ℕ) (c : ℕ) → role_at N c ≡ Output → is_streamed N watch c ≡ true
 output_streamed N watch c e = ap (λ r. is_output r || is_watched watch c) e

@@ -1,5 +1,5 @@
 -- Of which channel most values are left.
-use Rattle.kahn_explain.proofs.Common.{arith, ◌≡◌, ◌⊎◌, inl, inr, ℕ, ◌+◌, ◌<◌, ◌≤◌, List, Option, Some, None, subst, cases_lt, Program, HasLeft, IsFullest, left_of, most_left}
+use Rattle.kahn_explain.proofs.Common.{arith, ◌≡◌, ◌⊎◌, inl, inr, ℕ, ◌+◌, ◌<◌, ◌≤◌, List, subst, cases_lt, Program, IsFullest, left_of}
 use Rattle.kahn_sequential.specs.declared.counted.Count.{Count}
 
 module _ (t : Program) (ns : List Count) (n : ℕ) where
@@ -11,13 +11,8 @@ module _ (t : Program) (ns : List Count) (n : ℕ) where
       by (inl s) = h d s
       by (inr s) = subst (λ e. left_of t ns e ≤ m) (omega (arith, l, s)) k
 
-  pub next_is : (x : Option ℕ) → IsFullest t ns n x → most_left t ns x < left_of t ns n → IsFullest t ns (n + 1) (Some n)
-  next_is x (has, h) more =
-      ((omega arith, omega (arith, more)), all_less (left_of t ns n) (λ d l. let e = h d l in omega (arith, e, more)) (omega arith))
+  pub next_is : (x : ℕ × ℕ) (left : ℕ) → IsFullest t ns n x → left ≡ left_of t ns n → x.1 < left → IsFullest t ns (n + 1) (n, left)
+  next_is x left (has, h) e more = ((λ some. (omega arith, e)), all_less left (λ d l. let k = h d l in omega (arith, k, more)) (omega (arith, e)))
 
-  pub stays : (x : Option ℕ) → IsFullest t ns n x → left_of t ns n ≤ most_left t ns x → IsFullest t ns (n + 1) x
-  stays None (has, h) few = (tt, all_less 0 h few)
-  stays (Some c) (has, h) few = ((let l = has.0 in omega (arith, l), has.1), all_less (left_of t ns c) h few)
-
-  pub listed : (x : Option ℕ) → HasLeft t ns n x → (c : ℕ) → x ≡ Some c → c < n
-  listed x has c e = (subst (HasLeft t ns n) e has).0
+  pub stays : (x : ℕ × ℕ) → IsFullest t ns n x → left_of t ns n ≤ x.1 → IsFullest t ns (n + 1) x
+  stays x (has, h) few = ((λ some. let l = (has some).0 in (omega (arith, l), (has some).1)), all_less x.1 h few)

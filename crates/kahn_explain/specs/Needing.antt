@@ -56,9 +56,9 @@ abbrev pub found_end : Found → Verdict
 found_end found.Bound = Bound
 found_end f = Finished
 
--- what is told of a place, for the input that a text stands for
-abbrev pub IsPlaceTold : Program → List ℕ → Line → ℕ → Verdict → Type 0
-IsPlaceTold t input c k v = (lists : Lists) × (f : Found) × StandsFor t input lists × AreNeedsFound (network_of t) (inputs_of lists) c k f × (v ≡ found_end f)
+-- a search whose end P says ended so
+abbrev pub IsSearchEnd : (Found → Type 0) → Verdict → Type 0
+IsSearchEnd P v = (f : Found) × P f × (v ≡ found_end f)
 
 -- ---- all values of a line
 
@@ -74,9 +74,6 @@ AreRows N I c n = (k : ℕ) → k < n → (x : Needs) × AreNeedsFound N I c k (
 -- all places of a line, up to its end or to the bound
 abbrev pub AreAllNeeds : Schema → Inputs → Line → Found → Type 0
 AreAllNeeds N I c f = (n : ℕ) × AreRows N I c n × AreNeedsFound N I c n f × IsNone f
-
-abbrev pub IsTableTold : Program → List ℕ → Line → Verdict → Type 0
-IsTableTold t input c v = (lists : Lists) × (f : Found) × StandsFor t input lists × AreAllNeeds (network_of t) (inputs_of lists) c f × (v ≡ found_end f)
 
 -- ---- the first values that need one
 
@@ -99,7 +96,7 @@ IsFirstNeeding N I c d j k f = (i : ℕ) → NeedsNot N I c d j i
 -- how the search for it ended, on a line that an instance sends; of an input nothing is sought
 abbrev pub IsFirstEnd : Schema → Inputs → Line → ℕ → Line → Verdict → Type 0
 IsFirstEnd N I d j c v =
-    ((source N c ≡ Given → ⊥) → (k : ℕ) × (f : Found) × IsFirstNeeding N I c d j k f × (v ≡ found_end f)) × (source N c ≡ Given → v ≡ Finished)
+    ((source N c ≡ Given → ⊥) → (k : ℕ) × IsSearchEnd (IsFirstNeeding N I c d j k) v) × (source N c ≡ Given → v ≡ Finished)
 
 -- how two searches ended
 abbrev pub worse : Verdict → Verdict → Verdict
@@ -112,16 +109,12 @@ AreFirstEnds N x I d j zero v = v ≡ Finished
 AreFirstEnds N x I d j (suc n) v =
     (s : Stream) × (u w : Verdict) × (slice_get x.answer.streams.items n ≡ Some s) × AreFirstEnds N x I d j n u × IsFirstEnd N I d j s.line w × (v ≡ worse u w)
 
-abbrev pub AreFirstsTold : Program → List ℕ → Config → Line → ℕ → Verdict → Type 0
-AreFirstsTold t input config d j v =
-    (x : Recorded) × (lists : Lists) × IsRecordedFor t input config x × StandsFor t input lists
-    × AreFirstEnds (network_of t) x (inputs_of lists) d j (length x.answer.streams.items) v
-
--- what a word asks for is told: of a place, or of all places; the other way round, without a place of the first
+-- what a word asks for is told, for the input that a text stands for: of a place, or of all places; the other way round, without a place of the first
 abbrev pub IsReply : Bool → Program → List ℕ → Config → Line → Option ℕ → Verdict → Type 0
-IsReply false t input config c (Some k) v = IsPlaceTold t input c k v
-IsReply false t input config c None v = IsTableTold t input c v
-IsReply true t input config c k v = AreFirstsTold t input config c (unwrap_or k 0) v
+IsReply false t input config c (Some k) v = (lists : Lists) × StandsFor t input lists × IsSearchEnd (AreNeedsFound (network_of t) (inputs_of lists) c k) v
+IsReply false t input config c None v = (lists : Lists) × StandsFor t input lists × IsSearchEnd (AreAllNeeds (network_of t) (inputs_of lists) c) v
+IsReply true t input config c k v = (x : Recorded) × (lists : Lists) × IsRecordedFor t input config x × StandsFor t input lists
+    × AreFirstEnds (network_of t) x (inputs_of lists) c (unwrap_or k 0) (length x.answer.streams.items) v
 
 -- ---- all of it
 

@@ -2,13 +2,11 @@
 //! all that its channels carried.
 #![tactic(auto)]
 
-ghost use Rattle.std.specs.Prelude.{◌≡◌, IfOk, string_bytes};
-ghost use Rattle.kahn_explain.specs.Running.{path_name};
-
 mod explaining;
 mod needing;
 mod pipe;
 mod replying;
+mod request;
 mod running;
 mod tracing;
 mod untaken;
@@ -16,29 +14,19 @@ mod untaken;
 use kahn_fault::{read_texts, shown_path, tell_unread};
 use kahn_line::{ExplainOptions, read_explain_line, tell_line, tell_no_memory, tell_words};
 use pipe::Pipe;
-use replying::Sheet;
-use running::{Paths, Wish, ran};
+use request::{Request, Sheet, Wish};
+use running::ran;
 use std::alloc::{AllocError, Global};
 use std::io::Write;
 use std::process::ExitCode;
 use std::rt::Runtime;
 use std::{env, io};
 
-/// What the path of the program text is called in a note.
-fn path_name(alloc: Global, program: &Option<String>) -> Result<String, AllocError>
-    ensures { IfOk result (λ path. string_bytes path ≡ path_name program.now) }
-{
-    match program {
-        Some(path) => shown_path(alloc, path.as_str()),
-        None => String::from_str(alloc, "<stdin>"),
-    }
-}
-
-/// What the texts that the command line names are called.
-fn paths_of(alloc: Global, options: &ExplainOptions) -> Result<Paths, AllocError> {
-    let program = path_name(alloc, &options.program)?;
-    let input = path_name(alloc, &options.input)?;
-    Ok(Paths { program, input })
+/// What the program text and the input text are called in notes.
+fn paths_of(alloc: Global, options: &ExplainOptions) -> Result<(String, String), AllocError> {
+    let program = options.program.as_deref().unwrap_or("<stdin>");
+    let input = options.input.as_deref().unwrap_or("<stdin>");
+    Ok((shown_path(alloc, program)?, shown_path(alloc, input)?))
 }
 
 /// What the command line asks for.
@@ -54,22 +42,11 @@ fn wish_of(options: &ExplainOptions) -> Wish {
     }
 }
 
-/// The word of what values need, or of what needs one, where one is given.
-fn word_of<'a>(needs: &'a Option<String>, wakes: &'a Option<String>) -> &'a str {
-    match needs {
-        Some(word) => word.as_str(),
-        None => match wakes {
-            Some(word) => word.as_str(),
-            None => "",
-        },
-    }
-}
-
 /// Does what the command line asks for, and gives the status. Faults are told to the writer.
 fn answered<R: Runtime + AllocGlobal, W: Write>(
     rt: &R,
     options: ExplainOptions,
-    paths: &Paths,
+    paths: &(String, String),
     writer: &mut W,
 ) -> u8 {
     let wish = wish_of(&options);
@@ -78,15 +55,21 @@ fn answered<R: Runtime + AllocGlobal, W: Write>(
         Ok(texts) => texts,
         Err(fault) => return tell_unread(rt, "kahn_explain", fault, writer),
     };
-    let word = word_of(&options.needs, &options.wakes);
+    let needs = options.needs.as_deref();
+    let request = Request {
+        path: paths.0.as_str(),
+        program: texts.program.as_str(),
+        input_path: paths.1.as_str(),
+        input: texts.input.as_str(),
+        word: needs.or(options.wakes.as_deref()).unwrap_or(""),
+        strict,
+        all,
+    };
     let mut out = Pipe {
         writer: io::writer(rt),
         gone: false,
     };
-    let alloc = rt.alloc();
-    ran(
-        alloc, paths, &texts, wish, word, config, strict, all, &mut out, writer,
-    )
+    ran(rt.alloc(), wish, request, config, &mut out, writer)
 }
 
 fn main(rt: HostRuntime) -> ExitCode {

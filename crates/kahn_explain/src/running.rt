@@ -1,108 +1,71 @@
 //! What is asked for, from the bytes of the texts to the exit status.
 
 ghost use Rattle.std.specs.Prelude.{◌≡◌};
-ghost use Rattle.kahn_explain.specs.Running.{HasDoneAsData, HasDoneOn, HasExplainedAs, IsFaultTold, IsOrRefused, end_status, texts_of};
+ghost use Rattle.kahn_explain.specs.Running.{HasDone, HasDoneAsData, HasExplainedAs, IsFaultTold, IsOrRefused, end_status};
 
-use crate::explaining::{explain, look, status};
+use crate::explaining::{explain, look};
 use crate::pipe::Pipe;
-use crate::replying::{Sheet, sheet_out};
-use kahn_fault::{Fault, Texts, WorkFault, tell};
-use kahn_streams::Config;
-use kahn_why::{Came, refuse_input, write_data};
+use crate::replying::sheet_out;
+use crate::request::{Request, Wish};
+use kahn_fault::{Fault, WorkFault, tell};
+use kahn_streams::{Config, Verdict};
+use kahn_why::{Came, Finding, refuse_input, write_data};
 use std::alloc::Global;
 use std::io::Write;
-
-/// What is asked for.
-#[derive(Clone, Copy)]
-pub(crate) enum Wish {
-    /// Why a run stopped.
-    Reasons,
-    /// What is wrong with the texts, without a run.
-    Look,
-    /// The same as data.
-    Data,
-    /// A sheet.
-    Sheet(Sheet),
-}
-
-/// What the texts are called in notes.
-#[derive(Drop)]
-pub(crate) struct Paths {
-    pub(crate) program: String,
-    pub(crate) input: String,
-}
 
 /// What running and explaining came to; why the input text is refused is told to the writer, if that has a place.
 fn or_refused<W: Write>(
     alloc: Global,
-    paths: &Paths,
-    texts: &Texts,
+    of: Request<'_>,
     came: Result<Came, WorkFault>,
     writer: &mut W,
 ) -> Result<Came, WorkFault>
-    ensures { IsOrRefused (texts_of paths.now texts.now) came (W.contents writer.old) (W.contents writer.new) result }
+    ensures { IsOrRefused of.entry came (W.contents writer.old) (W.contents writer.new) result }
 {
     match came {
         Err(WorkFault::Text(fault)) => {
-            let (path, program) = (paths.input.as_str(), texts.program.as_str());
-            refuse_input(alloc, path, program, texts.input.as_str(), fault, writer)
+            refuse_input(alloc, of.input_path, of.program, of.input, fault, writer)
         }
         came => came,
     }
 }
 
 /// Looks at the texts, and writes what is said of them as data.
-fn done_as_data<W: Write>(
-    alloc: Global,
-    paths: &Paths,
-    texts: &Texts,
-    strict: bool,
-    out: &mut W,
-) -> Result<Came, WorkFault>
-    ensures { HasDoneAsData (texts_of paths.now texts.now) strict (W.contents out.old) (W.contents out.new) result }
+fn done_as_data<W: Write>(alloc: Global, of: Request<'_>, out: &mut W) -> Result<Came, WorkFault>
+    ensures { HasDoneAsData of.entry (W.contents out.old) (W.contents out.new) result }
 {
-    let (path, input_path) = (paths.program.as_str(), paths.input.as_str());
-    let (program, input) = (texts.program.as_str(), texts.input.as_str());
     let mut lines: Vec<u8> = Vec::new(alloc);
-    let came = look(alloc, path, program, input, strict, &mut lines);
-    let came = or_refused(alloc, paths, texts, came, &mut lines);
-    let of = (path, input_path);
-    write_data(alloc, of, program, input, strict, came, out)
+    let came = look(alloc, of, &mut lines);
+    let came = or_refused(alloc, of, came, &mut lines);
+    let paths = (of.path, of.input_path);
+    write_data(alloc, paths, of.program, of.input, of.strict, came, out)
 }
 
 /// Explains the run of the program on the input; or looks at the texts alone; or writes a sheet, and to the other writer what is told beside
 /// it, or why there is none.
 fn done<W: Write, E: Write>(
     alloc: Global,
-    paths: &Paths,
-    texts: &Texts,
     wish: Wish,
-    word: &str,
+    of: Request<'_>,
     config: Config,
-    strict: bool,
-    all: bool,
     out: &mut W,
     log: &mut E,
 ) -> Result<Came, WorkFault>
-    ensures { HasDoneOn wish word.now (texts_of paths.now texts.now) config strict W.contents out.old out.new E.contents log.old log.new result }
+    ensures { HasDone of.entry wish config (W.contents out.old) (W.contents out.new) (E.contents log.old) (E.contents log.new) result }
 {
-    let path = paths.program.as_str();
-    let (program, input) = (texts.program.as_str(), texts.input.as_str());
     match wish {
         Wish::Reasons => {
-            let came = explain(alloc, path, program, input, config, strict, all, out);
-            or_refused(alloc, paths, texts, came, out)
+            let came = explain(alloc, of, config, out);
+            or_refused(alloc, of, came, out)
         }
         Wish::Look => {
-            let came = look(alloc, path, program, input, strict, out);
-            or_refused(alloc, paths, texts, came, out)
+            let came = look(alloc, of, out);
+            or_refused(alloc, of, came, out)
         }
-        Wish::Data => done_as_data(alloc, paths, texts, strict, out),
+        Wish::Data => done_as_data(alloc, of, out),
         Wish::Sheet(kind) => {
-            let came = sheet_out(
-                alloc, path, program, input, kind, word, config, strict, all, out, log,
-            );
-            or_refused(alloc, paths, texts, came, log)
+            let came = sheet_out(alloc, kind, of, config, out, log);
+            or_refused(alloc, of, came, log)
         }
     }
 }
@@ -113,30 +76,28 @@ fn ended<E: Write>(came: Result<Came, WorkFault>, program: &str, gone: bool, err
     ensures status { result ≡ end_status came }
 {
     match came {
-        Ok(came) => status(came),
+        Ok(Came::Stopped(Finding::Fault)) => 8,
+        Ok(Came::Stopped(Finding::Deadlock)) => 7,
+        Ok(Came::Stopped(Finding::Stop(Verdict::Finished))) => 0,
+        Ok(Came::Stopped(Finding::Stop(Verdict::Bound))) => 3,
+        Ok(Came::Stopped(Finding::Stop(Verdict::Memory))) => 4,
+        Ok(Came::Refused) => 1,
         Err(WorkFault::Write(_)) if gone => 5,
         Err(fault) => tell(&Err(Fault::Work(fault)), program, errors).status,
     }
 }
 
-/// Does what is asked for, with a word where it is what values need, and gives the exit status. What is told beside a sheet, and a fault,
-/// goes to `errors`.
+/// Does what is asked for, and gives the exit status. What is told beside a sheet, and a fault, goes to `errors`.
 pub(crate) fn ran<W: Write, E: Write>(
     alloc: Global,
-    paths: &Paths,
-    texts: &Texts,
     wish: Wish,
-    word: &str,
+    of: Request<'_>,
     config: Config,
-    strict: bool,
-    all: bool,
     out: &mut Pipe<W>,
     errors: &mut E,
 ) -> u8
-    ensures { HasExplainedAs wish word.now (texts_of paths.now texts.now) config strict W.contents out.old out.new E.contents errors.old errors.new result }
+    ensures { HasExplainedAs wish of.entry config W.contents out.old out.new (E.contents errors.old) (E.contents errors.new) result }
 {
-    let came = done(
-        alloc, paths, texts, wish, word, config, strict, all, out, errors,
-    );
-    ended(came, texts.program.as_str(), out.gone, errors)
+    let came = done(alloc, wish, of, config, out, errors);
+    ended(came, of.program, out.gone, errors)
 }

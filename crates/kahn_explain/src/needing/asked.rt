@@ -1,7 +1,7 @@
 //! What a word of the command line asks for: a line of the network, or a place of it.
 
 ghost use Rattle.std.specs.Prelude.{◌≡◌, ◌↔◌, ℕ, true, IfOk, MatchOption, MatchResult, Option, option_map};
-ghost use Rattle.kahn_streams.specs.{Inputs.IsNoName, Network.Given, Network.network_of, Solution.source, declared.value.Line.Line};
+ghost use Rattle.kahn_streams.specs.{Network.Given, Network.network_of, Solution.source, declared.value.Line.Line};
 ghost use Rattle.kahn_needs.specs.Finding.{IsNetworkLine};
 ghost use Rattle.kahn_explain.specs.{inner.Told.IsGivenAs, Needing.IsAskable, Needing.IsLineNamed, Needing.IsPlaceWord, Needing.IsQuestion, Needing.IsUnasked};
 
@@ -50,25 +50,17 @@ fn place_given(word: Option<&str>) -> Option<Option<u64>>
     }
 }
 
-/// The print stream of the process whose number from 1 a word is.
-fn prints_of(network: &Network, word: &str) -> Option<Line>
-    requires { IsNoName network.now word.now }
-    ensures { MatchOption result ((c : Line) → IsLineNamed network.now word.now c → ⊥) (IsLineNamed network.now word.now) }
-{
-    match place_of(word) {
-        Some(one) if one < network.instances() as u64 => Some(Line::Print(one as usize)),
-        Some(_) => None,
-        None => None,
-    }
-}
-
 /// The line that a word names.
 fn line_named(network: &Network, word: &str) -> Option<Line>
     ensures { MatchOption result ((c : Line) → IsLineNamed network.now word.now c → ⊥) (IsLineNamed network.now word.now) }
 {
     match channel_named(network, word) {
         Some(channel) => Some(Line::Channel(channel)),
-        None => prints_of(network, word),
+        None => match place_of(word) {
+            Some(one) if one < network.instances() as u64 => Some(Line::Print(one as usize)),
+            Some(_) => None,
+            None => None,
+        },
     }
 }
 

@@ -3,7 +3,7 @@
 ghost use Rattle.std.specs.Prelude.{◌≡◌, IfOk, MatchResult, true};
 ghost use Rattle.kahn_streams.specs.{Inputs.inputs_of, Network.Given, Network.network_of, Solution.source};
 ghost use Rattle.kahn_needs.specs.Finding.{AreNeedsFound, IsNetworkLine};
-ghost use Rattle.kahn_explain.specs.{Histories.IsUntraced, Needing.IsAskable, Needing.IsPlaceTold, Needing.IsReply, Needing.IsTableTold};
+ghost use Rattle.kahn_explain.specs.{Histories.IsUntraced, Needing.IsSearchEnd, Needing.IsAskable, Needing.IsReply};
 
 use crate::needing::asked::Question;
 use crate::needing::rows::table_of;
@@ -12,71 +12,31 @@ use crate::needing::waking::firsts;
 use crate::tracing::recorded;
 use kahn_code::CodeFault;
 use kahn_fault::WorkFault;
-use kahn_needs::{Found, Seeker};
+use kahn_needs::Seeker;
+use kahn_sequential::Recorded;
 use kahn_streams::{Config, Input, Line, Network, RunFault, Verdict};
 use kahn_texts::read_input;
 use std::alloc::Global;
 
-/// What the value at a place of a line needs.
-fn found_at(
+/// What is told of what the value at a place of a line needs, with the counts of the whole run.
+fn place_told(
     alloc: Global,
     network: &Network,
+    run: &Recorded,
     input: &Input,
     line: Line,
     place: u64,
     bound: u64,
-) -> Result<Found, CodeFault>
+) -> Result<(String, Verdict), CodeFault>
     requires line { IsNetworkLine (network_of network.now) line }
     requires written { source (network_of network.now) line ≡ Given → ⊥ }
-    ensures { IfOk result (AreNeedsFound (network_of network.now) (inputs_of input.now) line place) }
+    ensures { IfOk result (λ r. IsSearchEnd (AreNeedsFound (network_of network.now) (inputs_of input.now) line place) r.1) }
 {
     let mut seeker = Seeker::new(alloc, network, input, line, bound)?;
-    seeker.find(alloc, place)
-}
-
-/// What is told of a place of a line, with the counts of the whole run.
-fn place_told(
-    alloc: Global,
-    network: &Network,
-    text: &str,
-    config: Config,
-    line: Line,
-    place: u64,
-) -> Result<(String, Verdict), WorkFault>
-    requires line { IsNetworkLine (network_of network.now) line }
-    requires written { source (network_of network.now) line ≡ Given → ⊥ }
-    ensures { MatchResult result (λ r. IsPlaceTold network.now text.now line place r.1) (IsUntraced network.now text.now config) }
-{
-    let bound = config.bound;
-    let kept = recorded(alloc, network, text, config)?;
-    let input = read_input(alloc, text, network)?;
-    let Ok(found) = found_at(alloc, network, &input, line, place, bound) else {
-        return Err(WorkFault::Run(RunFault::NoMemory));
-    };
+    let found = seeker.find(alloc, place)?;
     let mut words = String::new(alloc);
-    match add_found(alloc, &mut words, network, &kept, line, place, &found) {
-        Ok(_) => Ok((words, found_end(&found))),
-        Err(_) => Err(WorkFault::Run(RunFault::NoMemory)),
-    }
-}
-
-/// The table of a line.
-fn table_told(
-    alloc: Global,
-    network: &Network,
-    text: &str,
-    config: Config,
-    line: Line,
-) -> Result<(String, Verdict), WorkFault>
-    requires line { IsNetworkLine (network_of network.now) line }
-    requires written { source (network_of network.now) line ≡ Given → ⊥ }
-    ensures { MatchResult result (λ r. IsTableTold network.now text.now line r.1) (IsUntraced network.now text.now config) }
-{
-    let input = read_input(alloc, text, network)?;
-    match table_of(alloc, network, &input, line, config.bound) {
-        Ok((text, found)) => Ok((text, found_end(&found))),
-        Err(_) => Err(WorkFault::Run(RunFault::NoMemory)),
-    }
+    add_found(alloc, &mut words, network, run, line, place, false, &found)?;
+    Ok((words, found_end(&found)))
 }
 
 /// What is told of the first values that need the one at a place of an input, with the counts of the whole run.
@@ -116,8 +76,19 @@ pub(crate) fn replied(
     if wakes {
         return firsts_told(alloc, network, text, config, question);
     }
+    let (line, bound) = (question.line, config.bound);
+    let input = read_input(alloc, text, network)?;
     match question.place {
-        Some(place) => place_told(alloc, network, text, config, question.line, place),
-        None => table_told(alloc, network, text, config, question.line),
+        None => match table_of(alloc, network, &input, line, bound) {
+            Ok(told) => Ok(told),
+            Err(_) => Err(WorkFault::Run(RunFault::NoMemory)),
+        },
+        Some(place) => {
+            let kept = recorded(alloc, network, text, config)?;
+            match place_told(alloc, network, &kept, &input, line, place, bound) {
+                Ok(told) => Ok(told),
+                Err(_) => Err(WorkFault::Run(RunFault::NoMemory)),
+            }
+        }
     }
 }

@@ -3,17 +3,19 @@
 ghost use Rattle.std.specs.Prelude.{◌≡◌, IfOk};
 ghost use Rattle.kahn_streams.specs.{Inputs.inputs_of, Network.Given, Network.network_of, Solution.source};
 ghost use Rattle.kahn_needs.specs.Finding.{IsNetworkLine};
-ghost use Rattle.kahn_explain.specs.Needing.{AreAllNeeds};
+ghost use Rattle.kahn_explain.specs.Needing.{AreAllNeeds, IsSearchEnd};
 
-use crate::tracing::{add_line, add_numbers, add_value};
+use crate::needing::texts::found_end;
+use crate::tracing::{TableText, add_line, add_numbers, add_value};
 use itoa::Buffer;
 use kahn_code::CodeFault;
-use kahn_needs::{Found, Needs, Seeker};
-use kahn_streams::{Input, Line, Network};
-use std::alloc::{AllocError, Global};
+use kahn_marks::add;
+use kahn_needs::{Found, Seeker};
+use kahn_streams::{Input, Line, Network, Verdict};
+use std::alloc::Global;
 
 /// The row that heads the columns.
-fn needs_head(alloc: Global, network: &Network) -> Result<String, AllocError> {
+fn needs_head(alloc: Global, network: &Network) -> TableText {
     let mut text = String::from_str(alloc, "place,value")?;
     for channel in 0..network.channels() {
         text.push_str(",")?;
@@ -27,17 +29,6 @@ fn needs_head(alloc: Global, network: &Network) -> Result<String, AllocError> {
     Ok(text)
 }
 
-/// Adds the row of a place.
-fn add_row(text: &mut String, place: u64, needs: &Needs) -> Result<(), AllocError> {
-    let mut digits = Buffer::new();
-    text.push_str(digits.format(place as u128 + 1))?;
-    text.push_str(",")?;
-    add_value(text, needs.value)?;
-    add_numbers(text, needs.values.as_slice())?;
-    add_numbers(text, needs.events.as_slice())?;
-    text.push_str("\n")
-}
-
 /// Adds the rows of a line up to its end or to the bound, and tells which.
 fn add_rows(alloc: Global, text: &mut String, seeker: &mut Seeker<'_>) -> Result<Found, CodeFault>
     requires { seeker.old.next ≡ 0 }
@@ -45,8 +36,16 @@ fn add_rows(alloc: Global, text: &mut String, seeker: &mut Seeker<'_>) -> Result
 {
     for place in 0..u64::MAX {
         let found = seeker.find(alloc, place)?;
+        let mut digits = Buffer::new();
+        let number = digits.format(place as u128 + 1);
         match found {
-            Found::Needs(needs) => add_row(text, place, &needs)?,
+            Found::Needs(needs) => {
+                add(text, &[number, ","])?;
+                add_value(text, needs.value)?;
+                add_numbers(text, needs.values.as_slice())?;
+                add_numbers(text, needs.events.as_slice())?;
+                text.push_str("\n")?;
+            }
             Found::Never => return Ok(Found::Never),
             Found::Ring => return Ok(Found::Ring),
             Found::Bound => return Ok(Found::Bound),
@@ -62,13 +61,13 @@ pub(crate) fn table_of(
     input: &Input,
     line: Line,
     bound: u64,
-) -> Result<(String, Found), CodeFault>
+) -> Result<(String, Verdict), CodeFault>
     requires line { IsNetworkLine (network_of network.now) line }
     requires written { source (network_of network.now) line ≡ Given → ⊥ }
-    ensures { IfOk result (λ r. AreAllNeeds (network_of network.now) (inputs_of input.now) line r.1) }
+    ensures { IfOk result (λ r. IsSearchEnd (AreAllNeeds (network_of network.now) (inputs_of input.now) line) r.1) }
 {
     let mut text = needs_head(alloc, network)?;
     let mut seeker = Seeker::new(alloc, network, input, line, bound)?;
     let found = add_rows(alloc, &mut text, &mut seeker)?;
-    Ok((text, found))
+    Ok((text, found_end(&found)))
 }

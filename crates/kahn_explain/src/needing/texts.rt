@@ -11,14 +11,6 @@ use kahn_sequential::Recorded;
 use kahn_streams::{Line, Network, Verdict};
 use std::alloc::{AllocError, Global};
 
-/// How many values a channel had in a run, or how many events a process did.
-fn whole_count(run: &Recorded, line: Line) -> u64 {
-    match line {
-        Line::Channel(channel) => run.counts.get(channel).map_or(0, |count| count.sent),
-        Line::Print(instance) => run.answer.ends.get(instance).map_or(0, |end| end.events),
-    }
-}
-
 /// Adds how many of a channel or a process are needed, by its name, behind others; nothing where none is. Where the run has finished, of
 /// how many.
 fn add_count(
@@ -38,7 +30,11 @@ fn add_count(
     let mut digits = Buffer::new();
     add(text, &[": ", digits.format(count)])?;
     if let Verdict::Finished = run.answer.verdict {
-        add(text, &[" of ", digits.format(whole_count(run, line))])?;
+        let whole = match line {
+            Line::Channel(channel) => run.counts.get(channel).map_or(0, |count| count.sent),
+            Line::Print(instance) => run.answer.ends.get(instance).map_or(0, |end| end.events),
+        };
+        add(text, &[" of ", digits.format(whole)])?;
     }
     Ok(())
 }
@@ -70,7 +66,7 @@ fn add_needs(
     add(text, &[events.as_str(), "\n"])
 }
 
-/// Adds a place of a line, and what was found of it.
+/// Adds a place of a line, and what was found of it; or, where the first value that needs one was sought, that none does.
 pub(crate) fn add_found(
     alloc: Global,
     text: &mut String,
@@ -78,37 +74,22 @@ pub(crate) fn add_found(
     run: &Recorded,
     line: Line,
     place: u64,
+    wakes: bool,
     found: &Found,
 ) -> Result<(), AllocError> {
     add_line(text, network, line)?;
-    let mut digits = Buffer::new();
-    add(text, &[":", digits.format(place as u128 + 1)])?;
-    match found {
-        Found::Needs(needs) => add_needs(alloc, text, network, run, needs),
-        Found::Never => text.push_str(" never comes\n"),
-        Found::Ring => {
-            text.push_str(" never comes: processes that it waits for wait on one another\n")
-        }
-        Found::Bound => text.push_str(" doesn't come within the bound\n"),
+    if !wakes || matches!(found, Found::Needs(_)) {
+        let mut digits = Buffer::new();
+        add(text, &[":", digits.format(place as u128 + 1)])?;
     }
-}
-
-/// Adds the first value of a line that needs one, and what else it needs; or that none does.
-pub(crate) fn add_first(
-    alloc: Global,
-    text: &mut String,
-    network: &Network,
-    run: &Recorded,
-    line: Line,
-    place: u64,
-    found: &Found,
-) -> Result<(), AllocError> {
     let words = match found {
-        Found::Needs(_) => return add_found(alloc, text, network, run, line, place, found),
-        Found::Never | Found::Ring => ": no value needs it\n",
-        Found::Bound => ": no value needs it within the bound\n",
+        Found::Needs(needs) => return add_needs(alloc, text, network, run, needs),
+        Found::Never | Found::Ring if wakes => ": no value needs it\n",
+        Found::Bound if wakes => ": no value needs it within the bound\n",
+        Found::Never => " never comes\n",
+        Found::Ring => " never comes: processes that it waits for wait on one another\n",
+        Found::Bound => " doesn't come within the bound\n",
     };
-    add_line(text, network, line)?;
     text.push_str(words)
 }
 

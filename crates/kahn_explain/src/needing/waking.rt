@@ -6,7 +6,7 @@ ghost use Rattle.kahn_needs.specs.Finding.{IsNetworkLine};
 ghost use Rattle.kahn_explain.specs.{Needing.AreFirstEnds, Needing.IsFirstEnd, Needing.IsFirstNeeding, Needing.values_on, Needing.worse, inner.Columns.IsRecord, inner.Told.EndsSearch};
 
 use crate::needing::asked::is_given;
-use crate::needing::texts::{add_first, found_end};
+use crate::needing::texts::{add_found, found_end};
 use kahn_code::CodeFault;
 use kahn_needs::{Found, Needs, Seeker};
 use kahn_sequential::Recorded;
@@ -88,7 +88,7 @@ fn add_line(
     }
     let mut seeker = Seeker::new(alloc, network, lists, line, bound)?;
     let first = first_needing(alloc, &mut seeker, input, place)?;
-    add_first(alloc, text, network, run, line, first.0, &first.1)?;
+    add_found(alloc, text, network, run, line, first.0, true, &first.1)?;
     Ok(found_end(&first.1))
 }
 

@@ -1,27 +1,15 @@
 //! The histories of all channels and print streams of a run that kept all that was sent.
 
-ghost use Rattle.std.specs.Prelude.{◌≡◌, ◌<◌, ◌++◌, IfOk, MatchOption, MatchResult, false, flat_map, length, map};
+ghost use Rattle.std.specs.Prelude.{◌≡◌, ◌<◌, ◌++◌, IfOk, MatchResult, false, length, map};
 ghost use Rattle.kahn_streams.specs.{Answers.HasStream, Answers.is_output, Network.network_of, Network.role_at, declared.value.Line.TheVariants.Channel};
 ghost use Rattle.kahn_fault.specs.Work.{IsUnanswered};
-ghost use Rattle.kahn_explain.specs.{Histories.IsRecordedFor, inner.Columns.AreAllHistories, inner.Columns.AreOfChannels, inner.Columns.HasLine, inner.Columns.IsHistoryOf, inner.Columns.IsRecord, inner.Columns.print_part};
+ghost use Rattle.kahn_explain.specs.{Histories.IsRecordedFor, inner.Columns.AreAllHistories, inner.Columns.HasLine, inner.Columns.IsHistoryOf, inner.Columns.IsRecord, inner.Columns.print_part};
 
 use kahn_fault::WorkFault;
 use kahn_sequential::{Recorded, run_recorded};
 use kahn_streams::{Answer, Config, Line, Network, Role, Stream};
 use kahn_texts::read_input;
 use std::alloc::{AllocError, Global};
-
-/// The stream of a line, where an answer has one.
-fn stream_of(answer: &Answer, line: Line) -> Option<&Stream>
-    ensures { MatchOption result (HasLine answer.now line → ⊥) (λ s. HasStream answer.now s.now × (s.now.line ≡ line)) }
-{
-    for stream in &answer.streams {
-        if stream.line == line {
-            return Some(stream);
-        }
-    }
-    None
-}
 
 /// The run of a network for an input text, with all that was sent. It refuses as `read_input` and `run_recorded` do.
 pub(crate) fn recorded(
@@ -44,10 +32,12 @@ fn streamed(answer: &Answer, line: Line) -> &Stream
     requires { HasLine answer.now line }
     ensures { HasStream answer.now result.now × (result.now.line ≡ line) }
 {
-    let Some(stream) = stream_of(answer, line) else {
-        unreachable!()
-    };
-    stream
+    for stream in &answer.streams {
+        if stream.line == line {
+            return stream;
+        }
+    }
+    unreachable!()
 }
 
 /// The history of a channel that isn't an output.
@@ -82,33 +72,6 @@ fn add_print<'r>(columns: &mut Vec<&'r Stream>, stream: &'r Stream) -> Result<()
     }
 }
 
-/// Adds the print streams of an answer.
-fn add_prints<'r>(columns: &mut Vec<&'r Stream>, answer: &'r Answer) -> Result<(), AllocError>
-    ensures { IfOk result (λ _. map (λ s. s.now) columns.new.items ≡ map (λ s. s.now) columns.old.items ++ flat_map print_part answer.now.streams.items) }
-{
-    for stream in &answer.streams {
-        add_print(columns, stream)?;
-    }
-    Ok(())
-}
-
-/// The histories of all channels.
-fn channel_columns<'r>(
-    alloc: Global,
-    network: &Network,
-    run: &'r Recorded,
-) -> Result<Vec<&'r Stream>, AllocError>
-    requires { IsRecord network.now run.now }
-    ensures { IfOk result (λ xs. AreOfChannels network.now run.now (map (λ s. s.now) xs.items)) }
-{
-    let mut columns = Vec::new(alloc);
-    for channel in 0..network.channels() {
-        let stream = history(network, run, channel);
-        columns.push(stream)?;
-    }
-    Ok(columns)
-}
-
 /// The histories of all channels and print streams of a run, from place 0 on, as far as they came. Each begins the history of its line, and
 /// where the answer has finished it is the whole of it.
 pub fn columns_of<'r>(
@@ -119,7 +82,13 @@ pub fn columns_of<'r>(
     requires { IsRecord network.now run.now }
     ensures { IfOk result (λ xs. AreAllHistories network.now run.now (map (λ s. s.now) xs.items)) }
 {
-    let mut columns = channel_columns(alloc, network, run)?;
-    add_prints(&mut columns, &run.answer)?;
+    let mut columns = Vec::new(alloc);
+    for channel in 0..network.channels() {
+        let stream = history(network, run, channel);
+        columns.push(stream)?;
+    }
+    for stream in &run.answer.streams {
+        add_print(&mut columns, stream)?;
+    }
     Ok(columns)
 }

@@ -1,8 +1,5 @@
 //! The texts of the tables of a run: of histories, a column for each line and a row for each place; and of counts, a row for each channel.
 
-ghost use Rattle.std.specs.Prelude.{◌<◌, length};
-ghost use Rattle.kahn_streams.specs.Network.{network_of};
-
 use itoa::Buffer;
 use kahn_marks::add;
 use kahn_sequential::Recorded;
@@ -44,19 +41,6 @@ pub(crate) fn add_value(text: &mut String, value: Value) -> Result<(), AllocErro
     }
 }
 
-/// Adds the row of a place, which is counted from 1: the value of each column there, or nothing past its last.
-fn add_row(text: &mut String, columns: &[&Stream], place: usize) -> Result<(), AllocError> {
-    let mut buffer = Buffer::new();
-    text.push_str(buffer.format(place as u128 + 1))?;
-    for column in columns {
-        text.push_str(",")?;
-        if let Some(token) = column.tokens.get(place) {
-            add_value(text, token.value())?;
-        }
-    }
-    text.push_str("\n")
-}
-
 /// The table of columns of a network: a row that heads them, the first with the word `place`, and a row for each place, from 1
 /// to that of the last value of all, with the value of each column there, or nothing where it has none. Between columns stand
 /// commas. It refuses only where memory was refused.
@@ -73,7 +57,15 @@ pub fn trace_text(alloc: Global, network: &Network, columns: &[&Stream]) -> Tabl
     }
     text.push_str("\n")?;
     for place in 0..places {
-        add_row(&mut text, columns, place)?;
+        let mut digits = Buffer::new();
+        text.push_str(digits.format(place as u128 + 1))?;
+        for column in columns {
+            text.push_str(",")?;
+            if let Some(token) = column.tokens.get(place) {
+                add_value(&mut text, token.value())?;
+            }
+        }
+        text.push_str("\n")?;
     }
     Ok(text)
 }
@@ -90,33 +82,20 @@ pub(crate) fn add_side(
     }
 }
 
-/// Adds the row of a channel.
-fn add_count(
-    text: &mut String,
-    network: &Network,
-    run: &Recorded,
-    channel: usize,
-) -> Result<(), AllocError>
-    requires { channel < length (network_of network.now).channels }
-{
-    let Some(count) = run.counts.get(channel) else {
-        return Ok(());
-    };
-    add(text, &[channel_name(network, channel), ","])?;
-    add_side(text, network, network.writer(channel))?;
-    text.push_str(",")?;
-    add_side(text, network, network.reader(channel))?;
-    let left = count.sent.saturating_sub(count.taken);
-    add_numbers(text, &[count.sent, count.taken, left])?;
-    text.push_str("\n")
-}
-
 /// The table of the counts of the channels of a run: a row that heads the columns, and for each channel a row with its name, the
 /// processes that write and read it, and how many values were sent, taken and left.
 pub(crate) fn counts_text(alloc: Global, network: &Network, run: &Recorded) -> TableText {
     let mut text = String::from_str(alloc, "channel,from,to,sent,taken,left\n")?;
     for channel in 0..network.channels() {
-        add_count(&mut text, network, run, channel)?;
+        if let Some(count) = run.counts.get(channel) {
+            add(&mut text, &[channel_name(network, channel), ","])?;
+            add_side(&mut text, network, network.writer(channel))?;
+            text.push_str(",")?;
+            add_side(&mut text, network, network.reader(channel))?;
+            let left = count.sent.saturating_sub(count.taken);
+            add_numbers(&mut text, &[count.sent, count.taken, left])?;
+            text.push_str("\n")?;
+        }
     }
     Ok(text)
 }

@@ -1,4 +1,4 @@
-use Rattle.kahn_explain.proofs.Common.{refl, string_bytes, answered}
+use Rattle.kahn_explain.proofs.Common.{refl, string_bytes, answered, are_allowed}
 use Rattle.kahn_explain.proofs.Kept_columns.{right_run}
 use Rattle.kahn_explain.proofs.replying.table_of.Goals as goal
 
@@ -8,16 +8,15 @@ run_table-requires c = let ran = c.in_ok-kept.ensures in (ran.0, c.args.config, 
 pub told_of-requires : goal.told_of-requires
 told_of-requires c =
     let ran = c.in_ok-kept.ensures in
-    answered c.args.program.now c.args.network.now c.args.config ran.0 c.in_ok-kept.kept.answer c.requires
-    (right_run c.args.network.now ran.0 c.args.config c.in_ok-kept.kept ran.2)
+    answered c.args.of.program.now c.args.it.now.network c.args.config ran.0 c.in_ok-kept.kept.answer c.requires.checked
+    (right_run c.args.it.now.network ran.0 c.args.config c.in_ok-kept.kept ran.2)
 
 pub returns : goal.returns
-returns c = (
-  c.in_ok-kept.kept,
-  c.in-Ok-told_of.told,
-  string_bytes c.in-Ok-told_of.words,
-  c.in_ok-kept.ensures,
-  c.in-Ok-told_of.ensures,
-  refl,
-  c.beside.ensures,
-)
+returns c =
+    let it = c.args.it.now in (
+      string_bytes it.notes,
+      string_bytes c.beside.result,
+      are_allowed c.args.of.path.now c.args.of.program.now c.args.of.strict it c.requires,
+      (it.network, c.in_ok-kept.kept, string_bytes c.in-Ok-told_of.words, c.requires.checked, c.in_ok-kept.ensures, c.in-Ok-told_of.ensures, c.beside.ensures),
+      refl,
+    )

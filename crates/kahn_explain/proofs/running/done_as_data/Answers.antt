@@ -8,7 +8,7 @@ returns g c = (
   Some c.new-lines.result.items,
   _,
   _,
-  rw (c.as_str-path.ensures.value, c.as_str-program.ensures.value, c.as_str-input.ensures.value) at c.look-came.ensures,
+  c.look-came.ensures,
   c.or_refused-came.ensures,
   c.write_data.ensures,
 )

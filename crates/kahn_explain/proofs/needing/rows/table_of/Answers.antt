@@ -6,4 +6,7 @@ pub add_rows-requires : goal.add_rows-requires
 add_rows-requires c = c.in_ok-seeker.ensures.3
 
 pub returns : goal.returns
-returns c = let e = c.in_ok-seeker.ensures in same_search (λ N I l. AreAllNeeds N I l c.in_ok-found.found) e.0 e.1 e.2 c.in_ok-found.ensures
+returns c =
+    let e = c.in_ok-seeker.ensures in
+    let f = c.in_ok-found.found in
+    (f, same_search (λ N I l. AreAllNeeds N I l f) e.0 e.1 e.2 c.in_ok-found.ensures, c.found_end.ensures)

@@ -15,6 +15,6 @@ pub returns : goal.returns
 returns c =
     let (k, f) = c.in_ok-first.first in
     let e = c.in_ok-seeker.ensures in (
-      (λ made. (k, f, same_search (λ N I l. IsFirstNeeding N I l c.args.input c.args.place k f) e.0 e.1 e.2 c.in_ok-first.ensures, c.found_end.ensures)),
+      (λ made. (k, (f, same_search (λ N I l. IsFirstNeeding N I l c.args.input c.args.place k f) e.0 e.1 e.2 c.in_ok-first.ensures, c.found_end.ensures))),
       λ given. absurd (iff_false c.is_given.ensures c.if-is_given.false given),
     )
