@@ -2,14 +2,14 @@
 use Rattle.std.specs.Prelude.{◌≡◌, ℕ, ◌⊎◌, ◌++◌, List, [], Some, Ok, codes, false, string_bytes}
 use Rattle.kahn_streams.specs.{declared.tree.Program.Program, declared.answer.Answer.Answer}
 use Rattle.kahn_texts.specs.{Formats.IsInputTextFault, declared.input.TextFault.TextFault}
-use Rattle.kahn_fault.specs.Work.{IsChecked}
+use Rattle.kahn_fault.specs.Work.{IsChecked, IsTextAnswer}
 use Rattle.kahn_why.specs.{Refusing.AreAllowed, Refusing.IsRefusedFor, Telling.HasToldInput, Why.IsExplained, declared.explaining.Came.Came, declared.why.told.Explanation.Explanation}
-use Rattle.kahn_web.specs.Alone.{IsRunAlone}
+use Rattle.kahn_web.specs.Alone.{alone}
 
 -- why a run of a program stopped, which is called `program` in notes, behind the notes on what is warned of in it
 abbrev pub IsRunExplained : List ℕ → List ℕ → ℕ → List ℕ → Type 0
 IsRunExplained program input bound text = (t : Program) × (a : Answer) × (notes : List ℕ) × (e : Explanation)
-    × IsChecked program t × IsRunAlone t input bound a × AreAllowed (codes "program") program false notes
+    × IsChecked program t × IsTextAnswer t input (alone bound) a × AreAllowed (codes "program") program false notes
     × IsExplained t a e × (text ≡ notes ++ string_bytes e.text)
 
 -- the note on the fault of the input of a program, which is called `input`

@@ -30,10 +30,7 @@ channels_text t x (suc n) = channels_text t x n ++ (flow_text t n (slice_get x.c
 abbrev pub whole_text : Program → Recorded → List ℕ
 whole_text t x = channels_text t x (length (network_of t).channels) ++ report_text t x.answer
 
--- a run that kept all channels, for what an input text describes
-abbrev pub IsRunRecorded : Program → List ℕ → Config → Recorded → Type 0
-IsRunRecorded t text config x = (lists : Lists) × StandsFor t text lists × IsRecordedRun t lists config x
-
+-- those of a run that kept all channels, for what an input text describes
 abbrev pub IsWholeText : List ℕ → List ℕ → ℕ → ℕ → List ℕ → Type 0
-IsWholeText program input quantum bound text =
-    (t : Program) × (x : Recorded) × IsChecked program t × IsRunRecorded t input (turning quantum bound) x × (text ≡ whole_text t x)
+IsWholeText program input quantum bound text = (t : Program) × (lists : Lists) × (x : Recorded)
+    × IsChecked program t × StandsFor t input lists × IsRecordedRun t lists (turning quantum bound) x × (text ≡ whole_text t x)

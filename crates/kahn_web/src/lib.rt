@@ -2,7 +2,6 @@
 //! out, or of why the run stopped, or of what each channel carried; the bytes of a program in, those of a picture out.
 #![tactic(auto)]
 
-ghost use Rattle.std.specs.Prelude.{IfSome, string_bytes};
 ghost use Rattle.kahn_web.specs.{Explained.IsReason, Page.IsPut, Page.IsPutIf, Page.IsRunInto, Picture.IsNetworkPicture, Whole.IsWholeText};
 
 mod alone;
@@ -57,31 +56,21 @@ pub extern "C" fn kahn_web_run(
     };
 }
 
-/// The picture of a program's network. There is none where the text isn't UTF-8, where the program is refused, and where memory is.
-fn drawn(alloc: Global, program: &[u8]) -> Option<String>
-    ensures { IfSome result (λ picture. IsNetworkPicture program.now (string_bytes picture)) }
-{
-    let Ok(program) = std::str::from_utf8(program) else {
-        return None;
-    };
-    let Ok(network) = checked(alloc, program) else {
-        return None;
-    };
-    match picture_text(alloc, &network, program, &[], &[]) {
-        Ok(picture) => Some(picture),
-        Err(_) => None,
-    }
-}
-
 /// Draws the network of a program. The picture, in the language of Graphviz, is copied as a report is, and its length is given, which
-/// is 0 where there is no picture.
+/// is 0 where there is none: where the text isn't UTF-8, where the program is refused, and where memory is.
 #[unsafe(no_mangle)]
 pub extern "C" fn kahn_web_draw(alloc: Global, program: &[u8], room: &mut [u8]) -> u64
     ensures { IsPutIf (IsNetworkPicture program.now) room.old room.new result }
 {
-    match drawn(alloc, program) {
-        Some(picture) => put(picture.as_bytes(), room),
-        None => 0,
+    let Ok(program) = std::str::from_utf8(program) else {
+        return 0;
+    };
+    let Ok(network) = checked(alloc, program) else {
+        return 0;
+    };
+    match picture_text(alloc, &network, program, &[], &[]) {
+        Ok(picture) => put(picture.as_bytes(), room),
+        Err(_) => 0,
     }
 }
 

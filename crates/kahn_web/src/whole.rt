@@ -1,9 +1,9 @@
 //! All channels of a run, for texts that are bytes: how many values each had, what they were, and how many were taken.
 
-ghost use Rattle.std.specs.Prelude.{◌≡◌, ◌<◌, ◌++◌, IfSome, OnOk, Some, length, slice_get};
+ghost use Rattle.std.specs.Prelude.{◌≡◌, ◌<◌, IfOk, IfSome, Some, length, slice_get};
 ghost use Rattle.kahn_streams.specs.{Network.network_of, Written.Writes};
 ghost use Rattle.kahn_texts.specs.Formats.{HasItsLines};
-ghost use Rattle.kahn_web.specs.Whole.{IsRunRecorded, IsWholeText, channels_text, flow_text, history_text, turning, whole_text};
+ghost use Rattle.kahn_web.specs.Whole.{IsWholeText, flow_text, history_text, whole_text};
 
 use itoa::Buffer;
 use kahn_fault::checked;
@@ -11,31 +11,6 @@ use kahn_sequential::{Recorded, run_recorded};
 use kahn_streams::{Config, Line, Network};
 use kahn_texts::{WriteFault, channel_name, read_input, write_line, write_news, write_report};
 use std::alloc::Global;
-
-/// The run of a network for an input text that keeps all channels, with at most so many events in a turn.
-fn recorded(
-    alloc: Global,
-    network: &Network,
-    text: &str,
-    quantum: u64,
-    bound: u64,
-) -> Option<Recorded>
-    ensures { IfSome result (IsRunRecorded network.now text.now (turning quantum bound)) }
-{
-    let Ok(input) = read_input(alloc, text, network) else {
-        return None;
-    };
-    let config = Config {
-        workers: 1,
-        quantum,
-        bound,
-        watch: None,
-    };
-    match run_recorded(alloc, network, input, config) {
-        Ok(run) => Some(run),
-        Err(_) => None,
-    }
-}
 
 /// Writes how many values a channel had, and how many of them were taken.
 fn put_count(
@@ -72,30 +47,18 @@ fn put_history(
     }
 }
 
-/// Writes this of all channels.
-fn put_channels(written: &mut Vec<u8>, network: &Network, run: &Recorded) -> Result<(), WriteFault>
-    ensures { OnOk result (written.new.items ≡ written.old.items ++ channels_text network.now run.now (length (network_of network.now).channels)) }
-{
-    for channel in 0..network.channels() {
-        put_count(written, network, run, channel)?;
-        put_history(written, network, run, channel)?;
-    }
-    Ok(())
-}
-
 /// The text of a run that kept all channels.
-fn written(alloc: Global, network: &Network, run: &Recorded) -> Option<Vec<u8>>
+fn written(alloc: Global, network: &Network, run: &Recorded) -> Result<Vec<u8>, WriteFault>
     requires { HasItsLines network.now run.now.answer }
-    ensures { IfSome result (λ text. text.items ≡ whole_text network.now run.now) }
+    ensures { IfOk result (λ text. text.items ≡ whole_text network.now run.now) }
 {
     let mut written = Vec::new(alloc);
-    let Ok(()) = put_channels(&mut written, network, run) else {
-        return None;
-    };
-    match write_report(&mut written, network, &run.answer) {
-        Ok(()) => Some(written),
-        Err(_) => None,
+    for channel in 0..network.channels() {
+        put_count(&mut written, network, run, channel)?;
+        put_history(&mut written, network, run, channel)?;
     }
+    write_report(&mut written, network, &run.answer)?;
+    Ok(written)
 }
 
 /// The counts and histories of all channels of a run with at most so many events in a turn, and its report. There is nothing where a
@@ -118,8 +81,20 @@ pub fn kept(
     let Ok(network) = checked(alloc, program) else {
         return None;
     };
-    match recorded(alloc, &network, input, quantum, bound) {
-        Some(run) => written(alloc, &network, &run),
-        None => None,
+    let Ok(input) = read_input(alloc, input, &network) else {
+        return None;
+    };
+    let config = Config {
+        workers: 1,
+        quantum,
+        bound,
+        watch: None,
+    };
+    let Ok(run) = run_recorded(alloc, &network, input, config) else {
+        return None;
+    };
+    match written(alloc, &network, &run) {
+        Ok(text) => Some(text),
+        Err(_) => None,
     }
 }

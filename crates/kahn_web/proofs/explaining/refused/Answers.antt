@@ -8,7 +8,7 @@ returns-in-Ok c =
       c.args.it.now.network,
       c.args.fault,
       c.in-Ok.field-0,
-      c.requires.checked,
+      c.requires.admitted.checked,
       c.requires.fault,
       subst (λ none. told (Some none) (Some c.refuse_input.new.writer.items) (Ok c.in-Ok.field-0)) c.new-written.ensures.items c.in-Ok.ensures,
     )

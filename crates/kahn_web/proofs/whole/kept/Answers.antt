@@ -1,15 +1,14 @@
-use Rattle.kahn_web.proofs.Common.{ℕ, ◌≡◌, subst, Global, Vec, right_lines, IsWholeText, whole_text}
-use Rattle.kahn_web.proofs.Reasons.{some_of}
+use Rattle.kahn_web.proofs.Common.{right_lines, IsWholeText}
+use Rattle.kahn_web.proofs.Reasons.{of_bytes}
 use Rattle.kahn_web.proofs.whole.kept.Goals as goal
 
 pub written-requires : goal.written-requires
 written-requires c =
-    let h = c.in-Some.ensures.2 in
-    right_lines c.in-Ok-checked.network h.1.0 c.in-Some.run'.answer h.1.2.0.named
+    let h = c.in-Ok-run_recorded.ensures.told in
+    right_lines c.in-Ok-checked.network h.1.0 c.in-Ok-run_recorded.run'.answer h.1.2.0.named
 
-pub returns-in-Some : goal.returns-in-Some
-returns-in-Some c =
-    some_of _ (λ (text : Vec ℕ Global) (h : text.items ≡ whole_text c.in-Ok-checked.network c.in-Some.run').
-    subst (λ program. IsWholeText program c.args.input.now c.args.quantum c.args.bound text.items) c.in-Ok.ensures.cases.0
-    (subst (λ input. IsWholeText c.in-Ok.program.now input c.args.quantum c.args.bound text.items) c.in-Ok-from_utf8.ensures.cases.0
-    (c.in-Ok-checked.network, c.in-Some.run', c.in-Ok-checked.ensures, c.in-Some.ensures, h))) c.written.ensures
+pub returns-in-Ok-written : goal.returns-in-Ok-written
+returns-in-Ok-written c =
+    of_bytes (λ p i. IsWholeText p i c.args.quantum c.args.bound c.in-Ok-written.text.items) c.in-Ok.program.now c.in-Ok-from_utf8.input.now _ _
+    c.in-Ok.ensures.cases.0 c.in-Ok-from_utf8.ensures.cases.0
+    (c.in-Ok-checked.network, c.in-Ok-read_input.input, c.in-Ok-run_recorded.run', c.in-Ok-checked.ensures, c.in-Ok-read_input.ensures.read, c.in-Ok-run_recorded.ensures.told, c.in-Ok-written.ensures)
