@@ -12,4 +12,4 @@ pub use why::for_good;
 // For the crates above.
 pub use data::write_data;
 pub use explaining::{Admitted, admit, write_both};
-pub use why::{Explanation, Finding, causes, explained, explained_each};
+pub use why::{Explanation, Finding, causes, explained};

@@ -4,4 +4,4 @@ mod lines;
 mod told;
 mod words;
 
-pub use told::{Explanation, Finding, causes, explained, explained_each, for_good};
+pub use told::{Explanation, Finding, causes, explained, for_good};

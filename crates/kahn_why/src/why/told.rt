@@ -263,21 +263,6 @@ pub fn explained(
     Ok(told)
 }
 
-/// The same with each instance.
-pub fn explained_each(
-    alloc: Global,
-    path: &str,
-    program: &str,
-    network: &Network,
-    fed: Option<&Input>,
-    answer: &Answer,
-) -> Result<Explanation, AllocError>
-    requires { AreStandings (network_of network.now) (standings_of answer.now) }
-    ensures { IfOk result (IsExplained network.now answer.now) }
-{
-    explained(alloc, path, program, network, fed, answer, true)
-}
-
 /// The law of what is for ever. Its contract is what it does: whatever is added to the input, and whatever the bound is, an instance has
 /// the end that a right answer gives it, where its cause is a ring, or an instance that has ended or has a fault. Want of memory is no such
 /// answer: it can leave values where a reader doesn't come to them. So a reason that is told to last does.
