@@ -1,7 +1,6 @@
 -- What a whole run is made of.
-use Rattle.kahn_live.proofs.Common.{[], ◌≡◌, ◌∙◌, inr, ℕ, eqb, List, None, Some, Option, Result, Ok, Err, if◌then◌else◌, refl, ap, reader_buffer, reader_capacity, reader_inner, reader_remaining, prepend_known, Program, PlainNames, HasOpened, Live, IsInForm, IsSetUp}
+use Rattle.kahn_live.proofs.Common.{[], ◌≡◌, ◌∙◌, ℕ, eqb, List, None, Some, Option, if◌then◌else◌, refl, ap, reader_buffer, reader_capacity, reader_inner, reader_remaining, prepend_known}
 use Rattle.std.specs.declared.io.buffered.BufReader.{BufReader}
-use Rattle.kahn_streams.specs.{declared.config.Config.Config, declared.fault.RunFault.RunFault}
 
 prepend_none : (m : Option (List ℕ)) → prepend_known [] m ≡ m
 prepend_none None = refl
@@ -13,8 +12,3 @@ pub fresh : {I A : Type 0} (left : I → Option (List ℕ)) (r : BufReader I A) 
 fresh left r input inner empty room =
     ap (λ (k : ℕ). if eqb k 0 then None else prepend_known (reader_buffer r) (left (reader_inner r))) room
     ∙ ap (λ (b : List ℕ). prepend_known b (left (reader_inner r))) empty ∙ prepend_none (left (reader_inner r)) ∙ ap left inner
-
--- a session that was opened, in a form
-pub set_up : (plain : Option PlainNames) (t : Program) (config : Config) (first : Live) (r : Result Live RunFault) → HasOpened t config first → IsInForm plain first r → IsSetUp plain t config r
-set_up plain t config first (Ok s) opened formed = (first, opened, formed)
-set_up plain t config first (Err f) opened formed = inr (first, opened, formed)

@@ -3,9 +3,9 @@ use Rattle.std.specs.Prelude.{◌≡◌, ◌⊎◌, ⊤, ℕ, zero, suc, ◌-◌
 use Rattle.std.specs.{Io.KnownBytes.IsAtEnd, declared.alloc.Global.Global, declared.string.String.String}
 use Rattle.kahn_streams.specs.{declared.answer.Verdict.Verdict, declared.answer.Verdict.TheVariants.Finished, declared.answer.Verdict.TheVariants.Memory}
 use Rattle.kahn_fault.specs.declared.fault.Fault.{Fault}
-use Rattle.kahn_session.specs.{Live.HasVerdict, Live.IsDeaf, Live.IsFirstInput, Live.IsMeantLine, Live.IsOtherInput, Live.IsUnfedBy, Live.Live, Refusals.alone_line, Refusals.at_end_number, Refusals.is_want, declared.fault.TakeFault.TakeFault}
-use Rattle.kahn_live.specs.{Lines.CutsLine, Lines.fed_text, Lines.most_kept, Lines.unmarked, declared.lines.Next.Next, declared.lines.Next.TheVariants.Line, declared.lines.Next.TheVariants.End, declared.lines.Next.TheVariants.Failed, declared.lines.Next.TheVariants.NoMemory, Rows.AreMeant, Rows.AreRowCells, Rows.IsBadRow, Rows.bare_of, Rows.row_names}
-use Rattle.kahn_live.specs.Course.{HasMissed, HasSent, HasWaited, IsAloneMet, IsBrokenOff, IsReadFailed, IsRefused, IsWriteFault, LiveTelling, Point, WasAnswered, WasMet, WasTold, no_memory}
+use Rattle.kahn_session.specs.{Live.IsDeafNow, Live.IsFirstInput, Live.IsHearing, Live.IsMeantLine, Live.IsUnfedBy, Live.Live, Refusals.at_end_number, Refusals.is_want, declared.fault.TakeFault.TakeFault}
+use Rattle.kahn_live.specs.{Lines.CutsLine, Lines.fed_text, Lines.most_kept, Lines.unmarked, declared.lines.Next.Next, declared.lines.Next.TheVariants.Line, declared.lines.Next.TheVariants.End, declared.lines.Next.TheVariants.Failed, declared.lines.Next.TheVariants.NoMemory, Rows.AreMeant, Rows.AreRowCells, Rows.IsBadRow, Rows.row_names}
+use Rattle.kahn_live.specs.Course.{HasMissed, HasSent, HasWaited, IsAloneMet, IsBrokenOff, IsReadFailed, IsRefused, IsWriteFault, LiveTelling, Point, WasAnswered, WasMet, WasSaid, no_memory}
 
 -- ---- a row
 
@@ -59,17 +59,6 @@ IsReadMet input number kept old new r = IsReadBy (is_idle number (unmarked numbe
 -- a line of the input, of which no more is kept than decides that it is too long: it was taken or refused, for want of memory too
 abbrev pub IsAnyMet : Option (List ℕ) → ℕ → List ℕ → Point → Point → Type 0
 IsAnyMet input number line old new = ((r : Option TakeFault) × IsReadMet input number (take most_kept line) old new (Ok r)) ⊎ HasMissed number old new
-
--- ---- what may still come
-
--- a line may still change the run
-abbrev pub IsHearing : Live → Type 0
-IsHearing s = HasVerdict s → IsDeaf s.flow.run false
-
--- whether none can
-abbrev pub IsDeafNow : Live → Bool → Type 0
-IsDeafNow s true = HasVerdict s × IsDeaf s.flow.run true
-IsDeafNow s false = IsHearing s
 
 -- ---- the lines of the input
 
@@ -151,17 +140,9 @@ IsFirstPart input old new (Ok false) = (f : TakeFault) × IsReadMet input 0 [] o
 IsFirstPart input old new (Err fault) = IsReadMet input 0 [] old new (Err fault)
     ⊎ ((fault ≡ no_memory) × ((f : TakeFault) × IsReadMet input 0 [] old new (Ok (Some f)) × (is_want f ≡ true)))
 
--- that no line is for another input channel was told, where values of one stand alone and there is another
-abbrev pub IsAlonePut : List ℕ → Option (List ℕ) → LiveTelling → LiveTelling → Type 0
-IsAlonePut input None old new = new ≡ old
-IsAlonePut input (Some other) old new = WasTold (alone_line old.path input other) old new
-
-abbrev pub IsAloneSaid : Option (List ℕ) → Live → LiveTelling → LiveTelling → Type 0
-IsAloneSaid None s old new = new ≡ old
-IsAloneSaid (Some input) s old new = (other : Option (List ℕ)) × IsOtherInput s.flow.run.network (Some input) other × IsAlonePut input other old new
-
-abbrev pub IsAloneTold : Option (List ℕ) → Point → Point → Type 0
-IsAloneTold input old new = (new.session ≡ old.session) × (new.out ≡ old.out) × IsAloneSaid input old.session old.told new.told
+-- that no line is for another input channel was told, or nothing
+abbrev pub IsAloneTold : Point → Point → Type 0
+IsAloneTold old new = (new.session ≡ old.session) × (new.out ≡ old.out) × ((new.told ≡ old.told) ⊎ WasSaid [] old.told new.told)
 
 -- ---- the lines behind those of the input
 
@@ -209,10 +190,10 @@ AreStopped input at_end fault text old new =
 -- input channel of the name no line is read
 abbrev pub AreEachMet : Option (List ℕ) → List (String Global) → Result Bool Fault → Option (List ℕ) → Point → Point → Type 0
 AreEachMet input at_end (Ok true) text old new = (begun : Point) × IsFirstPart input old begun (Ok true)
-    × ((ready : Point) × (last : Point) × IsAloneTold (bare_of input) begun ready × AreAllRead input text ready last × AreFed (map string_bytes at_end) last new)
+    × ((ready : Point) × (last : Point) × IsAloneTold begun ready × AreAllRead input text ready last × AreFed (map string_bytes at_end) last new)
 AreEachMet input at_end (Ok false) text old new = IsFirstPart input old new (Ok false)
 AreEachMet input at_end (Err fault) text old new = IsFirstPart input old new (Err fault)
-    ⊎ ((begun : Point) × (ready : Point) × IsFirstPart input old begun (Ok true) × IsAloneTold (bare_of input) begun ready × AreStopped input at_end fault text ready new)
+    ⊎ ((begun : Point) × (ready : Point) × IsFirstPart input old begun (Ok true) × IsAloneTold begun ready × AreStopped input at_end fault text ready new)
 
 -- all that, where each of the lines behind is meant for an input channel; else the first that isn't is told, and nothing else is done
 abbrev pub AreAllMet : Option (List ℕ) → List (String Global) → Result Bool Fault → Option (List ℕ) → Point → Point → Type 0

@@ -1,16 +1,12 @@
 -- Believed. The lines of standard input: where each is cut, and what is fed of it (this project's profile).
-use Rattle.std.specs.Prelude.{◌≡◌, ◌⊎◌, ◌==◌, ◌&&◌, ◌||◌, ℕ, Bool, true, false, ◌+◌, ◌<◌, ⊤, List, [], ◌∷◌, ◌++◌, length, slice_index, take, drop, Option, None, Some, IfSome, if◌then◌else◌}
-use Rattle.std.specs.{Char.is_ascii_digit, Io.BufRead.DropsThrough, Io.KnownBytes.IsAtEnd, Cmp.Lexicographic.pointwise, List.before_first, List.list_any}
+use Rattle.std.specs.Prelude.{◌≡◌, ◌⊎◌, ◌==◌, ◌&&◌, ℕ, Bool, true, false, ◌+◌, ◌<◌, ⊤, List, [], ◌∷◌, ◌++◌, length, take, drop, Option, None, Some, IfSome, if◌then◌else◌}
+use Rattle.std.specs.{Io.BufRead.DropsThrough, Io.KnownBytes.IsAtEnd, Cmp.Lexicographic.pointwise, List.before_first, List.list_any}
 use Rattle.kahn_texts.specs.Formats.{most_input_bytes}
 use Rattle.kahn_live.specs.{declared.lines.Next.Next, declared.lines.Next.TheVariants.Line, declared.lines.Next.TheVariants.End, declared.lines.Next.TheVariants.Failed, declared.lines.Next.TheVariants.NoMemory, declared.outlet.DeferredWriter.DeferredWriter}
 
 -- the line stands before the first line feed of what a reader has left, which isn't empty, or is all of it; behind that feed this is left
 abbrev pub CutsLine : List ℕ → Option (List ℕ) → Option (List ℕ) → Type 0
 CutsLine line old new = IfSome old (λ text. (0 < length text) × (line ≡ before_first (λ b. b == 10) text)) × DropsThrough old new 10
-
--- whether a line begins as a number does
-abbrev pub is_bare_line : List ℕ → Bool
-is_bare_line line = is_ascii_digit (slice_index line 0) || slice_index line 0 == 45
 
 abbrev pub byte_order_mark : List ℕ
 byte_order_mark = 239 ∷ 187 ∷ 191 ∷ []

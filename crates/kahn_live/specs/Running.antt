@@ -1,13 +1,12 @@
 -- Believed. A run on lines, from the program text to the status (this project's profile).
-use Rattle.std.specs.Prelude.{◌≡◌, ◌⊎◌, ◌==◌, ℕ, Bool, true, false, List, [], ◌∷◌, Option, None, Some, Result, Ok, Err, option_map, codes, is_some, string_bytes}
+use Rattle.std.specs.Prelude.{◌≡◌, ◌⊎◌, ◌==◌, ℕ, Bool, true, false, List, [], ◌∷◌, Option, None, Some, Result, Ok, Err, option_map, string_bytes}
 use Rattle.std.specs.{List.before_first, declared.alloc.Global.Global, declared.vec.Vec.Vec, declared.string.String.String, Io.KnownBytes.Keeps}
 use Rattle.kahn_streams.specs.{declared.config.Config.Config, declared.tree.Program.Program, declared.answer.Verdict.Verdict, declared.answer.Verdict.TheVariants.Finished, declared.fault.RunFault.RunFault, declared.fault.RunFault.TheVariants.NoMemory as NoMemoryRun, declared.fault.RunFault.TheVariants.UnknownWatch}
 use Rattle.kahn_sequential.specs.HeldRuns.{HeldRun}
-use Rattle.kahn_fault.specs.{Work.IsChecked, Work.IsUnchecked, declared.work.WorkFault.WorkFault, declared.work.WorkFault.TheVariants.Run as RunWork, declared.work.WorkFault.TheVariants.Write as WriteWork, Status.live_status_of, Reasons.reason_line, Telling.WasWritten, Telling.pointer_text, Telling.told_text, declared.fault.Fault.Fault, declared.fault.Fault.TheVariants.Work}
+use Rattle.kahn_fault.specs.{Work.IsChecked, Work.IsUnchecked, declared.work.WorkFault.WorkFault, declared.work.WorkFault.TheVariants.Run as RunWork, declared.work.WorkFault.TheVariants.Write as WriteWork, Status.live_status_of, Telling.pointer_text, Telling.told_text, declared.fault.Fault.Fault, declared.fault.Fault.TheVariants.Work}
 use Rattle.kahn_line.specs.{declared.live.LiveOptions.LiveOptions, declared.parts.PlainNames.PlainNames}
-use Rattle.kahn_hints.specs.Inputs.{names_of_channels, unknown_channel}
-use Rattle.kahn_session.specs.{Refusals.unknown_text, Refusals.path_line, Live.HasOpened, Live.IsFaulty, Live.IsLastText, Live.IsRinged, Live.IsUnopened, Live.Live, Live.has_left}
-use Rattle.kahn_live.specs.Course.{AreCausesOf, HasSent, HasWaited, IsMoreTold, IsWriteFault, Point, LiveTelling, WasTold, no_memory, telling_of}
+use Rattle.kahn_session.specs.{Live.HasOpened, Live.IsFaulty, Live.IsLastText, Live.IsRinged, Live.IsUnopened, Live.Live, Live.has_left}
+use Rattle.kahn_live.specs.Course.{AreCausesOf, HasSent, HasWaited, IsMoreTold, IsWriteFault, Point, LiveTelling, WasSaid, WasTold, no_memory, telling_of}
 use Rattle.kahn_live.specs.{InputMet.AreAllMet, Rows.AreNumbered, declared.serving.Amiss.Amiss, declared.serving.Amiss.TheVariants.Faulted, declared.serving.Amiss.TheVariants.Ringed, declared.serving.RunEnding.RunEnding, declared.serving.RunEnding.TheVariants.Reached, declared.serving.RunEnding.TheVariants.Gone, declared.serving.RunEnding.TheVariants.Refused, declared.telling.Teller.Teller}
 
 -- ---- the start
@@ -16,18 +15,10 @@ use Rattle.kahn_live.specs.{InputMet.AreAllMet, Rows.AreNumbered, declared.servi
 abbrev pub first_name : List ℕ → List ℕ
 first_name names = before_first (λ b. b == 44) names
 
-abbrev pub first_shown : PlainNames → Option (List ℕ)
-first_shown p = option_map (λ names. first_name (string_bytes names)) p.output
-
 -- the name of the channel that is watched: that of `--watch`; where values stand alone the first one whose values are shown, and no other
 abbrev pub name_watched : Option PlainNames → Option (String Global) → Option (List ℕ)
 name_watched None watch = option_map string_bytes watch
-name_watched (Some p) watch = first_shown p
-
--- the names of the channels that have to have streams
-abbrev pub names_shown : Option PlainNames → Option (String Global) → Option (List ℕ)
-names_shown None watch = option_map string_bytes watch
-names_shown (Some p) watch = option_map string_bytes p.output
+name_watched (Some p) watch = option_map (λ names. first_name (string_bytes names)) p.output
 
 -- the channel of this name is watched, and nothing else differs
 abbrev pub Watches : Option (List ℕ) → Config → Config → Type 0
@@ -80,7 +71,7 @@ IsEndPut h old new = (v : Verdict) × (text : List ℕ) × IsLastText h v text �
 -- what came of the run and its causes was told; or that memory was refused for it
 abbrev pub IsWhyTold : HeldRun → LiveTelling → LiveTelling → Type 0
 IsWhyTold h old new = ((words : List ℕ) × AreCausesOf h words × WasTold words old new)
-    ⊎ WasTold (path_line old.path (codes "no memory to say why it ended so")) old new
+    ⊎ WasSaid [] old new
 
 abbrev pub IsEndTold : HeldRun → LiveTelling → LiveTelling → Bool → Type 0
 IsEndTold h old new true = (mid : LiveTelling) × (last : LiveTelling) × IsMoreTold old mid × IsWhyTold h mid last × IsEndPut h last new
@@ -91,7 +82,7 @@ IsVerdictMet h amiss old new v = (h.verdict ≡ Some v) × ((told : Bool) × IsE
 
 -- that values are left without the others of their row was told, behind how many lines more were refused
 abbrev pub IsLeftTold : Bool → LiveTelling → LiveTelling → Type 0
-IsLeftTold true old new = (mid : LiveTelling) × IsMoreTold old mid × WasTold (path_line mid.path (codes "values are left without the others of their row")) mid new
+IsLeftTold true old new = (mid : LiveTelling) × IsMoreTold old mid × WasSaid [] mid new
 IsLeftTold false old new = new ≡ old
 
 -- what is new went out; what is left, and how the run ended, is told
@@ -135,12 +126,8 @@ IsUnsent (Err f) r = (r ≡ Ok Gone) ⊎ (r ≡ Err f)
 
 -- How a run ended is how its lines ended; or nobody reads what is new any more, only if these ended since a write failed. The same where the
 -- last send failed, which is a write fault otherwise.
-abbrev pub IsSent : Bool → Result RunEnding Fault → Result RunEnding Fault → Type 0
-IsSent true ending r = IsUnsent ending r
-IsSent false ending r = (r ≡ ending) ⊎ ((is_unwritten ending ≡ true) × (r ≡ Ok Gone))
-
 abbrev pub WasSent : Result RunEnding Fault → Result RunEnding Fault → Type 0
-WasSent ending r = (failed : Bool) × IsSent failed ending r
+WasSent ending r = IsUnsent ending r ⊎ ((r ≡ ending) ⊎ ((is_unwritten ending ≡ true) × (r ≡ Ok Gone)))
 
 -- ---- the whole run
 
@@ -162,23 +149,9 @@ abbrev pub input_of : Option PlainNames → Option (List ℕ)
 input_of None = None
 input_of (Some p) = named_input (string_bytes p.input)
 
--- the names of the channels that have to have streams, where a run is refused since one has none
-abbrev pub unknown_shown : RunFault → Option (List ℕ) → Option (List ℕ)
-unknown_shown UnknownWatch names = names
-unknown_shown f names = None
-
--- what is said of it: the nearest channel, or else which there are; or nothing where memory was refused for it
-abbrev pub IsChannelWords : Program → List ℕ → List ℕ → Type 0
-IsChannelWords t name words = (words ≡ unknown_channel name (names_of_channels t)) ⊎ (words ≡ [])
-
--- that was told; or the run is refused for another reason
-abbrev pub IsUnknownTold : Bool → Option (List ℕ) → Program → RunFault → LiveTelling → LiveTelling → Result RunEnding Fault → Type 0
-IsUnknownTold of_plain None t f old new r = (r ≡ Err (Work (RunWork f))) × (new ≡ old)
-IsUnknownTold of_plain (Some name) t f old new r =
-    (r ≡ Ok Refused) × ((words : List ℕ) × IsChannelWords t name words × WasTold (unknown_text old.path of_plain name words) old new)
-
-abbrev pub IsUnstartedTold : LiveOptions → Program → RunFault → LiveTelling → LiveTelling → Result RunEnding Fault → Type 0
-IsUnstartedTold o t f old new r = IsUnknownTold (is_some o.plain) (unknown_shown f (names_shown o.plain o.config.watch)) t f old new r
+-- a channel that has to have a stream has none, which was told; or the run is refused for another reason
+abbrev pub IsUnstartedTold : RunFault → LiveTelling → LiveTelling → Result RunEnding Fault → Type 0
+IsUnstartedTold f old new r = ((f ≡ UnknownWatch) × (r ≡ Ok Refused) × WasSaid [] old new) ⊎ ((r ≡ Err (Work (RunWork f))) × (new ≡ old))
 
 -- the lines were served from a session on; this went out in all, and this was told
 abbrev pub HasRunSession : LiveOptions → Live → Option (List ℕ) → Option (List ℕ) → Option (List ℕ) → LiveTelling → LiveTelling → Result RunEnding Fault → Type 0
@@ -189,7 +162,7 @@ HasRunSession o s text out made old new r = (last : Point) × (ending : Result R
 -- a session of the network was set up and run, or why not: the run is refused, and nothing went out
 abbrev pub HasRunNetwork : LiveOptions → Program → Config → Option (List ℕ) → Option (List ℕ) → Option (List ℕ) → LiveTelling → LiveTelling → Result RunEnding Fault → Type 0
 HasRunNetwork o t config text out made old new r =
-    ((f : RunFault) × IsSetUp o.plain t config (Err f) × IsUnstartedTold o t f old new r × (made ≡ out))
+    ((f : RunFault) × IsSetUp o.plain t config (Err f) × IsUnstartedTold f old new r × (made ≡ out))
     ⊎ ((s : Live) × IsSetUp o.plain t config (Ok s) × HasRunSession o s text out made old new r)
 
 -- the network of the program text was run on this text of input, or why not: memory was refused, or the program text is
@@ -234,11 +207,6 @@ untold bytes keep_going path = record {
   faulted = false;
   ringed = false;
 }
-
--- that `--watch` does nothing was told, where values stand alone
-abbrev pub IsWatchTold : Bool → Option (List ℕ) → Option (List ℕ) → Type 0
-IsWatchTold true old new = WasWritten (reason_line (codes "kahn_live") (codes "--watch does nothing with --plain; write --plain INPUT,NAME")) old new
-IsWatchTold false old new = new ≡ old
 
 -- a program text, of this file, was run as the options say, on this text of input, behind what was written and what was told before; how that
 -- ended was told, this is what went out, and the status is this

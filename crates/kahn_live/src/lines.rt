@@ -1,13 +1,12 @@
 //! The lines of standard input, one at a time.
 
 ghost use Rattle.std.specs.Prelude.{◌≡◌, ◌==◌, ◌≤◌, ◌++◌, IfOk, length, option_copied, take, vec_len};
-ghost use Rattle.std.specs.{List.list_any, List.position, List.position_or_len, Io.Buffered.reader_buffer, Io.Buffered.reader_remaining};
-ghost use Rattle.kahn_live.specs.{Lines.IsNextLine, Lines.IsReadyToRead, Lines.fed_text, Lines.is_bare_line, Lines.most_kept, Lines.unmarked, inner.Parts.IsLinePart};
+ghost use Rattle.std.specs.{List.list_any, List.position, List.position_or_len, Io.Buffered.reader_buffer};
+ghost use Rattle.kahn_live.specs.{Lines.IsNextLine, Lines.fed_text, Lines.most_kept, Lines.unmarked, inner.Parts.IsLinePart};
 
-use crate::outlet::DeferredWriter;
 use kahn_texts::MOST_BYTES;
 use std::alloc::AllocError;
-use std::io::{BufRead, BufReader, ErrorKind, Read, Write};
+use std::io::{BufRead, BufReader, ErrorKind, Read};
 
 /// A byte order mark, which the first line may begin with.
 const MARK: &[u8] = b"\xEF\xBB\xBF";
@@ -27,16 +26,6 @@ pub(crate) enum Next {
     NoMemory,
 }
 
-/// Whether a line begins as a number does.
-pub(crate) fn is_bare_line(line: &[u8]) -> bool
-    ensures { result ≡ is_bare_line line.now }
-{
-    match line.first() {
-        None => false,
-        Some(byte) => byte.is_ascii_digit() || *byte == b'-',
-    }
-}
-
 /// Whether the next line can be read without a wait: its line feed has come.
 pub(crate) fn has_line<R: Read>(reader: &BufReader<R>) -> bool
     ensures { result ≡ list_any (λ b. b == 10) (reader_buffer reader.now) }
@@ -44,21 +33,9 @@ pub(crate) fn has_line<R: Read>(reader: &BufReader<R>) -> bool
     reader.buffer().contains(&b'\n')
 }
 
-/// Reads the next line without its line feed. The last line needs none. What is new went out before, or the read doesn't wait.
-pub(crate) fn next_line<R: Read, W: Write>(
-    reader: &mut BufReader<R>,
-    line: &mut Vec<u8>,
-    _outlet: &DeferredWriter<W>,
-) -> Next
-    requires { IsReadyToRead (reader_buffer reader.old) _outlet.now }
-    ensures { IsNextLine (reader_remaining R.remaining reader.old) (reader_remaining R.remaining reader.new) line.new.items result }
-{
-    line.clear();
-    read_line(reader, line)
-}
-
-/// Reads a line into an empty list. The rest of one for which memory is refused is passed over.
-fn read_line<B: BufRead>(reader: &mut B, line: &mut Vec<u8>) -> Next
+/// Reads the next line without its line feed into an empty list. The last line needs none. The rest of one for which memory is refused
+/// is passed over.
+pub(crate) fn read_line<B: BufRead>(reader: &mut B, line: &mut Vec<u8>) -> Next
     requires { vec_len line.old ≡ 0 }
     ensures { IsNextLine (B.remaining reader.old) (B.remaining reader.new) line.new.items result }
 {

@@ -19,17 +19,6 @@ pub(crate) struct DeferredWriter<W: Write> {
 }
 
 impl<W: Write> DeferredWriter<W> {
-    /// Before the first write.
-    pub(crate) fn new(writer: W) -> DeferredWriter<W>
-        ensures { result ≡ record { writer = writer; due = false; gone = false } }
-    {
-        DeferredWriter {
-            writer,
-            due: false,
-            gone: false,
-        }
-    }
-
     /// Sends what was written.
     pub(crate) fn send(&mut self) -> Result<(), Fault>
         ensures kept { Keeps (W.contents self.old.writer) (W.contents self.new.writer) }

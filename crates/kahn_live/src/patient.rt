@@ -16,13 +16,6 @@ pub(crate) struct Patient<'c, S, C> {
     pub(crate) clock: &'c C,
 }
 
-/// A stream, by the clock of the run.
-pub(crate) fn waiting<S, C: Clock>(clock: &C, stream: S) -> Patient<'_, S, C>
-    ensures stream { result.stream ≡ stream }
-{
-    Patient { stream, clock }
-}
-
 /// Whether a call would have to wait.
 fn would_wait<T>(done: &io::Result<T>) -> bool
     ensures { IsTrue result → IsErr done.now }

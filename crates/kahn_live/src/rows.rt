@@ -2,7 +2,7 @@
 
 ghost use Rattle.std.specs.Prelude.{◌≡◌, ◌==◌, ◌≤◌, IfOk, length, not, option_copied};
 ghost use Rattle.std.specs.List.{list_any, position, position_or_len};
-ghost use Rattle.kahn_live.specs.Rows.{AreNumbered, IsRowTried, bare_of, behind_word, bytes_in, row_line, first_word, from_word, is_row_gap, row_names};
+ghost use Rattle.kahn_live.specs.Rows.{AreNumbered, IsRowTried, behind_word, bytes_in, row_line, first_word, is_row_gap, row_names};
 ghost use Rattle.kahn_live.specs.inner.Parts.{IsTriedCell};
 
 use kahn_session::{Session, TakeFault};
@@ -10,7 +10,7 @@ use kahn_streams::RunFault;
 use std::alloc::{AllocError, Global};
 
 /// Whether commas stand between names.
-fn is_several(names: &str) -> bool
+pub(crate) fn is_several(names: &str) -> bool
     ensures { result ≡ list_any (λ b. b == 44) names.now }
 {
     names.as_bytes().contains(&b',')
@@ -25,17 +25,6 @@ pub(crate) fn row_names(input: Option<&str>) -> Option<&str>
         return None;
     };
     if is_several(names) { Some(names) } else { None }
-}
-
-/// The name of one channel, where no comma stands in it.
-#[tactic(auto, using(crate::proofs::Rowing::not_one))]
-pub(crate) fn bare_of(input: Option<&str>) -> Option<&str>
-    ensures { option_copied result ≡ bare_of (option_copied input.entry) }
-{
-    let Some(name) = input else {
-        return None;
-    };
-    if is_several(name) { None } else { Some(name) }
 }
 
 /// Whether a byte stands between words.
@@ -77,18 +66,11 @@ fn word_length(bytes: &[u8]) -> usize
     first_between(bytes).unwrap_or(bytes.len())
 }
 
-/// The bytes from the first word on.
-fn from_word(bytes: &[u8]) -> &[u8]
-    ensures { result.now ≡ from_word bytes.now }
-{
-    &bytes[word_start(bytes)..]
-}
-
 /// The first word, or nothing.
 fn first_word(bytes: &[u8]) -> &[u8]
     ensures { result.now ≡ first_word bytes.now }
 {
-    let bytes = from_word(bytes);
+    let bytes = &bytes[word_start(bytes)..];
     &bytes[..word_length(bytes)]
 }
 
@@ -96,7 +78,7 @@ fn first_word(bytes: &[u8]) -> &[u8]
 fn behind_word(bytes: &[u8]) -> &[u8]
     ensures { result.now ≡ behind_word bytes.now }
 {
-    let bytes = from_word(bytes);
+    let bytes = &bytes[word_start(bytes)..];
     &bytes[word_length(bytes)..]
 }
 

@@ -1,8 +1,8 @@
 //! A run on lines, from the program text to the status.
 
-ghost use Rattle.std.specs.Prelude.{◌≡◌, IfOk, option_copied, option_map, string_bytes};
-ghost use Rattle.kahn_live.specs.{Course.telling_of, Running.IsEndingTold, Running.IsUnstartedTold, Running.ending_status, Running.input_of, Running.named_input, Running.unknown_shown};
-ghost use Rattle.kahn_live.specs.Running.{EndsAs, Gives, HasRunAs, HasRunNetwork, HasRunText, ArePlainStreams, IsChannelWords, IsInForm, IsSetUp, Tells, Watches, first_shown, name_watched, names_shown};
+ghost use Rattle.std.specs.Prelude.{◌≡◌, option_copied, string_bytes};
+ghost use Rattle.kahn_live.specs.{Course.telling_of, Running.IsEndingTold, Running.IsUnstartedTold, Running.ending_status, Running.input_of};
+ghost use Rattle.kahn_live.specs.Running.{EndsAs, Gives, HasRunAs, HasRunNetwork, HasRunText, ArePlainStreams, IsSetUp, Tells, name_watched};
 
 use crate::outlet::DeferredWriter;
 use crate::rows::stream_numbers;
@@ -14,62 +14,21 @@ use kahn_hints::add_unknown_channel;
 use kahn_line::{LiveOptions, PlainNames, copied, parted};
 use kahn_session::Session;
 use kahn_streams::{Config, Network, RunFault, Verdict};
-use std::alloc::{AllocError, Global};
+use std::alloc::Global;
 use std::io::{Read, Write};
-
-/// The status where what `--plain` or `--at-end` names is refused.
-const REFUSED: u8 = 6;
-
-/// A name, where there is one.
-fn named(name: &Option<String>) -> Option<&str>
-    ensures { option_copied result ≡ option_map string_bytes name.now }
-{
-    match name {
-        Some(name) => Some(name.as_str()),
-        None => None,
-    }
-}
-
-/// The first of the names of the channels whose values are shown, where they stand alone and there are names.
-fn first_shown(plain: &PlainNames) -> Option<&str>
-    ensures { option_copied result ≡ first_shown plain.now }
-{
-    match &plain.output {
-        Some(output) => Some(parted(output.as_str(), ',').0),
-        None => None,
-    }
-}
 
 /// The name of the channel that is watched: where values stand alone, of the first one whose values are shown, which so has a stream.
 fn name_watched(options: &LiveOptions) -> Option<&str>
     ensures { option_copied result ≡ name_watched options.now.plain options.now.config.watch }
 {
-    match &options.plain {
-        Some(plain) => first_shown(plain),
-        None => named(&options.config.watch),
+    match (&options.plain, &options.config.watch) {
+        (None, None) => None,
+        (None, Some(watch)) => Some(watch.as_str()),
+        (Some(plain), _) => match &plain.output {
+            Some(output) => Some(parted(output.as_str(), ',').0),
+            None => None,
+        },
     }
-}
-
-/// The names of the channels that have to have streams.
-fn names_shown(options: &LiveOptions) -> Option<&str>
-    ensures { option_copied result ≡ names_shown options.now.plain options.now.config.watch }
-{
-    match &options.plain {
-        Some(plain) => named(&plain.output),
-        None => named(&options.config.watch),
-    }
-}
-
-/// How the run is set up, with the channel of that name watched.
-fn watching(alloc: Global, config: &Config, name: Option<&str>) -> Result<Config, AllocError>
-    ensures { IfOk result (Watches (option_copied name.entry) config.now) }
-{
-    Ok(Config {
-        workers: config.workers,
-        quantum: config.quantum,
-        bound: config.bound,
-        watch: copied(alloc, name)?,
-    })
 }
 
 /// The numbers of the streams of which the values alone are shown: of those that are named, or else of the first.
@@ -86,27 +45,7 @@ fn plain_streams(
     }
 }
 
-/// The session, which shows the values of streams alone where these channels are named.
-fn in_form<'n>(
-    alloc: Global,
-    mut session: Session<'n>,
-    plain: &Option<PlainNames>,
-) -> Result<Session<'n>, RunFault>
-    ensures { IsInForm plain.now session.entry result }
-{
-    let Some(plain) = plain else {
-        return Ok(session);
-    };
-    match plain_streams(alloc, &session, plain) {
-        Ok(columns) => {
-            session.show_columns(columns);
-            Ok(session)
-        }
-        Err(fault) => Err(fault),
-    }
-}
-
-/// A session of the network before its first part.
+/// A session of the network before its first part, which shows the values of streams alone where these channels are named.
 fn started<'n>(
     alloc: Global,
     network: &'n Network,
@@ -115,28 +54,13 @@ fn started<'n>(
 ) -> Result<Session<'n>, RunFault>
     ensures { IsSetUp plain.now network.now config result }
 {
-    in_form(alloc, Session::start(alloc, network, config)?, plain)
-}
-
-/// The names of the channels that have to have streams, where a run is refused since one has none.
-fn unknown_shown<'o>(fault: RunFault, names: Option<&'o str>) -> Option<&'o str>
-    ensures { option_copied result ≡ unknown_shown fault (option_copied names.entry) }
-{
-    match fault {
-        RunFault::UnknownWatch => names,
-        _ => None,
-    }
-}
-
-/// What is said of a name that no channel has: the nearest channel, or else which there are; or nothing where memory is refused for it.
-fn channel_words(alloc: Global, network: &Network, name: &str) -> String
-    ensures { IsChannelWords network.now name.now (string_bytes result) }
-{
-    let mut words = String::new(alloc);
-    match add_unknown_channel(&mut words, alloc, network.program(), name.as_bytes()) {
-        Ok(()) => words,
-        Err(_) => String::new(alloc),
-    }
+    let mut session = Session::start(alloc, network, config)?;
+    let Some(plain) = plain else {
+        return Ok(session);
+    };
+    let columns = plain_streams(alloc, &session, plain)?;
+    session.show_columns(columns);
+    Ok(session)
 }
 
 /// How a run without a session ends. That a channel that is to be shown has no stream is told.
@@ -146,21 +70,26 @@ fn unstarted<E: Write + Drop>(
     options: &LiveOptions,
     mut teller: Teller<E>,
 ) -> (Result<RunEnding, Fault>, Teller<E>)
-    ensures { Tells E.contents teller result (IsUnstartedTold options.now network.now fault) }
+    ensures { Tells E.contents teller result (IsUnstartedTold fault) }
 {
-    match unknown_shown(fault, names_shown(options)) {
-        None => (Err(Fault::Work(WorkFault::Run(fault))), teller),
-        Some(name) => {
-            let words = channel_words(teller.alloc, network, name);
-            teller.tell_unknown(options.plain.is_some(), name, words.as_str());
-            (Ok(RunEnding::Refused), teller)
-        }
+    let names = match &options.plain {
+        Some(plain) => &plain.output,
+        None => &options.config.watch,
+    };
+    let (RunFault::UnknownWatch, Some(name)) = (fault, names) else {
+        return (Err(Fault::Work(WorkFault::Run(fault))), teller);
+    };
+    let (alloc, name) = (teller.alloc, name.as_str());
+    let mut words = String::new(alloc);
+    if add_unknown_channel(&mut words, alloc, network.program(), name.as_bytes()).is_err() {
+        words.clear();
     }
+    teller.tell_unknown(options.plain.is_some(), name, words.as_str());
+    (Ok(RunEnding::Refused), teller)
 }
 
 /// Runs a network on the input, and writes what is new to the output, which it gives back.
 fn run_network<I: Read + Drop, W: Write + Drop, E: Write + Drop>(
-    alloc: Global,
     program: &str,
     network: &Network,
     config: Config,
@@ -171,7 +100,7 @@ fn run_network<I: Read + Drop, W: Write + Drop, E: Write + Drop>(
 ) -> (Result<RunEnding, Fault>, W, Teller<E>)
     ensures { Gives W.contents E.contents teller result (HasRunNetwork options.now network.now config (I.remaining input) (W.contents output)) }
 {
-    let session = match started(alloc, network, config, &options.plain) {
+    let session = match started(teller.alloc, network, config, &options.plain) {
         Ok(session) => session,
         Err(fault) => {
             let (ending, teller) = unstarted(network, fault, options, teller);
@@ -180,7 +109,11 @@ fn run_network<I: Read + Drop, W: Write + Drop, E: Write + Drop>(
     };
     let mut stage = LiveStage {
         session,
-        outlet: DeferredWriter::new(output),
+        outlet: DeferredWriter {
+            writer: output,
+            due: false,
+            gone: false,
+        },
         teller,
     };
     let named = input_of(&options.plain);
@@ -193,26 +126,19 @@ fn run_network<I: Read + Drop, W: Write + Drop, E: Write + Drop>(
     (ending, output, teller)
 }
 
-/// A name, where it isn't empty.
-fn named_input(name: &str) -> Option<&str>
-    ensures { option_copied result ≡ named_input name.now }
-{
-    if name.is_empty() { None } else { Some(name) }
-}
-
 /// The name of the channel whose values stand alone in the lines of input, where one is named.
 fn input_of(plain: &Option<PlainNames>) -> Option<&str>
     ensures { option_copied result ≡ input_of plain.now }
 {
-    match plain {
-        Some(plain) => named_input(plain.input.as_str()),
-        None => None,
-    }
+    let Some(plain) = plain else {
+        return None;
+    };
+    let name = plain.input.as_str();
+    if name.is_empty() { None } else { Some(name) }
 }
 
 /// Runs a program text on the input, and writes what is new to the output, which it gives back.
 fn run<I: Read + Drop, W: Write + Drop, E: Write + Drop>(
-    alloc: Global,
     program: &str,
     options: LiveOptions,
     input: I,
@@ -221,13 +147,17 @@ fn run<I: Read + Drop, W: Write + Drop, E: Write + Drop>(
 ) -> (Result<RunEnding, Fault>, W, Teller<E>)
     ensures { Gives W.contents E.contents teller result (HasRunText program.now options (I.remaining input) (W.contents output)) }
 {
-    let Ok(config) = watching(alloc, &options.config, name_watched(&options)) else {
+    let Ok(watch) = copied(teller.alloc, name_watched(&options)) else {
         return (Err(wants_memory()), output, teller);
     };
-    match checked(alloc, program) {
-        Ok(network) => run_network(
-            alloc, program, &network, config, &options, input, output, teller,
-        ),
+    let config = Config {
+        workers: options.config.workers,
+        quantum: options.config.quantum,
+        bound: options.config.bound,
+        watch,
+    };
+    match checked(teller.alloc, program) {
+        Ok(network) => run_network(program, &network, config, &options, input, output, teller),
         Err(fault) => (Err(Fault::Work(fault)), output, teller),
     }
 }
@@ -244,7 +174,7 @@ fn told<E: Write>(ending: Result<RunEnding, Fault>, program: &str, teller: &mut 
             status
         }
         Ok(RunEnding::Gone) => teller.tell_last(&Ok(Verdict::Finished), program),
-        Ok(RunEnding::Refused) => REFUSED,
+        Ok(RunEnding::Refused) => 6,
         Err(fault) => teller.tell_last(&Err(fault), program),
     }
 }
@@ -262,7 +192,7 @@ pub(crate) fn ran<I: Read + Drop, W: Write + Drop, E: Write + Drop>(
     ensures { EndsAs W.contents E.contents result (HasRunAs program.now (string_bytes path) options (I.remaining input) (W.contents out) (E.contents errors)) }
 {
     let teller = Teller::new(alloc, errors, options.keep_going, path);
-    let (ending, output, mut teller) = run(alloc, program, options, input, out, teller);
+    let (ending, output, mut teller) = run(program, options, input, out, teller);
     let status = told(ending, program, &mut teller);
     (status, output, teller)
 }

@@ -1,14 +1,13 @@
 //! A session on lines, to the end of its run.
 
-ghost use Rattle.std.specs.Prelude.{◌≡◌, IfErr, false, is_err, option_copied};
+ghost use Rattle.std.specs.Prelude.{◌≡◌, false, option_copied};
 ghost use Rattle.std.specs.Io.KnownBytes.{Keeps};
-ghost use Rattle.kahn_session.specs.Live.{HasVerdict, has_left};
-ghost use Rattle.kahn_live.specs.{Course.AcrossStage, Course.IsWriteFault, Course.Through, Course.point_of, Course.telling_of};
-ghost use Rattle.kahn_live.specs.Running.{HasServed, HasServedAll, IsEndWanted, IsEnded, IsJudged, IsLeftTold, IsSent, IsVerdictMet, WasSent, is_unwritten, reached_status};
+ghost use Rattle.kahn_session.specs.Live.{HasVerdict};
+ghost use Rattle.kahn_live.specs.Course.{AcrossStage};
+ghost use Rattle.kahn_live.specs.Running.{HasServed, IsEndWanted, IsJudged, WasSent, is_unwritten, reached_status};
 
 use crate::outlet::DeferredWriter;
 use crate::taking::{LiveStage, take_all, wants_memory};
-use crate::telling::Teller;
 use kahn_fault::{Fault, WorkFault, live_status};
 use kahn_session::Session;
 use kahn_streams::Verdict;
@@ -65,7 +64,7 @@ pub(crate) fn reached_status(amiss: Option<Amiss>, refused: bool, verdict: Verdi
 
 /// Whether it is told how a run with this verdict ended: the status isn't 0, a process has a fault, or processes wait on one another.
 #[tactic(auto, using(crate::proofs::Ends::by_ring))]
-fn is_end_wanted(
+pub(crate) fn is_end_wanted(
     session: &Session<'_>,
     amiss: Option<Amiss>,
     refused: bool,
@@ -83,69 +82,8 @@ fn is_end_wanted(
     session.has_ring()
 }
 
-/// Tells how the run ended, where that is wanted.
-fn tell_verdict<E: Write>(
-    session: &Session<'_>,
-    program: &str,
-    amiss: Option<Amiss>,
-    teller: &mut Teller<E>,
-) -> Verdict
-    requires { HasVerdict session.now }
-    ensures { IsVerdictMet session.now.flow.run amiss (telling_of E.contents teller.old) (telling_of E.contents teller.new) result }
-{
-    let Some(verdict) = session.verdict() else {
-        unreachable!()
-    };
-    if is_end_wanted(session, amiss, teller.refused, verdict) {
-        teller.tell_end(session, program);
-    }
-    verdict
-}
-
-/// Tells that values are left without the others of their row, where some are.
-fn tell_left<E: Write>(session: &Session<'_>, teller: &mut Teller<E>)
-    ensures { IsLeftTold (has_left session.now) (telling_of E.contents teller.old) (telling_of E.contents teller.new) }
-{
-    if session.has_left() {
-        teller.tell_left();
-    }
-}
-
-/// Sends what is new, tells what is left, and how the run ended where it isn't as it should be.
-fn close<W: Write, E: Write>(
-    stage: &mut LiveStage<'_, W, E>,
-    program: &str,
-    amiss: Option<Amiss>,
-) -> Result<Verdict, Fault>
-    requires { HasVerdict stage.old.session }
-    ensures { IsEnded amiss (point_of W.contents E.contents stage.old) (point_of W.contents E.contents stage.new) result }
-{
-    stage.outlet.send()?;
-    tell_left(&stage.session, &mut stage.teller);
-    Ok(tell_verdict(&stage.session, program, amiss, &mut stage.teller))
-}
-
-/// Takes the lines of the reader, and then those behind them, judges the run where it is to be, and closes the session of the program.
-fn serve<I: Read, W: Write, E: Write>(
-    program: &str,
-    stage: &mut LiveStage<'_, W, E>,
-    reader: &mut BufReader<I>,
-    input: Option<&str>,
-    at_end: &[String],
-    strict: bool,
-) -> Result<RunEnding, Fault>
-    requires { stage.old.session.broken ≡ false }
-    ensures { Through I.remaining W.contents E.contents reader.old stage.old stage.new (HasServedAll strict (option_copied input.entry) at_end.now result) }
-{
-    if !take_all(stage, reader, input, at_end)? {
-        return Ok(RunEnding::Refused);
-    }
-    let amiss = judged(&stage.session, strict);
-    let verdict = close(stage, program, amiss)?;
-    Ok(RunEnding::Reached(verdict, amiss))
-}
-
-/// Takes the lines of the input, and writes what is new.
+/// Takes the lines of the input, and then those behind them, judges the run where it is to be, sends what is new, and tells what is left,
+/// and how the run of the program ended where it isn't as it should be.
 pub(crate) fn work<I: Read + Drop, W: Write, E: Write>(
     program: &str,
     stage: &mut LiveStage<'_, W, E>,
@@ -160,7 +98,14 @@ pub(crate) fn work<I: Read + Drop, W: Write, E: Write>(
     let Ok(mut reader) = BufReader::new(stage.teller.alloc, text) else {
         return Err(wants_memory());
     };
-    serve(program, stage, &mut reader, input, at_end, strict)
+    if !take_all(stage, &mut reader, input, at_end)? {
+        return Ok(RunEnding::Refused);
+    }
+    let amiss = judged(&stage.session, strict);
+    stage.outlet.send()?;
+    stage.teller.tell_left(&stage.session);
+    let verdict = stage.teller.tell_end(&stage.session, program, amiss);
+    Ok(RunEnding::Reached(verdict, amiss))
 }
 
 /// Whether a run ended since a write failed.
@@ -170,24 +115,7 @@ fn is_unwritten(ending: &Result<RunEnding, Fault>) -> bool
     matches!(ending, Err(Fault::Work(WorkFault::Write(_))))
 }
 
-/// How a run ended whose lines ended so, where what is new was sent so: nobody reads it any more if that is why a write failed.
-fn ended(
-    gone: bool,
-    sent: Result<(), Fault>,
-    ending: Result<RunEnding, Fault>,
-) -> Result<RunEnding, Fault>
-    requires { IfErr sent IsWriteFault }
-    ensures { IsSent (is_err sent) ending result }
-{
-    if gone && (sent.is_err() || is_unwritten(&ending)) {
-        return Ok(RunEnding::Gone);
-    }
-    let ending = ending?;
-    sent?;
-    Ok(ending)
-}
-
-/// Sends what is new in the end.
+/// Sends what is new in the end, and gives how a run ended whose lines ended so: nobody reads it any more if that is why a write failed.
 pub(crate) fn sent<W: Write>(
     outlet: &mut DeferredWriter<W>,
     ending: Result<RunEnding, Fault>,
@@ -196,5 +124,10 @@ pub(crate) fn sent<W: Write>(
     ensures sent { WasSent ending result }
 {
     let sent = outlet.send();
-    ended(outlet.gone, sent, ending)
+    if outlet.gone && (sent.is_err() || is_unwritten(&ending)) {
+        return Ok(RunEnding::Gone);
+    }
+    let ending = ending?;
+    sent?;
+    Ok(ending)
 }

@@ -4,13 +4,13 @@ ghost use Rattle.std.specs.Prelude.{◌≡◌, ◌&&◌, IfErr, IfOk, IsTrue, No
 ghost use Rattle.std.specs.Io.Buffered.{reader_buffer, reader_remaining};
 ghost use Rattle.kahn_session.specs.{Live.HasVerdict, Live.breaks, Pace.MayBeSlow};
 ghost use Rattle.kahn_live.specs.Course.{Across, AcrossStage, HasSent, IsAloneMet, IsAnswerTold, IsLineMet, IsRefusalTold, IsPartMet, IsWriteFault, Through, no_memory, point_of, telling_of};
-ghost use Rattle.kahn_live.specs.InputMet.{AreAllMet, AreCellsMet, AreEachMet, AreLastMet, AreLastTried, IsFirstPart, IsInputMet, IsLastRefused, IsAloneTold, IsCome, IsDeafNow, IsNextMet, IsReadMet, IsRowMet, has_finished, is_idle, lacks_memory};
+ghost use Rattle.kahn_live.specs.InputMet.{AreAllMet, AreCellsMet, AreEachMet, AreLastMet, AreLastTried, IsFirstPart, IsInputMet, IsAloneTold, IsCome, IsNextMet, IsReadMet, IsRowMet, is_idle, lacks_memory};
 ghost use Rattle.kahn_live.specs.{Histories.HasHistories, Lines.IsReadyToRead, Lines.fed_text, Rows.bytes_in};
 
 use crate::complaint::tell_refused;
-use crate::lines::{Next, fed_line, has_line, next_line, without_mark};
+use crate::lines::{Next, fed_line, has_line, read_line, without_mark};
 use crate::outlet::DeferredWriter;
-use crate::rows::{bare_of, row_cells, row_names};
+use crate::rows::{is_several, row_cells, row_names};
 use crate::telling::Teller;
 use kahn_fault::{Fault, WorkFault};
 use kahn_session::{AT_END, Session, TakeFault, is_want};
@@ -43,37 +43,6 @@ pub(crate) fn last_fault(fault: TakeFault) -> Fault
     }
 }
 
-/// Sends what is new, unless the next line can be read without a wait and its part is quick.
-fn send_before<I: Read, W: Write, E: Write>(
-    stage: &mut LiveStage<'_, W, E>,
-    reader: &BufReader<I>,
-) -> Result<(), Fault>
-    ensures sent { HasSent (point_of W.contents E.contents stage.old) (point_of W.contents E.contents stage.new) }
-    ensures ready { IfOk result (λ _. IsReadyToRead (reader_buffer reader.now) stage.new.outlet) }
-    ensures slow { IfOk result (λ _. MayBeSlow stage.old.session.step stage.old.session.flow.run → stage.new.outlet.due ≡ false) }
-    ensures fault { IfErr result IsWriteFault }
-{
-    if has_line(reader) && !stage.session.may_be_slow() {
-        return Ok(());
-    }
-    stage.outlet.send()
-}
-
-/// Tells a fault of the line of that number, behind what is new so far. It fails where that can't be written.
-fn tell_behind<W: Write, E: Write>(
-    stage: &mut LiveStage<'_, W, E>,
-    fault: TakeFault,
-    number: u64,
-    line: &[u8],
-) -> Result<(), Fault>
-    ensures session { stage.new.session ≡ stage.old.session }
-    ensures told { IsRefusalTold number line.now fault (point_of W.contents E.contents stage.old) (point_of W.contents E.contents stage.new) result }
-{
-    stage.outlet.send()?;
-    tell_refused(&stage.session, &mut stage.teller, number, line, fault);
-    Ok(())
-}
-
 /// Whether nothing is told of a part: neither of its verdict nor of a fault or a ring.
 fn is_quiet(wanted: bool, first: Option<(usize, Failure)>, ringed: bool) -> bool
     ensures { IsTrue result → (wanted ≡ false) × (first ≡ None) }
@@ -87,188 +56,11 @@ fn is_quiet(wanted: bool, first: Option<(usize, Failure)>, ringed: bool) -> bool
     }
 }
 
-/// Tells what there is to tell of the part of the line of that number, which had this verdict, behind what is new.
-fn tell_part<W: Write, E: Write>(
-    stage: &mut LiveStage<'_, W, E>,
-    verdict: Verdict,
-    number: u64,
-    line: &[u8],
-) -> Result<(), Fault>
-    requires { HasVerdict stage.old.session }
-    ensures session { stage.new.session ≡ stage.old.session }
-    ensures told { IsPartMet number line.now verdict (point_of W.contents E.contents stage.old) (point_of W.contents E.contents stage.new) result }
-{
-    let wanted = stage.teller.is_verdict_new(verdict, line);
-    let first = stage.teller.new_fault(&stage.session);
-    let ringed = stage.teller.is_ring_new(&stage.session);
-    if is_quiet(wanted, first, ringed) {
-        return Ok(());
-    }
-    stage.outlet.send()?;
-    stage.teller.tell_verdict(number, wanted, verdict);
-    stage.teller.tell_faulty(number, &stage.session, first);
-    stage.teller.tell_ring(number, &stage.session);
-    Ok(())
-}
-
-/// Tells what there is to tell of the line of that number by its answer, and gives why it was refused.
-fn tell_answer<W: Write, E: Write>(
-    stage: &mut LiveStage<'_, W, E>,
-    answer: Result<Verdict, TakeFault>,
-    number: u64,
-    line: &[u8],
-) -> Result<Option<TakeFault>, Fault>
-    requires { IfOk answer (λ _. HasVerdict stage.old.session) }
-    ensures { IsAnswerTold number line.now answer (point_of W.contents E.contents stage.old) (point_of W.contents E.contents stage.new) result }
-{
-    match answer {
-        Ok(verdict) => {
-            tell_part(stage, verdict, number, line)?;
-            Ok(None)
-        }
-        Err(fault) => {
-            if fault.breaks() {
-                return Err(last_fault(fault));
-            }
-            tell_behind(stage, fault, number, line)?;
-            Ok(Some(fault))
-        }
-    }
-}
-
-/// Takes a line of that number, tells what there is to tell of it, and gives why it was refused.
-fn take_line<W: Write, E: Write>(
-    stage: &mut LiveStage<'_, W, E>,
-    line: &[u8],
-    number: u64,
-) -> Result<Option<TakeFault>, Fault>
-    requires { stage.old.session.broken ≡ false }
-    ensures broken { IfOk result (λ _. stage.new.session.broken ≡ false) }
-    ensures met { IsLineMet number line.now (point_of W.contents E.contents stage.old) (point_of W.contents E.contents stage.new) result }
-{
-    let answer = stage.session.take(line, &Open, &mut stage.outlet);
-    tell_answer(stage, answer, number, line)
-}
-
-/// Takes a line of the input, with a name or of one channel, and gives why it was refused. Where memory is refused for it, that is told.
-fn take_alone<W: Write, E: Write>(
-    stage: &mut LiveStage<'_, W, E>,
-    input: Option<&str>,
-    line: &[u8],
-    number: u64,
-    room: &mut Vec<u8>,
-) -> Result<Option<TakeFault>, Fault>
-    requires { stage.old.session.broken ≡ false }
-    ensures broken { IfOk result (λ _. stage.new.session.broken ≡ false) }
-    ensures met { AcrossStage W.contents E.contents stage.old stage.new (λ p q. IsAloneMet number (fed_text (option_copied input.entry) line.now) p q result) }
-{
-    let Ok(fed) = fed_line(input, line, room) else {
-        tell_behind(stage, TakeFault::NoMemory, number, b"")?;
-        return Ok(Some(TakeFault::NoMemory));
-    };
-    take_line(stage, fed, number)
-}
-
-/// Takes the lines of a row, each meant for an input channel. One that is refused all the same ends the run: others were taken.
-fn take_cells<W: Write, E: Write>(
-    stage: &mut LiveStage<'_, W, E>,
-    cells: &[Vec<u8>],
-    number: u64,
-) -> Result<(), Fault>
-    requires { stage.old.session.broken ≡ false }
-    ensures broken { IfOk result (λ _. stage.new.session.broken ≡ false) }
-    ensures met { AcrossStage W.contents E.contents stage.old stage.new (λ p q. AreCellsMet number (map bytes_in cells.now) p q result) }
-{
-    for cell in cells {
-        match take_line(stage, cell, number) {
-            Ok(None) => {}
-            Ok(Some(_refused)) => return Err(wants_memory()),
-            Err(fault) => return Err(fault),
-        }
-    }
-    Ok(())
-}
-
-/// Takes a row of values of these channels, or tells why it isn't taken, and gives that.
-fn take_row<W: Write, E: Write>(
-    stage: &mut LiveStage<'_, W, E>,
-    names: &str,
-    row: &[u8],
-    number: u64,
-) -> Result<Option<TakeFault>, Fault>
-    requires { stage.old.session.broken ≡ false }
-    ensures broken { IfOk result (λ _. stage.new.session.broken ≡ false) }
-    ensures met { AcrossStage W.contents E.contents stage.old stage.new (λ p q. IsRowMet names.now number row.now p q result) }
-{
-    match row_cells(stage.teller.alloc, &stage.session, names.as_bytes(), row) {
-        Ok(cells) => {
-            take_cells(stage, &cells, number)?;
-            Ok(None)
-        }
-        Err((fault, cell)) => {
-            tell_behind(stage, fault, number, &cell)?;
-            Ok(Some(fault))
-        }
-    }
-}
-
-/// Whether the last part has finished.
-fn has_finished(session: &Session<'_>) -> bool
-    ensures { result ≡ has_finished session.now.flow.run.verdict }
-{
-    matches!(session.verdict(), Some(Verdict::Finished))
-}
-
 /// Whether a line of that number changes nothing: an empty one, where the run has finished.
 fn is_idle(session: &Session<'_>, number: u64, line: &[u8]) -> bool
     ensures { result ≡ is_idle number line.now session.now.flow.run.verdict }
 {
-    number != 0 && line.is_empty() && has_finished(session)
-}
-
-/// Takes a line of the input, and gives why it was refused.
-fn take_read<W: Write, E: Write>(
-    stage: &mut LiveStage<'_, W, E>,
-    input: Option<&str>,
-    line: &[u8],
-    number: u64,
-    room: &mut Vec<u8>,
-) -> Result<Option<TakeFault>, Fault>
-    requires { stage.old.session.broken ≡ false }
-    ensures broken { IfOk result (λ _. stage.new.session.broken ≡ false) }
-    ensures met { AcrossStage W.contents E.contents stage.old stage.new (λ p q. IsReadMet (option_copied input.entry) number line.now p q result) }
-{
-    let line = without_mark(line, number);
-    if is_idle(&stage.session, number, line) {
-        return Ok(None);
-    }
-    match row_names(input) {
-        Some(names) => take_row(stage, names, line, number),
-        None => take_alone(stage, input, line, number, room),
-    }
-}
-
-/// Tells that no line is for another input channel, where values of one stand alone and there is another.
-fn tell_alone<W: Write, E: Write>(stage: &mut LiveStage<'_, W, E>, input: Option<&str>)
-    ensures { AcrossStage W.contents E.contents stage.old stage.new (IsAloneTold (option_copied input.entry)) }
-{
-    let Some(input) = input else {
-        return;
-    };
-    let Some(other) = stage.session.other_input(input) else {
-        return;
-    };
-    stage.teller.tell_alone(input, other);
-}
-
-/// Whether no line can change the run any more.
-pub(crate) fn is_over(session: &Session<'_>) -> bool
-    ensures { IsDeafNow session.now result }
-{
-    if !session.settled() {
-        return false;
-    }
-    session.is_deaf()
+    number != 0 && line.is_empty() && matches!(session.verdict(), Some(Verdict::Finished))
 }
 
 /// Whether memory was refused for the last part.
@@ -284,147 +76,23 @@ pub(crate) fn come<I: Read, W: Write>(
     session: &Session<'_>,
     reader: &mut BufReader<I>,
     line: &mut Vec<u8>,
-    outlet: &DeferredWriter<W>,
+    _outlet: &DeferredWriter<W>,
 ) -> Next
-    requires { IsReadyToRead (reader_buffer reader.old) outlet.now }
+    requires { IsReadyToRead (reader_buffer reader.old) _outlet.now }
     ensures { IsCome session.now (reader_remaining I.remaining reader.old) (reader_remaining I.remaining reader.new) line.new.items result }
 {
-    if let Some(_name) = session.first_input() {
-        return next_line(reader, line, outlet);
-    }
     line.clear();
+    if let Some(_name) = session.first_input() {
+        return read_line(reader, line);
+    }
     if lacks_memory(session) {
         return Next::End;
     }
     Next::Line
 }
 
-/// Reads and takes the next line, and tells whether there was one. What is new goes out before, unless the read doesn't wait.
-fn take_next<I: Read, W: Write, E: Write>(
-    stage: &mut LiveStage<'_, W, E>,
-    reader: &mut BufReader<I>,
-    input: Option<&str>,
-    number: u64,
-    line: &mut Vec<u8>,
-    room: &mut Vec<u8>,
-) -> Result<bool, Fault>
-    requires { stage.old.session.broken ≡ false }
-    ensures broken { IfOk result (λ _. stage.new.session.broken ≡ false) }
-    ensures met { Across I.remaining W.contents E.contents reader.old reader.new stage.old stage.new (IsNextMet (option_copied input.entry) number result) }
-{
-    send_before(stage, reader)?;
-    match come(&stage.session, reader, line, &stage.outlet) {
-        Next::Line => {
-            let _ = take_read(stage, input, line, number, room)?;
-            Ok(true)
-        }
-        Next::End => Ok(false),
-        Next::Failed => Err(Fault::Program(None, ReadFault::Failed)),
-        Next::NoMemory => {
-            tell_behind(stage, TakeFault::NoMemory, number, b"")?;
-            Ok(true)
-        }
-    }
-}
-
-/// Takes the lines of the reader as long as one can change the run.
-fn take_lines<I: Read, W: Write, E: Write>(
-    stage: &mut LiveStage<'_, W, E>,
-    reader: &mut BufReader<I>,
-    input: Option<&str>,
-) -> Result<(), Fault>
-    requires { stage.old.session.broken ≡ false }
-    ensures broken { IfOk result (λ _. stage.new.session.broken ≡ false) }
-    ensures met { Through I.remaining W.contents E.contents reader.old stage.old stage.new (IsInputMet (option_copied input.entry) result) }
-{
-    let mut line = Vec::new(stage.teller.alloc);
-    let mut room = Vec::new(stage.teller.alloc);
-    for number in 1..u64::MAX {
-        if is_over(&stage.session) {
-            return Ok(());
-        }
-        if !take_next(stage, reader, input, number, &mut line, &mut room)? {
-            return Ok(());
-        }
-    }
-    Ok(())
-}
-
-/// Takes the lines that are fed at the end.
-fn take_last<W: Write, E: Write>(
-    stage: &mut LiveStage<'_, W, E>,
-    lines: &[String],
-) -> Result<(), Fault>
-    requires { stage.old.session.broken ≡ false }
-    ensures broken { IfOk result (λ _. stage.new.session.broken ≡ false) }
-    ensures met { AcrossStage W.contents E.contents stage.old stage.new (λ p q. AreLastMet (map string_bytes lines.now) p q result) }
-{
-    for line in lines {
-        let _ = take_line(stage, line.as_bytes(), AT_END)?;
-    }
-    Ok(())
-}
-
-/// Runs the part before the first line, and tells whether there are input channels of the names whose values stand alone.
-fn begin<W: Write, E: Write>(
-    stage: &mut LiveStage<'_, W, E>,
-    input: Option<&str>,
-) -> Result<bool, Fault>
-    requires { stage.old.session.broken ≡ false }
-    ensures broken { IfOk result (λ _. stage.new.session.broken ≡ false) }
-    ensures begun { AcrossStage W.contents E.contents stage.old stage.new (λ p q. IsFirstPart (option_copied input.entry) p q result) }
-{
-    let mut room = Vec::new(stage.teller.alloc);
-    match take_read(stage, input, b"", 0, &mut room) {
-        Ok(None) => Ok(true),
-        Ok(Some(fault)) => {
-            if is_want(fault) {
-                return Err(wants_memory());
-            }
-            Ok(false)
-        }
-        Err(fault) => Err(fault),
-    }
-}
-
-/// Takes all lines, after a part before the first, and tells whether the names whose values stand alone are of input channels.
-fn take_each<I: Read, W: Write, E: Write>(
-    stage: &mut LiveStage<'_, W, E>,
-    reader: &mut BufReader<I>,
-    input: Option<&str>,
-    at_end: &[String],
-) -> Result<bool, Fault>
-    requires { stage.old.session.broken ≡ false }
-    ensures settled { IfOk result (λ there. there ≡ true → HasVerdict stage.new.session) }
-    ensures histories { IfOk result (λ there. there ≡ true → HasHistories stage.new.session) }
-    ensures met { Through I.remaining W.contents E.contents reader.old stage.old stage.new (AreEachMet (option_copied input.entry) at_end.now result) }
-{
-    if !begin(stage, input)? {
-        return Ok(false);
-    }
-    tell_alone(stage, bare_of(input));
-    take_lines(stage, reader, input)?;
-    take_last(stage, at_end)?;
-    Ok(true)
-}
-
-/// Tells that a line isn't meant for an input channel that is to be fed at the end, unless memory was refused for it.
-fn refuse_last<E: Write>(
-    session: &Session<'_>,
-    teller: &mut Teller<E>,
-    line: &[u8],
-    fault: TakeFault,
-) -> Result<bool, Fault>
-    ensures { IsLastRefused session.now line.now fault (telling_of E.contents teller.old) (telling_of E.contents teller.new) result }
-{
-    if is_want(fault) {
-        return Err(wants_memory());
-    }
-    tell_refused(session, teller, AT_END, line, fault);
-    Ok(false)
-}
-
-/// Whether each line that is to be fed at the end is meant for an input channel; else the first that isn't is told.
+/// Whether each line that is to be fed at the end is meant for an input channel; else the first that isn't is told, unless memory was
+/// refused for it.
 fn try_last<E: Write>(
     session: &Session<'_>,
     teller: &mut Teller<E>,
@@ -435,13 +103,286 @@ fn try_last<E: Write>(
     for line in lines {
         let bytes = line.as_bytes();
         if let Err(fault) = session.try_line(bytes) {
-            return refuse_last(session, teller, bytes, fault);
+            if is_want(fault) {
+                return Err(wants_memory());
+            }
+            tell_refused(session, teller, AT_END, bytes, fault);
+            return Ok(false);
         }
     }
     Ok(true)
 }
 
-/// The same, if those that are to be fed at the end are meant for input channels; else no line is taken.
+impl<W: Write, E: Write> LiveStage<'_, W, E> {
+    /// Sends what is new, unless the next line can be read without a wait and its part is quick.
+    fn send_before<I: Read>(&mut self, reader: &BufReader<I>) -> Result<(), Fault>
+        ensures sent { HasSent (point_of W.contents E.contents self.old) (point_of W.contents E.contents self.new) }
+        ensures ready { IfOk result (λ _. IsReadyToRead (reader_buffer reader.now) self.new.outlet) }
+        ensures slow { IfOk result (λ _. MayBeSlow self.old.session.step self.old.session.flow.run → self.new.outlet.due ≡ false) }
+        ensures fault { IfErr result IsWriteFault }
+    {
+        if has_line(reader) && !self.session.may_be_slow() {
+            return Ok(());
+        }
+        self.outlet.send()
+    }
+
+    /// Tells a fault of the line of that number, behind what is new so far. It fails where that can't be written.
+    fn tell_behind(&mut self, fault: TakeFault, number: u64, line: &[u8]) -> Result<(), Fault>
+        ensures session { self.new.session ≡ self.old.session }
+        ensures told { IsRefusalTold number line.now fault (point_of W.contents E.contents self.old) (point_of W.contents E.contents self.new) result }
+    {
+        self.outlet.send()?;
+        tell_refused(&self.session, &mut self.teller, number, line, fault);
+        Ok(())
+    }
+
+    /// Tells what there is to tell of the part of the line of that number, which had this verdict, behind what is new.
+    fn tell_part(&mut self, verdict: Verdict, number: u64, line: &[u8]) -> Result<(), Fault>
+        requires { HasVerdict self.old.session }
+        ensures session { self.new.session ≡ self.old.session }
+        ensures told { IsPartMet number line.now verdict (point_of W.contents E.contents self.old) (point_of W.contents E.contents self.new) result }
+    {
+        let wanted = self.teller.is_verdict_new(verdict, line);
+        let first = self.teller.new_fault(&self.session);
+        let ringed = self.teller.is_ring_new(&self.session);
+        if is_quiet(wanted, first, ringed) {
+            return Ok(());
+        }
+        self.outlet.send()?;
+        self.teller.tell_verdict(number, wanted, verdict);
+        self.teller.tell_faulty(number, &self.session, first);
+        self.teller.tell_ring(number, &self.session);
+        Ok(())
+    }
+
+    /// Tells what there is to tell of the line of that number by its answer, and gives why it was refused.
+    fn tell_answer(
+        &mut self,
+        answer: Result<Verdict, TakeFault>,
+        number: u64,
+        line: &[u8],
+    ) -> Result<Option<TakeFault>, Fault>
+        requires { IfOk answer (λ _. HasVerdict self.old.session) }
+        ensures { IsAnswerTold number line.now answer (point_of W.contents E.contents self.old) (point_of W.contents E.contents self.new) result }
+    {
+        match answer {
+            Ok(verdict) => {
+                self.tell_part(verdict, number, line)?;
+                Ok(None)
+            }
+            Err(fault) => {
+                if fault.breaks() {
+                    return Err(last_fault(fault));
+                }
+                self.tell_behind(fault, number, line)?;
+                Ok(Some(fault))
+            }
+        }
+    }
+
+    /// Takes a line of that number, tells what there is to tell of it, and gives why it was refused.
+    fn take_line(&mut self, line: &[u8], number: u64) -> Result<Option<TakeFault>, Fault>
+        requires { self.old.session.broken ≡ false }
+        ensures broken { IfOk result (λ _. self.new.session.broken ≡ false) }
+        ensures met { IsLineMet number line.now (point_of W.contents E.contents self.old) (point_of W.contents E.contents self.new) result }
+    {
+        let answer = self.session.take(line, &Open, &mut self.outlet);
+        self.tell_answer(answer, number, line)
+    }
+
+    /// Takes a line of the input, with a name or of one channel, and gives why it was refused. Where memory is refused for it, that is told.
+    fn take_alone(
+        &mut self,
+        input: Option<&str>,
+        line: &[u8],
+        number: u64,
+        room: &mut Vec<u8>,
+    ) -> Result<Option<TakeFault>, Fault>
+        requires { self.old.session.broken ≡ false }
+        ensures broken { IfOk result (λ _. self.new.session.broken ≡ false) }
+        ensures met { AcrossStage W.contents E.contents self.old self.new (λ p q. IsAloneMet number (fed_text (option_copied input.entry) line.now) p q result) }
+    {
+        let Ok(fed) = fed_line(input, line, room) else {
+            self.tell_behind(TakeFault::NoMemory, number, b"")?;
+            return Ok(Some(TakeFault::NoMemory));
+        };
+        self.take_line(fed, number)
+    }
+
+    /// Takes the lines of a row, each meant for an input channel. One that is refused all the same ends the run: others were taken.
+    fn take_cells(&mut self, cells: &[Vec<u8>], number: u64) -> Result<(), Fault>
+        requires { self.old.session.broken ≡ false }
+        ensures broken { IfOk result (λ _. self.new.session.broken ≡ false) }
+        ensures met { AcrossStage W.contents E.contents self.old self.new (λ p q. AreCellsMet number (map bytes_in cells.now) p q result) }
+    {
+        for cell in cells {
+            match self.take_line(cell, number) {
+                Ok(None) => {}
+                Ok(Some(_refused)) => return Err(wants_memory()),
+                Err(fault) => return Err(fault),
+            }
+        }
+        Ok(())
+    }
+
+    /// Takes a row of values of these channels, or tells why it isn't taken, and gives that.
+    fn take_row(&mut self, names: &str, row: &[u8], number: u64) -> Result<Option<TakeFault>, Fault>
+        requires { self.old.session.broken ≡ false }
+        ensures broken { IfOk result (λ _. self.new.session.broken ≡ false) }
+        ensures met { AcrossStage W.contents E.contents self.old self.new (λ p q. IsRowMet names.now number row.now p q result) }
+    {
+        match row_cells(self.teller.alloc, &self.session, names.as_bytes(), row) {
+            Ok(cells) => {
+                self.take_cells(&cells, number)?;
+                Ok(None)
+            }
+            Err((fault, cell)) => {
+                self.tell_behind(fault, number, &cell)?;
+                Ok(Some(fault))
+            }
+        }
+    }
+
+    /// Takes a line of the input, and gives why it was refused.
+    fn take_read(
+        &mut self,
+        input: Option<&str>,
+        line: &[u8],
+        number: u64,
+        room: &mut Vec<u8>,
+    ) -> Result<Option<TakeFault>, Fault>
+        requires { self.old.session.broken ≡ false }
+        ensures broken { IfOk result (λ _. self.new.session.broken ≡ false) }
+        ensures met { AcrossStage W.contents E.contents self.old self.new (λ p q. IsReadMet (option_copied input.entry) number line.now p q result) }
+    {
+        let line = without_mark(line, number);
+        if is_idle(&self.session, number, line) {
+            return Ok(None);
+        }
+        match row_names(input) {
+            Some(names) => self.take_row(names, line, number),
+            None => self.take_alone(input, line, number, room),
+        }
+    }
+
+    /// Tells that no line is for another input channel, where values of one stand alone and there is another.
+    fn tell_alone(&mut self, input: Option<&str>)
+        ensures { AcrossStage W.contents E.contents self.old self.new IsAloneTold }
+    {
+        let Some(input) = input else {
+            return;
+        };
+        if is_several(input) {
+            return;
+        }
+        let Some(other) = self.session.other_input(input) else {
+            return;
+        };
+        self.teller.tell_alone(input, other);
+    }
+
+    /// Reads and takes the next line, and tells whether there was one. What is new goes out before, unless the read doesn't wait.
+    fn take_next<I: Read>(
+        &mut self,
+        reader: &mut BufReader<I>,
+        input: Option<&str>,
+        number: u64,
+        line: &mut Vec<u8>,
+        room: &mut Vec<u8>,
+    ) -> Result<bool, Fault>
+        requires { self.old.session.broken ≡ false }
+        ensures broken { IfOk result (λ _. self.new.session.broken ≡ false) }
+        ensures met { Across I.remaining W.contents E.contents reader.old reader.new self.old self.new (IsNextMet (option_copied input.entry) number result) }
+    {
+        self.send_before(reader)?;
+        match come(&self.session, reader, line, &self.outlet) {
+            Next::Line => {
+                let _ = self.take_read(input, line, number, room)?;
+                Ok(true)
+            }
+            Next::End => Ok(false),
+            Next::Failed => Err(Fault::Program(None, ReadFault::Failed)),
+            Next::NoMemory => {
+                self.tell_behind(TakeFault::NoMemory, number, b"")?;
+                Ok(true)
+            }
+        }
+    }
+
+    /// Takes the lines of the reader as long as one can change the run.
+    fn take_lines<I: Read>(
+        &mut self,
+        reader: &mut BufReader<I>,
+        input: Option<&str>,
+    ) -> Result<(), Fault>
+        requires { self.old.session.broken ≡ false }
+        ensures broken { IfOk result (λ _. self.new.session.broken ≡ false) }
+        ensures met { Through I.remaining W.contents E.contents reader.old self.old self.new (IsInputMet (option_copied input.entry) result) }
+    {
+        let mut line = Vec::new(self.teller.alloc);
+        let mut room = Vec::new(self.teller.alloc);
+        for number in 1..u64::MAX {
+            if self.session.is_deaf() {
+                return Ok(());
+            }
+            if !self.take_next(reader, input, number, &mut line, &mut room)? {
+                return Ok(());
+            }
+        }
+        Ok(())
+    }
+
+    /// Takes the lines that are fed at the end.
+    fn take_last(&mut self, lines: &[String]) -> Result<(), Fault>
+        requires { self.old.session.broken ≡ false }
+        ensures broken { IfOk result (λ _. self.new.session.broken ≡ false) }
+        ensures met { AcrossStage W.contents E.contents self.old self.new (λ p q. AreLastMet (map string_bytes lines.now) p q result) }
+    {
+        for line in lines {
+            let _ = self.take_line(line.as_bytes(), AT_END)?;
+        }
+        Ok(())
+    }
+
+    /// Runs the part before the first line, and tells whether there are input channels of the names whose values stand alone.
+    fn begin(&mut self, input: Option<&str>) -> Result<bool, Fault>
+        requires { self.old.session.broken ≡ false }
+        ensures broken { IfOk result (λ _. self.new.session.broken ≡ false) }
+        ensures begun { AcrossStage W.contents E.contents self.old self.new (λ p q. IsFirstPart (option_copied input.entry) p q result) }
+    {
+        let mut room = Vec::new(self.teller.alloc);
+        match self.take_read(input, b"", 0, &mut room) {
+            Ok(None) => Ok(true),
+            Ok(Some(fault)) if is_want(fault) => Err(wants_memory()),
+            Ok(Some(_)) => Ok(false),
+            Err(fault) => Err(fault),
+        }
+    }
+
+    /// Takes all lines, after a part before the first, and tells whether the names whose values stand alone are of input channels.
+    fn take_each<I: Read>(
+        &mut self,
+        reader: &mut BufReader<I>,
+        input: Option<&str>,
+        at_end: &[String],
+    ) -> Result<bool, Fault>
+        requires { self.old.session.broken ≡ false }
+        ensures settled { IfOk result (λ there. there ≡ true → HasVerdict self.new.session) }
+        ensures histories { IfOk result (λ there. there ≡ true → HasHistories self.new.session) }
+        ensures met { Through I.remaining W.contents E.contents reader.old self.old self.new (AreEachMet (option_copied input.entry) at_end.now result) }
+    {
+        if !self.begin(input)? {
+            return Ok(false);
+        }
+        self.tell_alone(input);
+        self.take_lines(reader, input)?;
+        self.take_last(at_end)?;
+        Ok(true)
+    }
+}
+
+/// Takes all lines, if those that are to be fed at the end are meant for input channels, and else none.
 pub(crate) fn take_all<I: Read, W: Write, E: Write>(
     stage: &mut LiveStage<'_, W, E>,
     reader: &mut BufReader<I>,
@@ -454,7 +395,7 @@ pub(crate) fn take_all<I: Read, W: Write, E: Write>(
     ensures met { Through I.remaining W.contents E.contents reader.old stage.old stage.new (AreAllMet (option_copied input.entry) at_end.now result) }
 {
     match try_last(&stage.session, &mut stage.teller, at_end) {
-        Ok(true) => take_each(stage, reader, input, at_end),
+        Ok(true) => stage.take_each(reader, input, at_end),
         Ok(false) => Ok(false),
         Err(fault) => Err(fault),
     }

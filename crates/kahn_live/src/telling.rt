@@ -1,11 +1,12 @@
 //! What is told of lines that aren't taken, and of the end.
 
-ghost use Rattle.std.specs.Prelude.{◌≡◌, IfOk, IsTrue, false, option_copied, string_bytes, true};
-ghost use Rattle.kahn_session.specs.{Refusals.alone_line, Refusals.sentence_text, Refusals.unknown_text, Live.HasVerdict, Live.IsRinged};
+ghost use Rattle.std.specs.Prelude.{◌≡◌, [], IfOk, IsTrue, false, option_copied, string_bytes, true};
+ghost use Rattle.kahn_session.specs.{Refusals.sentence_pieces, Live.HasVerdict, Live.IsRinged, Live.has_left};
 ghost use Rattle.kahn_fault.specs.{Status.live_status_of, Telling.pointer_text, Telling.told_text};
-ghost use Rattle.kahn_live.specs.Course.{AreCausesOf, IsFaultPut, IsHintTold, IsMoreTold, IsNewFault, IsNextTold, IsRingTold, IsTallied, IsVerdictTold, WasTold, does_count, is_again, is_alike, is_next, is_verdict_new, telling_of};
-ghost use Rattle.kahn_live.specs.Running.{IsEndPut, IsEndTold, IsLastTold, IsLeftTold, IsWhyTold, untold};
+ghost use Rattle.kahn_live.specs.Course.{AreCausesOf, IsFaultPut, IsMoreTold, IsNewFault, IsNextTold, IsRingTold, IsTallied, IsVerdictTold, WasSaid, WasTold, is_again, is_alike, is_verdict_new, telling_of};
+ghost use Rattle.kahn_live.specs.Running.{IsEndPut, IsLastTold, IsLeftTold, IsVerdictMet, IsWhyTold, untold};
 
+use crate::serving::{Amiss, is_end_wanted};
 use kahn_fault::{Fault, live_status, tell, tell_explain};
 use kahn_inputs::RefusedPart;
 use kahn_line::parted;
@@ -16,13 +17,6 @@ use kahn_why::causes;
 use std::alloc::{AllocError, Global};
 use std::io::Write;
 
-/// Whether a number is the next one.
-fn is_next(number: u64, before: u64) -> bool
-    ensures { result ≡ is_next number before }
-{
-    number != 0 && number - 1 == before
-}
-
 /// Whether a fault is told in the words of another.
 fn is_alike(last: Option<TakeFault>, fault: TakeFault) -> bool
     ensures { result ≡ is_alike last fault }
@@ -31,13 +25,6 @@ fn is_alike(last: Option<TakeFault>, fault: TakeFault) -> bool
         None => false,
         Some(last) => take_words(last) == take_words(fault),
     }
-}
-
-/// Whether a refused line counts: not where refused lines are to leave the status as it is, unless the line was lost for want of memory.
-fn does_count(keep_going: bool, fault: TakeFault) -> bool
-    ensures { result ≡ does_count keep_going fault }
-{
-    !keep_going || is_want(fault)
 }
 
 /// What came of the run of a session and its causes, in words.
@@ -60,7 +47,6 @@ fn cause_words(
 /// A writer of faults, and what lines were refused.
 #[derive(Drop)]
 pub(crate) struct Teller<E: Write> {
-    // For what is said of a line.
     pub(crate) alloc: Global,
     pub(crate) errors: E,
     // Whether a write failed.
@@ -68,22 +54,18 @@ pub(crate) struct Teller<E: Write> {
     // Whether refused lines leave the status as it is, but for those that were lost for want of memory.
     pub(crate) keep_going: bool,
     pub(crate) refused: bool,
-    // The program's file.
     pub(crate) path: String,
     // Why the last line that was refused was.
     pub(crate) last: Option<TakeFault>,
     // The number of the line that was told to be refused, and that of the last one that was, for the same reason.
     pub(crate) first: u64,
     pub(crate) number: u64,
-    // Whether it was told how bare numbers are taken.
+    // Whether it was told how bare numbers are taken; that a line wants more events than a part may do; that the part of a line waits for
+    // memory; that a process has a fault; and that processes wait on one another in a ring.
     pub(crate) hinted: bool,
-    // Whether it was told that a line wants more events than a part may do.
     pub(crate) stepped: bool,
-    // Whether it was told that the part of a line waits for memory.
     pub(crate) waited: bool,
-    // Whether it was told that a process has a fault.
     pub(crate) faulted: bool,
-    // Whether it was told that processes wait on one another in a ring.
     pub(crate) ringed: bool,
 }
 
@@ -115,14 +97,14 @@ impl<E: Write> Teller<E> {
         ensures { result ≡ is_again (telling_of E.contents self.now) number fault (option_copied input.entry) }
     {
         match input {
-            None => is_next(number, self.number) && is_alike(self.last, fault),
+            None => number != 0 && number - 1 == self.number && is_alike(self.last, fault),
             Some(_) => false,
         }
     }
 
     /// Tells a sentence.
     pub(crate) fn say(&mut self, sentence: Sentence<'_>)
-        ensures { WasTold (sentence_text (string_bytes self.old.path) sentence.entry) (telling_of E.contents self.old) (telling_of E.contents self.new) }
+        ensures { WasSaid (sentence_pieces (string_bytes self.old.path) sentence.entry) (telling_of E.contents self.old) (telling_of E.contents self.new) }
     {
         let told = write_sentence(&mut self.errors, self.path.as_str(), sentence);
         self.failed |= told.is_err();
@@ -137,23 +119,12 @@ impl<E: Write> Teller<E> {
         self.say(Sentence::More(more));
     }
 
-    /// Counts the line of that number.
+    /// Counts the line of that number; not where refused lines leave the status as it is, unless it was lost for want of memory.
     pub(crate) fn count(&mut self, number: u64, fault: TakeFault)
         ensures { IsTallied number fault (telling_of E.contents self.old) (telling_of E.contents self.new) }
     {
-        self.refused |= does_count(self.keep_going, fault);
+        self.refused |= !self.keep_going | is_want(fault);
         self.number = number;
-    }
-
-    /// Tells how bare numbers are taken, where an input channel is named.
-    fn tell_hint(&mut self, input: Option<&str>)
-        ensures { IsHintTold (option_copied input.entry) (telling_of E.contents self.old) (telling_of E.contents self.new) }
-    {
-        let Some(input) = input else {
-            return;
-        };
-        self.hinted = true;
-        self.say(Sentence::Bare(input));
     }
 
     /// Tells why the line of that number is refused, by the part of it that is at fault, and how bare numbers are taken, where an
@@ -165,26 +136,30 @@ impl<E: Write> Teller<E> {
         part: RefusedPart<'_>,
         input: Option<&str>,
     )
-        ensures { IsNextTold number fault part.entry (option_copied input.entry) (telling_of E.contents self.old) (telling_of E.contents self.new) }
+        ensures { IsNextTold number fault part.entry.word.now (option_copied input.entry) (telling_of E.contents self.old) (telling_of E.contents self.new) }
     {
         self.tell_more();
         self.count(number, fault);
         self.last = Some(fault);
         self.first = number;
         self.say(Sentence::Refused(number, fault, part.word, part.words));
-        self.tell_hint(input);
+        let Some(input) = input else {
+            return;
+        };
+        self.hinted = true;
+        self.say(Sentence::Words("bare numbers are taken with --plain ", input));
     }
 
     /// Tells that all lines are for one input channel and none is for another.
     pub(crate) fn tell_alone<'a>(&mut self, input: &'a str, other: &'a str)
-        ensures { WasTold (alone_line (string_bytes self.old.path) input.now other.now) (telling_of E.contents self.old) (telling_of E.contents self.new) }
+        ensures { WasSaid [] (telling_of E.contents self.old) (telling_of E.contents self.new) }
     {
         self.say(Sentence::Alone(input, other));
     }
 
     /// Tells that no channel has the name of `--plain` or `--watch` for the values that are shown, and more words.
     pub(crate) fn tell_unknown<'a>(&mut self, of_plain: bool, name: &'a str, words: &'a str)
-        ensures { WasTold (unknown_text (string_bytes self.old.path) of_plain name.now words.now) (telling_of E.contents self.old) (telling_of E.contents self.new) }
+        ensures { WasSaid [] (telling_of E.contents self.old) (telling_of E.contents self.new) }
     {
         self.say(Sentence::Unknown(of_plain, name, words));
     }
@@ -239,7 +214,7 @@ impl<E: Write> Teller<E> {
         session: &Session<'_>,
         first: Option<(usize, Failure)>,
     )
-        ensures { IsFaultPut number session.now.flow.run.network first (telling_of E.contents self.old) (telling_of E.contents self.new) }
+        ensures { IsFaultPut number first (telling_of E.contents self.old) (telling_of E.contents self.new) }
     {
         let Some((instance, kind)) = first else {
             return;
@@ -270,21 +245,23 @@ impl<E: Write> Teller<E> {
         if !self.is_ring_new(session) {
             return;
         }
-        match cause_words(self.alloc, "", "", session) {
-            Ok(words) => {
-                self.ringed = true;
-                self.say(Sentence::Note(number, parted(words.as_str(), '\n').0));
-            }
-            Err(_) => {}
-        }
+        let Ok(words) = cause_words(self.alloc, "", "", session) else {
+            return;
+        };
+        self.ringed = true;
+        self.say(Sentence::Note(number, parted(words.as_str(), '\n').0));
     }
 
-    /// Tells that values are left without the others of their row, behind how many lines more were refused.
-    pub(crate) fn tell_left(&mut self)
-        ensures { IsLeftTold true (telling_of E.contents self.old) (telling_of E.contents self.new) }
+    /// Tells that values are left without the others of their row, where some are, behind how many lines more were refused.
+    pub(crate) fn tell_left(&mut self, session: &Session<'_>)
+        ensures { IsLeftTold (has_left session.now) (telling_of E.contents self.old) (telling_of E.contents self.new) }
     {
+        if !session.has_left() {
+            return;
+        }
         self.tell_more();
-        self.say(Sentence::Words("values are left without the others of their row"));
+        let words = "values are left without the others of their row";
+        self.say(Sentence::Words(words, ""));
     }
 
     /// Tells lines that are made.
@@ -302,7 +279,7 @@ impl<E: Write> Teller<E> {
     {
         match cause_words(self.alloc, self.path.as_str(), program, session) {
             Ok(words) => self.put_lines(words.as_str()),
-            Err(_) => self.say(Sentence::Words("no memory to say why it ended so")),
+            Err(_) => self.say(Sentence::Words("no memory to say why it ended so", "")),
         }
     }
 
@@ -315,14 +292,27 @@ impl<E: Write> Teller<E> {
         self.failed |= told.is_err();
     }
 
-    /// Tells why the run of a session of the network of a program text ended, and how, behind how many lines more were refused.
-    pub(crate) fn tell_end(&mut self, session: &Session<'_>, program: &str)
+    /// Tells why the run of a session of the network of a program text ended, and how, behind how many lines more were refused; only
+    /// where that is wanted of a run of which that is amiss.
+    pub(crate) fn tell_end(
+        &mut self,
+        session: &Session<'_>,
+        program: &str,
+        amiss: Option<Amiss>,
+    ) -> Verdict
         requires { HasVerdict session.now }
-        ensures { IsEndTold session.now.flow.run (telling_of E.contents self.old) (telling_of E.contents self.new) true }
+        ensures { IsVerdictMet session.now.flow.run amiss (telling_of E.contents self.old) (telling_of E.contents self.new) result }
     {
+        let Some(verdict) = session.verdict() else {
+            unreachable!()
+        };
+        if !is_end_wanted(session, amiss, self.refused, verdict) {
+            return verdict;
+        }
         self.tell_more();
         self.put_causes(session, program);
         self.put_end(session);
+        verdict
     }
 
     /// Tells why a run has no answer, where it has none. The fault's place is one of the program text.

@@ -1,9 +1,8 @@
 -- The sum of all bounds of a part, and the events so far.
-use Rattle.kahn_session.proofs.Common.{arith, ◌≡◌, ◌∙◌, ℕ, zero, suc, ◌+◌, ◌≤◌, List, [], ◌∷◌, MatchResult, Result, Ok, Err, sum_by, refl, sym, ap, subst, HasResumed, HeldRun, Seen, seen_at, seen_events, Flowing, IsUnpoured, IsNotMeant, Entry, Program, IsMeantLine, IsUnfedBy, Pace, events_of, most_bound, part_bound}
+use Rattle.kahn_session.proofs.Common.{arith, ◌≡◌, ◌∙◌, ℕ, zero, suc, ◌+◌, ◌≤◌, List, [], ◌∷◌, sum_by, refl, sym, ap, subst, HasResumed, HeldRun, Seen, seen_at, seen_events, Flowing, IsUnpoured, IsNotMeant, Entry, Program, Pace, events_of, most_bound, part_bound}
 use Rattle.std.proofs.{lemmas.List.Sums.sum_by-cons, Math.Nat.min-le_left, Math.Nat.min-le_right}
 use Rattle.kahn_streams.proofs.Fed.{not_many, not_memory}
 use Rattle.kahn_streams.specs.{declared.feeds.FeedFault.FeedFault, declared.feeds.FeedFault.TheVariants.NoMemory, declared.feeds.FeedFault.TheVariants.NotAnInput, declared.feeds.FeedFault.TheVariants.TooMany, declared.feeds.FeedFault.TheVariants.UnknownName, declared.feeds.FeedFault.TheVariants.WrongKind}
-use Rattle.kahn_session.specs.declared.fault.TakeFault.{TakeFault}
 
 -- where no process has fewer events, neither have all together
 no_fewer : (xs ys : List Seen) → ((p : ℕ) → (seen_at xs p).events ≤ (seen_at ys p).events) → sum_by seen_events xs ≤ sum_by seen_events ys
@@ -53,10 +52,3 @@ unmeant t entry h NoMemory same why = absurd (not_memory t entry why)
 unmeant t entry h UnknownName same why = (refl, subst (λ (s : Program). IsNotMeant s entry UnknownName) (sym same) why)
 unmeant t entry h NotAnInput same why = (refl, subst (λ (s : Program). IsNotMeant s entry NotAnInput) (sym same) why)
 unmeant t entry h WrongKind same why = (refl, subst (λ (s : Program). IsNotMeant s entry WrongKind) (sym same) why)
-
--- a line that was tried over the network of a run
-pub tried : (line : List ℕ) (t : Program) (h : Flowing) (r : Result (Unit {0}) TakeFault) → h.run.network ≡ t
-    → MatchResult r (λ _. IsMeantLine line t) (λ f. (g : Flowing) → g.run.network ≡ t → IsUnfedBy line g f)
-    → MatchResult r (λ _. IsMeantLine line h.run.network) (IsUnfedBy line h)
-tried line t h (Ok x) same meant = subst (λ (s : Program). IsMeantLine line s) (sym same) meant
-tried line t h (Err f) same why = why h same

@@ -193,6 +193,15 @@ IsDeaf h deaf =
     (v : Verdict) × (h.verdict ≡ Some v)
     × ((ends : List End) × IsRightSoFar h v ends × (deaf ≡ (is_finished v && not (list_any (waits_on_input (network_of h.network)) ends))))
 
+-- a line may still change the run
+abbrev pub IsHearing : Live → Type 0
+IsHearing s = HasVerdict s → IsDeaf s.flow.run false
+
+-- whether none can
+abbrev pub IsDeafNow : Live → Bool → Type 0
+IsDeafNow s true = HasVerdict s × IsDeaf s.flow.run true
+IsDeafNow s false = IsHearing s
+
 -- whether processes wait on one another in a ring, of the ends that are right for the input so far and the bound so far
 abbrev pub IsRinged : HeldRun → Bool → Type 0
 IsRinged h ringed =

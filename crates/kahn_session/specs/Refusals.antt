@@ -1,22 +1,14 @@
--- Believed. What is said of lines of input that aren't taken, and of their parts (this project's profile).
-use Rattle.std.specs.Prelude.{ℕ, ◌-◌, ◌^◌, ◌==◌, ◌&&◌, ◌||◌, Bool, true, false, not, List, [], ◌∷◌, codes, decimal, if◌then◌else◌, length, nat_lt}
+-- Believed. What is said of lines of input that aren't taken: of which line, and why (this project's profile).
+use Rattle.std.specs.Prelude.{ℕ, ◌-◌, ◌^◌, ◌==◌, ◌&&◌, ◌||◌, ◌++◌, Bool, true, false, not, List, [], ◌∷◌, Option, Result, codes, decimal, if◌then◌else◌}
 use Rattle.std.specs.List.{concat}
-use Rattle.kahn_streams.specs.{declared.feeds.FeedFault.FeedFault, declared.tree.Program.Program, declared.value.Failure.Failure, declared.value.Failure.TheVariants.Overflow, declared.value.Failure.TheVariants.Division}
+use Rattle.kahn_streams.specs.Written.{Writes}
 use Rattle.kahn_streams.specs.declared.feeds.FeedFault.TheVariants as feed
 use Rattle.kahn_marks.specs.Shown.{shown_part}
-use Rattle.kahn_texts.specs.Formats.{process_name}
+use Rattle.kahn_texts.specs.declared.bytes.WriteFault.{WriteFault}
 use Rattle.kahn_session.specs.declared.fault.TakeFault.{TakeFault}
 use Rattle.kahn_session.specs.declared.fault.TakeFault.TheVariants as take
 use Rattle.kahn_session.specs.declared.refusal.Sentence.{Sentence}
 use Rattle.kahn_session.specs.declared.refusal.Sentence.TheVariants as sentence
-
--- why values aren't fed
-abbrev pub feed_words : FeedFault → List ℕ
-feed_words feed.UnknownName = codes "no such channel"
-feed_words feed.NotAnInput = codes "not an input channel"
-feed_words feed.WrongKind = codes "kind does not agree"
-feed_words feed.TooMany = codes "too many values"
-feed_words feed.NoMemory = codes "no memory"
 
 -- why a line isn't taken
 abbrev pub take_words : TakeFault → List ℕ
@@ -25,7 +17,11 @@ take_words take.NotUtf8 = codes "not UTF-8"
 take_words take.BadLine = codes "not a name and a colon"
 take_words take.BadValue = codes "not a value"
 take_words take.BadRow = codes "not one value for each channel"
-take_words (take.Feed f) = feed_words f
+take_words (take.Feed feed.UnknownName) = codes "no such channel"
+take_words (take.Feed feed.NotAnInput) = codes "not an input channel"
+take_words (take.Feed feed.WrongKind) = codes "kind does not agree"
+take_words (take.Feed feed.TooMany) = codes "too many values"
+take_words (take.Feed feed.NoMemory) = codes "no memory"
 take_words take.NoMemory = codes "no memory"
 take_words (take.Write f) = codes "news could not be written"
 
@@ -34,16 +30,6 @@ abbrev pub is_want : TakeFault → Bool
 is_want take.NoMemory = true
 is_want (take.Feed feed.NoMemory) = true
 is_want f = false
-
--- ---- a part of a line as it is shown
-
-abbrev pub before_part : List ℕ → List ℕ
-before_part [] = []
-before_part (b ∷ bs) = codes ": `"
-
-abbrev pub behind_part : List ℕ → ℕ → List ℕ
-behind_part [] shown = []
-behind_part (b ∷ bs) shown = if nat_lt shown (length (b ∷ bs)) then codes "..`" else codes "`"
 
 -- ---- what is said of a line
 
@@ -62,71 +48,31 @@ origin of_plain number = if of_plain then codes ": --plain" else if number == at
 abbrev pub digits : Bool → ℕ → List ℕ
 digits of_plain number = if of_plain || number == at_end_number then [] else decimal number
 
--- that and words, a part of the line, and more words
-abbrev pub pieces : List ℕ → List ℕ → List ℕ → List ℕ → List ℕ → List ℕ → List ℕ → List ℕ → List ℕ
-pieces path from number words lead part tail more =
-    concat (path ∷ from ∷ number ∷ codes ": " ∷ words ∷ lead ∷ part ∷ tail ∷ more ∷ codes "\n" ∷ [])
+-- what stands before a part of a line
+abbrev pub before_part : List ℕ → List ℕ
+before_part [] = []
+before_part (b ∷ bs) = codes ": `"
 
-abbrev pub said_text : List ℕ → List ℕ → List ℕ → List ℕ → List ℕ → List ℕ → List ℕ
-said_text path from number words part more =
-    pieces path from number words (before_part part) (shown_part part) (behind_part part (length (shown_part part))) more
+-- the program's file, where a line comes from, and what is said of it first: words, and a part of it as it is shown
+abbrev pub said_pieces : List ℕ → List ℕ → List ℕ → List ℕ → List ℕ → List (List ℕ)
+said_pieces path from number words part = path ∷ from ∷ number ∷ codes ": " ∷ words ∷ before_part part ∷ shown_part part ∷ []
 
--- what is said of a line of input: words, a part of it, and more words
-abbrev pub line_text : List ℕ → Bool → ℕ → List ℕ → List ℕ → List ℕ → List ℕ
-line_text path of_plain number words part more = said_text path (origin of_plain number) (digits of_plain number) words part more
+-- of a line that isn't taken why, and the part of it that is at fault
+abbrev pub refused_pieces : List ℕ → ℕ → TakeFault → List ℕ → List (List ℕ)
+refused_pieces path number f part = said_pieces path (origin (is_of_plain number f) number) (digits (is_of_plain number f) number) (take_words f) part
 
--- why a line isn't taken, the part of it that is at fault, and what is wanted there
-abbrev pub refusal_line : List ℕ → ℕ → TakeFault → List ℕ → List ℕ → List ℕ
-refusal_line path number f part more = line_text path (is_of_plain number f) number (take_words f) part more
+-- of another line these words
+abbrev pub line_pieces : List ℕ → ℕ → List ℕ → List (List ℕ)
+line_pieces path number words = said_pieces path (origin false number) (digits false number) words []
 
--- how numbers without a name are taken for an input channel
-abbrev pub bare_line : List ℕ → List ℕ → List ℕ
-bare_line path input = pieces path [] [] (codes "bare numbers are taken with --plain ") input [] [] []
+-- a text that begins with these pieces was written, or after a fault of the writer a prefix of one
+pub record Says (pieces : List (List ℕ)) (old new : Option (List ℕ)) (r : Result (Unit {0}) WriteFault) : Type 0 where
+  pub rest : List (List ℕ)
+  pub text : Writes old new r (concat (pieces ++ rest))
 
--- the option that names a channel whose values are shown
-abbrev pub showing_option : Bool → List ℕ
-showing_option of_plain = if of_plain then codes ": --plain" else codes ": --watch"
-
--- no channel has the name of `--plain` or `--watch` for the values that are shown, and more words
-abbrev pub unknown_text : List ℕ → Bool → List ℕ → List ℕ → List ℕ
-unknown_text path of_plain name more = said_text path (showing_option of_plain) [] (feed_words feed.UnknownName) name more
-
--- all lines are for one input channel, and none is for another
-abbrev pub alone_line : List ℕ → List ℕ → List ℕ → List ℕ
-alone_line path input other = pieces path [] [] (codes "--plain feeds ") input [] (codes " alone; no line feeds ") other
-
-abbrev pub more_words : ℕ → List ℕ
-more_words count = if count == 1 then codes " line more like it" else codes " lines more like it"
-
--- how many lines more weren't taken as the last one that was told of
-abbrev pub alike_text : List ℕ → ℕ → List ℕ
-alike_text path count = if count == 0 then [] else concat (path ∷ codes ": and " ∷ decimal count ∷ more_words count ∷ codes "\n" ∷ [])
-
--- words behind the program's file
-abbrev pub path_line : List ℕ → List ℕ → List ℕ
-path_line path words = concat (path ∷ codes ": " ∷ words ∷ codes "\n" ∷ [])
-
--- words about a line that was taken
-abbrev pub line_note : List ℕ → ℕ → List ℕ → List ℕ
-line_note path number words = line_text path false number words [] []
-
--- which fault a process has
-abbrev pub failure_words : Failure → List ℕ
-failure_words Overflow = codes " has a fault: overflow"
-failure_words Division = codes " has a fault: division"
-
--- the process of this number, from 1, has a fault since the part of this line
-abbrev pub failed_text : List ℕ → ℕ → Program → ℕ → Failure → List ℕ
-failed_text path number t instance kind =
-    pieces path (origin false number) (digits false number) (decimal instance) (codes " ") (process_name t (instance - 1)) (failure_words kind) []
-
--- what is told of a run on lines
-abbrev pub sentence_text : List ℕ → Sentence → List ℕ
-sentence_text path (sentence.Refused number f part more) = refusal_line path number f part.now more.now
-sentence_text path (sentence.Bare input) = bare_line path input.now
-sentence_text path (sentence.More count) = alike_text path count
-sentence_text path (sentence.Unknown of_plain name more) = unknown_text path of_plain name.now more.now
-sentence_text path (sentence.Alone input other) = alone_line path input.now other.now
-sentence_text path (sentence.Words words) = path_line path words.now
-sentence_text path (sentence.Note number words) = line_note path number words.now
-sentence_text path (sentence.Failed number network instance kind) = failed_text path number network.now instance kind
+-- with what a sentence about a line begins; of the process of a number, from 1, that has a fault since the part of the line
+abbrev pub sentence_pieces : List ℕ → Sentence → List (List ℕ)
+sentence_pieces path (sentence.Refused number f part more) = refused_pieces path number f part.now
+sentence_pieces path (sentence.Note number words) = line_pieces path number words.now
+sentence_pieces path (sentence.Failed number network instance kind) = line_pieces path number (decimal instance)
+sentence_pieces path s = []

@@ -212,27 +212,8 @@ pub(crate) fn is_uneven(run: &Paced<'_>, columns: &[usize], count: usize) -> boo
     are_rows(columns) && has_more(run, columns, count)
 }
 
-/// What waits of the stream of that number behind so many rows.
+/// What waits of the stream of that number behind so many rows, if its values stand in rows, and else nothing.
 fn waiting_of(
-    alloc: Global,
-    run: &Paced<'_>,
-    number: usize,
-    count: usize,
-) -> Result<Vec<Value>, NoMemory>
-    ensures { IfOk result (λ left. left.items ≡ drop count (next_of run.now number)) }
-{
-    let mut left = Vec::new(alloc);
-    for place in count..usize::MAX {
-        let Some(value) = next_at(run, number, place) else {
-            return Ok(left);
-        };
-        left.push(value)?;
-    }
-    Err(NoMemory)
-}
-
-/// The same if its values stand in rows, and else nothing.
-fn waiting_in(
     alloc: Global,
     run: &Paced<'_>,
     columns: &[usize],
@@ -241,10 +222,17 @@ fn waiting_in(
 ) -> Result<Vec<Value>, NoMemory>
     ensures { IfOk result (λ left. left.items ≡ (if list_any (λ c. c == number) columns.now then drop count (next_of run.now number) else [])) }
 {
-    if columns.contains(&number) {
-        return waiting_of(alloc, run, number, count);
+    let mut left = Vec::new(alloc);
+    if !columns.contains(&number) {
+        return Ok(left);
     }
-    Ok(Vec::new(alloc))
+    for place in count..usize::MAX {
+        let Some(value) = next_at(run, number, place) else {
+            return Ok(left);
+        };
+        left.push(value)?;
+    }
+    Err(NoMemory)
 }
 
 /// What waits of each stream behind so many rows.
@@ -259,7 +247,7 @@ fn all_waiting(
     let lines = run.lines();
     let mut left = Vec::new(alloc);
     for number in 0..lines.len() {
-        left.push(waiting_in(alloc, run, columns, number, count)?)?;
+        left.push(waiting_of(alloc, run, columns, number, count)?)?;
     }
     Ok(left)
 }

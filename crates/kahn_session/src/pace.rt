@@ -13,12 +13,6 @@ use kahn_streams::{
 use std::alloc::Global;
 use std::marker::Model;
 
-/// Parts of no more events take no time that anybody waits.
-const QUICK: u64 = 10_000;
-
-/// Nor do parts that may be of so many events, where the last one was quick.
-const MOST_QUICK: u64 = 1_000_000;
-
 /// A run that is fed as it goes, each part of which may take so many events.
 #[derive(Drop)]
 pub(crate) struct Paced<'n> {
@@ -93,7 +87,7 @@ impl<'n> Paced<'n> {
     pub(crate) fn may_be_slow(&self) -> bool
         ensures { IsTrue result ↔ MayBeSlow self.now.step self.now.flow.run }
     {
-        self.step > MOST_QUICK || self.flow.budget() < self.step.saturating_sub(QUICK)
+        self.step > 1_000_000 || self.flow.budget() < self.step.saturating_sub(10_000)
     }
 
     /// Puts values behind those of an input channel.

@@ -1,12 +1,12 @@
 //! Sessions: what a line of input makes of a run, and what goes out after it.
 
-ghost use Rattle.std.specs.Prelude.{◌≡◌, ◌↔◌, ◌&&◌, not, Some, false, map, true, IsTrue, MatchResult, option_copied};
+ghost use Rattle.std.specs.Prelude.{◌≡◌, ◌↔◌, ◌&&◌, not, Some, false, map, IsTrue, MatchResult, option_copied};
 ghost use Rattle.std.specs.List.{list_any, position};
 ghost use Rattle.kahn_streams.specs.{Network.network_of, declared.answer.Verdict.Verdict as VerdictOf};
 ghost use Rattle.kahn_chain.specs.Chain.{AreStandings, stands};
 ghost use Rattle.kahn_sequential.specs.{Flows.Flowing, HeldRuns.IsRightSoFar};
 ghost use Rattle.kahn_texts.specs.Formats.{IsReadLine, channel_name, content};
-ghost use Rattle.kahn_session.specs.Live.{HasOpened, IsClosed, IsDeaf, IsFaulty, IsFedBy, IsFirstFault, IsFirstInput, IsMeantLine, IsOtherInput, HasVerdict, IsRinged, IsTakenLine, IsText, IsUnfedBy, IsUnopened, breaks, first_faulted, has_left, is_finished, is_input, bears_name, is_other_input, stream_of, waits_on_input, wants_input};
+ghost use Rattle.kahn_session.specs.Live.{HasOpened, IsClosed, IsDeafNow, IsFaulty, IsFedBy, IsFirstFault, IsFirstInput, IsMeantLine, IsOtherInput, HasVerdict, IsRinged, IsTakenLine, IsText, IsUnfedBy, IsUnopened, breaks, first_faulted, has_left, is_finished, is_input, bears_name, is_other_input, stream_of, waits_on_input, wants_input};
 ghost use Rattle.kahn_session.specs.Pace.{MayBeSlow};
 
 use crate::fault::TakeFault;
@@ -85,20 +85,6 @@ fn feed_line(alloc: Global, paced: &mut Paced<'_>, line: &[u8]) -> Result<(), Ta
         Ok(None) => Ok(()),
         Ok(Some((name, values))) => match paced.feed(name.as_str(), &values) {
             Ok(()) => Ok(()),
-            Err(fault) => Err(TakeFault::Feed(fault)),
-        },
-        Err(fault) => Err(fault),
-    }
-}
-
-/// Whether the values of a line are meant for an input channel of a network, or why they aren't fed.
-fn line_meant(alloc: Global, network: &Network, line: &[u8]) -> Result<(), TakeFault>
-    ensures { MatchResult result (λ _. IsMeantLine line.now network.now) (λ f. (h : Flowing) → h.run.network ≡ network.now → IsUnfedBy line.now h f) }
-{
-    match entry_of_line(alloc, line) {
-        Ok(None) => Ok(()),
-        Ok(Some((name, values))) => match channel_meant(network, name.as_str(), &values) {
-            Ok(_) => Ok(()),
             Err(fault) => Err(TakeFault::Feed(fault)),
         },
         Err(fault) => Err(fault),
@@ -192,11 +178,11 @@ fn has_input_wait(network: &Network, ends: &[End]) -> bool
     ends.iter().any(|end| wants_input(network, end.outcome))
 }
 
-/// Whether a run with this verdict is over, where one of its processes waits on an input channel or none does.
-fn is_over(verdict: Verdict, waits: bool) -> bool
-    ensures { result ≡ (is_finished verdict && not waits) }
+/// Whether a run with this verdict and these ends is over: it has finished, and no end is a wait on an input channel.
+fn is_over(network: &Network, verdict: Verdict, ends: &[End]) -> bool
+    ensures { result ≡ (is_finished verdict && not (list_any (waits_on_input (network_of network.now)) ends.now)) }
 {
-    matches!(verdict, Verdict::Finished) && !waits
+    matches!(verdict, Verdict::Finished) && !has_input_wait(network, ends)
 }
 
 impl<'n> Session<'n> {
@@ -247,7 +233,16 @@ impl<'n> Session<'n> {
     pub fn try_line(&self, line: &[u8]) -> Result<(), TakeFault>
         ensures { MatchResult result (λ _. IsMeantLine line.now self.now.flow.run.network) (IsUnfedBy line.now self.now.flow) }
     {
-        line_meant(self.alloc, self.network, line)
+        match entry_of_line(self.alloc, line) {
+            Ok(None) => Ok(()),
+            Ok(Some((name, values))) => {
+                match channel_meant(self.network, name.as_str(), &values) {
+                    Ok(_) => Ok(()),
+                    Err(fault) => Err(TakeFault::Feed(fault)),
+                }
+            }
+            Err(fault) => Err(fault),
+        }
     }
 
     /// Feeds the values of a line of input, which stands without its line feed, runs a part, and writes what is new: a line
@@ -288,14 +283,8 @@ impl<'n> Session<'n> {
         Ok(verdict)
     }
 
-    /// Whether the last part has a verdict that still holds, and no write failed. Then the session may be closed.
-    pub fn settled(&self) -> bool
-        ensures { IsTrue result ↔ HasVerdict self.now }
-    {
-        !self.broken && self.paced.verdict().is_some()
-    }
-
-    /// The verdict of the last part, where nothing changed since.
+    /// The verdict of the last part, where nothing changed since. With one, and if no write failed, the session is settled: it may
+    /// be closed.
     pub fn verdict(&self) -> Option<Verdict>
         ensures { result ≡ self.now.flow.run.verdict }
     {
@@ -319,17 +308,18 @@ impl<'n> Session<'n> {
         self.first_fault().is_some()
     }
 
-    /// Whether no line can change the run any more: it has finished, and no process waits on an input channel. It is asked only
-    /// where the session is settled.
+    /// Whether no line can change the run any more: the session is settled, the run has finished, and no process waits on an input
+    /// channel.
     pub fn is_deaf(&self) -> bool
-        requires { HasVerdict self.now }
-        ensures { IsDeaf self.now.flow.run result }
+        ensures { IsDeafNow self.now result }
     {
+        if self.broken {
+            return false;
+        }
         let Some(verdict) = self.paced.verdict() else {
-            unreachable!()
+            return false;
         };
-        let waits = has_input_wait(self.network, self.paced.ends());
-        is_over(verdict, waits)
+        is_over(self.network, verdict, self.paced.ends())
     }
 
     /// How each process stands. It is asked only where the session is settled.

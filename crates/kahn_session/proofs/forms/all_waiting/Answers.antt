@@ -8,10 +8,10 @@ loop-number-preserved c =
     let lines = flow_lines p.flow.run in
     let columns = c.args.columns.now in
     let number = c.loop-number.number in
-    let v = c.in_ok-waiting_in.field-0 in
+    let v = c.in_ok-waiting_of.field-0 in
     let all = waiting_from (next_of p) c.args.count columns 0 lines in
     let within : number < length c.lines-lines.result.now = omega (arith, c.loop-number-test.true, c.loop-number.auto.number-end) in
     let below = subst (λ (l : List Line). number < length l) c.lines-lines.ensures within in
     let pushed : c.push.new.self.items ≡ c.loop-number.left.items ++ (v ∷ []) = search rules in
     subst (λ (l : List (Vec Value Global)). kept_values l ++ waiting_from (next_of p) c.args.count columns (number + 1) (drop (number + 1) lines) ≡ all) (sym pushed)
-    (kept_more (next_of p) c.args.count columns lines number c.loop-number.left.items v all below c.loop-number.invariant c.in_ok-waiting_in.ensures)
+    (kept_more (next_of p) c.args.count columns lines number c.loop-number.left.items v all below c.loop-number.invariant c.in_ok-waiting_of.ensures)
