@@ -8,7 +8,7 @@ pub use Rattle.kahn_live.specs.Running.{HasRunText, HasServed, HasServedAll, IsE
 pub use Rattle.kahn_sequential.specs.HeldRuns.{HeldRun, IsRightSoFar, so_far}
 pub use Rattle.kahn_session.specs.Forms.{HasLetGoAt, are_rows, next_of, row_count}
 pub use Rattle.kahn_session.specs.Live.{HasOpened, HasTaken, HasVerdict, IsFaulty, IsFirstInput, IsHearing, IsMeantLine, IsRinged, IsTakenLine, IsUnfedBy, Live, breaks, pace_after, pace_of, stream_of}
-pub use Rattle.kahn_session.specs.Refusals.{Says, at_end_number, refused_pieces, sentence_pieces}
+pub use Rattle.kahn_session.specs.Refusals.{SaysPieces, at_end_number, refused_pieces, sentence_pieces}
 pub use Rattle.kahn_streams.specs.Written.{AppendsFront, Writes}
 pub use Rattle.kahn_texts.proofs.Scanned.{stop_of}
 pub use Rattle.std.proofs.Common.{All, Bool, Err, IfOk, IfSome, IsErr, List, MatchResult, None, Ok, Option, Result, Some, [], ap, append-nil, append_assoc, ap₂, arith, cond, drop, eq-eqb, eqb, eqb-true, false, get_or, if◌then◌else◌, inl, inr, is_err, is_ok, length, length-append, length-take, map, min, not, refl, rules, slice_get, slice_index_or, subst, suc, sym, take, take_all, true, true≢false, vec_items, zero, ℕ, ⊎_elim, ◌++◌, ◌+◌, ◌-◌, ◌<◌, ◌∙◌, ◌∷◌, ◌≡◌, ◌≢◌, ◌≤◌}

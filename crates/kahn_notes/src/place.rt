@@ -81,11 +81,16 @@ pub(crate) fn is_name(word: &str) -> bool {
         && Keyword::named(word.as_bytes()).is_none()
 }
 
-/// Names of a text.
-pub(crate) type Names<'t> = Result<Vec<&'t str>, AllocError>;
+/// NamesBehind of a text.
+pub(crate) type NamesBehind<'t> = Result<Vec<&'t str>, AllocError>;
 
 /// The names among parts of a text that stand behind one of these words, alone or in a list.
-pub(crate) fn names_of<'t>(alloc: Global, text: &'t str, all: &[Span], words: &str) -> Names<'t> {
+pub(crate) fn names_of<'t>(
+    alloc: Global,
+    text: &'t str,
+    all: &[Span],
+    words: &str,
+) -> NamesBehind<'t> {
     let (mut names, mut naming) = (Vec::new(alloc), false);
     for part in all {
         let word = part_of(text, *part);

@@ -66,7 +66,7 @@ abbrev pub line_pieces : List ℕ → ℕ → List ℕ → List (List ℕ)
 line_pieces path number words = said_pieces path (origin false number) (digits false number) words []
 
 -- a text that begins with these pieces was written, or after a fault of the writer a prefix of one
-pub record Says (pieces : List (List ℕ)) (old new : Option (List ℕ)) (r : Result (Unit {0}) WriteFault) : Type 0 where
+pub record SaysPieces (pieces : List (List ℕ)) (old new : Option (List ℕ)) (r : Result (Unit {0}) WriteFault) : Type 0 where
   pub rest : List (List ℕ)
   pub text : Writes old new r (concat (pieces ++ rest))
 

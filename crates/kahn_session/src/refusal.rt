@@ -1,7 +1,7 @@
 //! What is said of lines of input that aren't taken, and of their parts.
 
 ghost use Rattle.std.specs.Prelude.{◌≡◌};
-ghost use Rattle.kahn_session.specs.Refusals.{Says, before_part, digits, is_of_plain, is_want, origin, said_pieces, sentence_pieces, take_words};
+ghost use Rattle.kahn_session.specs.Refusals.{SaysPieces, before_part, digits, is_of_plain, is_want, origin, said_pieces, sentence_pieces, take_words};
 
 use crate::fault::TakeFault;
 use itoa::Buffer;
@@ -85,7 +85,7 @@ fn put<'a, W: Write>(
     part: &'a [u8],
     more: (&'a str, &'a str, &'a str),
 ) -> Result<(), WriteFault>
-    ensures { Says (said_pieces path.now origin.entry.0.now origin.entry.1.now words.now part.now) (W.contents writer.old) (W.contents writer.new) result }
+    ensures { SaysPieces (said_pieces path.now origin.entry.0.now origin.entry.1.now words.now part.now) (W.contents writer.old) (W.contents writer.new) result }
 {
     let (path, words) = (path.as_bytes(), words.as_bytes());
     let (from, number) = (origin.0.as_bytes(), origin.1.as_bytes());
@@ -135,7 +135,7 @@ pub fn write_sentence<W: Write>(
     path: &str,
     sentence: Sentence<'_>,
 ) -> Result<(), WriteFault>
-    ensures { Says (sentence_pieces path.now sentence.entry) (W.contents writer.old) (W.contents writer.new) result }
+    ensures { SaysPieces (sentence_pieces path.now sentence.entry) (W.contents writer.old) (W.contents writer.new) result }
 {
     let mut digits = Buffer::new();
     let mut second = Buffer::new();

@@ -1,9 +1,9 @@
 use Rattle.kahn_session.proofs.Common.{[], ◌++◌, List, ℕ, Option, Result}
-use Rattle.kahn_session.specs.Refusals.{Says}
+use Rattle.kahn_session.specs.Refusals.{SaysPieces}
 use Rattle.kahn_texts.specs.declared.bytes.WriteFault.{WriteFault}
 use Rattle.kahn_session.proofs.refusal.write_sentence.Goals as goal
 
-any : (p : List (List ℕ)) (old new : Option (List ℕ)) (r : Result (Unit {0}) WriteFault) → Says p old new r → Says [] old new r
+any : (p : List (List ℕ)) (old new : Option (List ℕ)) (r : Result (Unit {0}) WriteFault) → SaysPieces p old new r → SaysPieces [] old new r
 any p old new r said = record { rest = p ++ said.rest; text = said.text }
 
 pub returns-in-Refused : goal.returns-in-Refused
