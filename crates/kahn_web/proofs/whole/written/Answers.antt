@@ -6,4 +6,4 @@ pub loop-channel-preserved : goal.loop-channel-preserved
 loop-channel-preserved c = grind (arith, common_steps, c.loop-channel.invariant, c.in_ok-put_count.ensures, c.in_ok-put_history.ensures)
 
 pub returns : goal.returns
-returns c = grind (arith, common_steps, c.loop-channel.invariant, c.in_ok-write_report.ensures, c.channels.ensures)
+returns c = grind (arith, common_steps, c.loop-channel.invariant, c.in_ok-write_report.ensures, c.channels-channel-end.ensures)

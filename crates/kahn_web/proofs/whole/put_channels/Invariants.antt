@@ -1,6 +1,0 @@
--- The lines of the channels so far were added.
-use Rattle.kahn_web.proofs.Common.{◌≡◌, ◌++◌, channels_text}
-use Rattle.kahn_web.proofs.whole.put_channels.Given as goal
-
-abbrev pub invariant-loop-channel : goal.invariant-loop-channel
-invariant-loop-channel l = l.written.items ≡ l.initial.written.items ++ channels_text l.network l.run l.channel
