@@ -80,8 +80,8 @@ def wrong_set(heading, text, lexemes, at):
     """What is wrong with the list of what may stand, or None."""
     line, column, _, words, found = heading.groups()
     begin = lexemes[at][2] if at < len(lexemes) else len(text)
-    # What is put in is told right behind the lexeme before, and signs that are one in other languages where they begin.
-    places = [ref.place(text, it) for it in (begin, *lexemes[at - 1][2:] * (at > 0))]
+    # What is put in is told right behind one of the two lexemes before, and signs that are one in other languages where they begin.
+    places = [ref.place(text, it) for it in (begin, *(spot for lexeme in lexemes[max(at - 2, 0) : at] for spot in lexeme[2:]))]
     wanted, told = may_stand(lexemes[:at]), set()
     pieces, groups = PIECE.findall(words), []
     for name, members in GROUPS.items():
