@@ -5,7 +5,7 @@ ghost use Rattle.kahn_job.specs.{inner.Berths.end_at, inner.Words.nothing_gone, 
 
 use crate::port::TaskPort;
 use kahn_code::{Cell, Kept, Tap};
-use kahn_streams::{Carried, NoMemory};
+use kahn_streams::{NoMemory, Tokens};
 use std::alloc::Global;
 use std::marker::Model;
 use std::mem;
@@ -35,17 +35,6 @@ impl Model for Idle {
     ghost view = { λ j. record { cell = j.cell; ends = j.ports.items } };
 
     ghost invariant = { λ j. (j.instance ≡ j.cell.instance) × (length j.numbers.items ≡ width_of (record { cell = j.cell; ends = j.ports.items })) };
-}
-
-// Copies tokens.
-fn copied(alloc: Global, tokens: &[Carried]) -> Result<Vec<Carried>, NoMemory>
-    ensures { IfOk result (λ v. v.items ≡ tokens.now) }
-{
-    let mut copy = Vec::with_capacity(alloc, tokens.len())?;
-    for place in 0..tokens.len() {
-        copy.push_reserved(tokens[place].again());
-    }
-    Ok(copy)
 }
 
 impl Idle {
@@ -88,17 +77,17 @@ impl Idle {
     }
 
     /// Returns what its cell kept of what it sent on a parameter.
-    pub fn kept(&self, parameter: usize) -> &[Carried]
+    pub fn kept(&self, parameter: usize) -> &Tokens
         requires { parameter < width_of self.now }
-        ensures { result.now ≡ slice_index_or self.now.cell.kept parameter [] }
+        ensures { result.now.items ≡ slice_index_or self.now.cell.kept parameter [] }
     {
         let _parameters = self.cell.parameters();
         self.cell.kept(parameter)
     }
 
     /// Returns what its cell printed.
-    pub fn printed(&self) -> &[Carried]
-        ensures { result.now ≡ self.now.cell.printed }
+    pub fn printed(&self) -> &Tokens
+        ensures { result.now.items ≡ self.now.cell.printed }
     {
         self.cell.printed()
     }
@@ -112,9 +101,9 @@ impl Idle {
         let parameters = self.cell.parameters();
         let mut kept = Vec::with_capacity(alloc, parameters)?;
         for parameter in 0..parameters {
-            kept.push_reserved(copied(alloc, self.cell.kept(parameter))?);
+            kept.push_reserved(self.cell.kept(parameter).copied(alloc)?);
         }
-        let printed = copied(alloc, self.cell.printed())?;
+        let printed = self.cell.printed().copied(alloc)?;
         Ok(Kept { kept, printed })
     }
 

@@ -50,8 +50,8 @@ fn add_row(text: &mut String, columns: &[&Stream], place: usize) -> Result<(), A
     text.push_str(buffer.format(place as u128 + 1))?;
     for column in columns {
         text.push_str(",")?;
-        if let Some(token) = column.tokens.get(place) {
-            add_value(text, token.value())?;
+        if let Some(value) = column.tokens.values().get(place) {
+            add_value(text, value)?;
         }
     }
     text.push_str("\n")
