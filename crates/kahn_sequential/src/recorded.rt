@@ -16,6 +16,7 @@ use crate::streams::{opening_stream, room_for_answer};
 use kahn_code::{CodeFault, Kept, Plain, Steps};
 use kahn_streams::{
     Answer, Config, End, Gate, Input, Line, Network, NoMemory, Open, Plan, Role, RunFault, Stream,
+    Tokens,
 };
 use std::alloc::Global;
 use std::marker::Brand;

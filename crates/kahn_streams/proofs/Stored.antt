@@ -71,7 +71,7 @@ one_logical count b ms few zs long =
 
 pub filled : {E : Type 0} {X : Type 0} (r : Result X E) (new more old : List ℕ) → IsOk r → new ≡ (if is_ok r then more else old) → new ≡ more
 filled (Ok x) new more old ok e = e
-filled (Err x) new more old ok e = absurd ok
+filled (Err x) new more old ok e = absurd cc
 
 -- one token more
 pub stored_more : (ts : List Token) (t : Token) (zs : List ℤ) (z : ℤ) (ms ms' : List ℕ) → map token_value ts ≡ values_in zs ms → IsOneMore (length zs) t.value z ms ms' → map token_value (ts ++ t ∷ []) ≡ values_in (zs ++ z ∷ []) ms'

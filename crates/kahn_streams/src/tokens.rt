@@ -3,8 +3,8 @@
 //! In a list that is kept a token is stored as its value alone: where it stands gives its line and its place. Contracts see the
 //! tokens, so each has the same fact as the one that was put there.
 
-ghost use Rattle.std.specs.Prelude.{◌≡◌, ◌+◌, ◌<◌, ◌≤◌, ◌++◌, ◌∷◌, ◌↔◌, ◌==◌, [], if◌then◌else◌, is_ok, length, map, pos, vec_capacity, vec_len, IfOk, IsTrue, OnErr, OnOk};
-ghost use Rattle.kahn_streams.specs.{Arithmetic.number, Tokens.token_value, declared.value.Value.TheVariants.Logical, inner.Stored.IsOneMore};
+ghost use Rattle.std.specs.Prelude.{◌≡◌, ◌+◌, ◌<◌, ◌≤◌, ◌++◌, ◌∷◌, ◌↔◌, ◌==◌, [], if◌then◌else◌, is_ok, length, map, pos, List, vec_capacity, vec_len, IfOk, IsTrue, OnErr, OnOk};
+ghost use Rattle.kahn_streams.specs.{Arithmetic.number, Tokens.token_value, declared.token.Token.Token, declared.value.Value.TheVariants.Logical, inner.Stored.IsOneMore};
 
 use crate::about::About;
 use crate::memory::NoMemory;
@@ -104,16 +104,10 @@ fn mark_word<A: Allocator>(marks: &mut Vec<u8, A>, count: usize, word: Word)
     }
 }
 
-// The tokens of a list, and one more behind them.
-fn longer(_series: &About<Series>, _token: &Token) -> About<Series>
-    ensures { result.value ≡ _series.now.value ++ _token.now ∷ [] }
-{
-    About::named()
-}
-
-// The same tokens.
-fn again(_series: &About<Series>) -> About<Series>
-    ensures { result.value ≡ _series.now.value }
+// Tokens that the caller names. What is at hand is what the names are taken from.
+fn series_of<X, Y>(_x: &X, _y: &Y) -> About<Series>
+    ghost tokens: { List Token }
+    ensures { result.value ≡ tokens }
 {
     About::named()
 }
@@ -143,7 +137,7 @@ impl<A: Allocator> Tokens<A> {
     pub fn is_empty(&self) -> bool
         ensures { result ≡ (length self.now.items == 0) }
     {
-        self.numbers.is_empty()
+        self.len() == 0
     }
 
     /// Whether there is room for one more.
@@ -203,7 +197,7 @@ impl<A: Allocator> Tokens<A> {
         let count = self.numbers.len();
         mark_word(&mut self.marks, count, word);
         self.numbers.push_reserved(word.number());
-        self.series = longer(&self.series, &token);
+        self.series = series_of(&self.series, &token);
     }
 
     /// Adds a token. Fails only if the list is full, and leaves it so.
@@ -245,7 +239,7 @@ impl<A: Allocator> Tokens<A> {
         Ok(Tokens {
             numbers,
             marks,
-            series: again(&self.series),
+            series: series_of(&self.series, &self.series),
         })
     }
 }

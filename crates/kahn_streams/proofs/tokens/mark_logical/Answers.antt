@@ -1,4 +1,4 @@
-use Rattle.kahn_streams.proofs.Common.{◌≡◌, ◌+◌, ◌-◌, ◌++◌, ◌∷◌, [], length, take, replicate, sym, ap, subst, ◌∙◌, arith}
+use Rattle.kahn_streams.proofs.Common.{◌≡◌, ◌+◌, ◌-◌, ◌≤◌, ◌++◌, ◌∷◌, [], length, take, replicate, sym, ap, subst, ◌∙◌, arith}
 use Rattle.std.specs.Int.{from_bool}
 use Rattle.kahn_streams.specs.inner.Stored.{IsOneMore}
 use Rattle.kahn_streams.specs.declared.value.Value.TheVariants.{Logical}
