@@ -10,7 +10,7 @@ returns-in-Some c =
     let ms = c.self.inside.marks.now in
     let k = c.args.place in
     let z = c.in-Some.number.now in
-    let at : slice_get zs k ≡ Some z = slice_get_read zs _ k z refl c.in-Some.ensures.lookup.1.1.1.0.0 c.in-Some.ensures.lookup.1.0 in
+    let at : slice_get zs k ≡ Some z = slice_get_read zs _ k z refl c.in-Some.ensures.lookup.3.0 c.in-Some.ensures.lookup.1 in
     ap Some (c.value_by.ensures ∙ ap (value_by z) c.mark_at.ensures) ∙ sym (value_at zs ms k z at) ∙ ap (λ l. slice_get l k) c.self.view_is
 
 pub returns-in-None : goal.returns-in-None
@@ -18,4 +18,4 @@ returns-in-None c =
     let zs = c.self.inside.numbers.now in
     let ms = c.self.inside.marks.now in
     let k = c.args.place in
-    sym (value_past zs ms k (slice_get_past zs k c.in-None.ensures.lookup.1.1.1.0)) ∙ ap (λ l. slice_get l k) c.self.view_is
+    sym (value_past zs ms k (slice_get_past zs k c.in-None.ensures.lookup.3)) ∙ ap (λ l. slice_get l k) c.self.view_is
