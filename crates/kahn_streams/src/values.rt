@@ -8,11 +8,11 @@ use std::marker::Model;
 
 /// The value of a number and its mark: 0 for an integer, 1 for false, 2 for true.
 #[inline(always)]
-fn value_by(number: i64, mark: u8) -> Value
-    ensures { result ≡ value_by number mark }
+fn value_by(number: &i64, mark: u8) -> Value
+    ensures { result ≡ value_by number.now mark }
 {
     if mark == 0 {
-        Value::Integer(number)
+        Value::Integer(*number)
     } else {
         Value::Logical(mark == 2)
     }
@@ -90,7 +90,7 @@ impl<'a> Values<'a> {
         ensures { result ≡ slice_get self.now place }
     {
         match self.numbers.get(place) {
-            Some(number) => Some(value_by(*number, mark_at(self.marks, place))),
+            Some(number) => Some(value_by(number, mark_at(self.marks, place))),
             None => None,
         }
     }
