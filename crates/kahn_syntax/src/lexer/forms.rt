@@ -2,7 +2,7 @@
 
 ghost use Rattle.std.specs.Prelude.{◌≡◌, ℕ, ◌+◌, ◌≤◌, ◌<◌, ◌↔◌, ◌∷◌, [], IsTrue, length, slice_index, IfSome, IfNone};
 ghost use Rattle.kahn_syntax.specs.{declared.lexeme.Sign.Sign, inner.Items.IsFormByte, inner.Items.IsOfForm, inner.Items.form_end};
-ghost use Rattle.kahn_syntax.specs.Texts.{IsBlank, IsDigit, IsLetter, IsWordByte, IsSign, IsLongest, HasForm, Closes, bytes_of_sign};
+ghost use Rattle.kahn_syntax.specs.Texts.{IsBlank, IsDigit, IsLetter, IsSign, IsLongest, HasForm, Closes, bytes_of_sign};
 
 use crate::lexeme::Sign;
 
@@ -33,17 +33,15 @@ fn is_letter(b: u8) -> bool
     b'A' <= b && b <= b'Z' || b'a' <= b && b <= b'z'
 }
 
-fn is_word_byte(b: u8) -> bool
-    ensures { IsTrue result ↔ IsWordByte b }
-{
-    is_letter(b) || is_digit(b) || b == b'_'
-}
-
 // Whether a word, or else a number, goes on with this byte.
 fn goes_on(word: bool, b: u8) -> bool
     ensures { IsTrue result ↔ IsFormByte word b }
 {
-    if word { is_word_byte(b) } else { is_digit(b) }
+    if word {
+        is_letter(b) || is_digit(b) || b == b'_'
+    } else {
+        is_digit(b)
+    }
 }
 
 /// Returns where the bytes of a word end, or else the digits of a number.

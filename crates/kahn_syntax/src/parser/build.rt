@@ -5,17 +5,12 @@ ghost use Rattle.kahn_syntax.specs.{declared.parser.cursor.Stop.TheVariants.NoMe
 ghost use Rattle.kahn_syntax.specs.Grammar as tree;
 
 use crate::lexeme::Lexeme;
-use crate::parser::cursor::{Read, Stop, reach};
+use crate::parser::cursor::{Stated, Stop, Valued, reach};
 use kahn_streams::{Action, Expression, Form, Operand, Operator, Statement};
 use std::alloc::Global;
 
 /// Makes an expression of this form, from the first lexeme of the input to the last one before the rest.
-pub fn made<'t>(
-    alloc: Global,
-    input: &[Lexeme],
-    rest: &'t [Lexeme],
-    form: Form,
-) -> Read<'t, Box<Expression>>
+pub fn made<'t>(alloc: Global, input: &[Lexeme], rest: &'t [Lexeme], form: Form) -> Valued<'t>
     requires { length rest.now < length input.now }
     ensures { MatchResult result (λ r. (r.0.value.form ≡ form) × Covers r.0.value.span input.now rest.now × (r.1.now ≡ rest.now)) (λ e. e ≡ NoMemory) }
 {
@@ -25,12 +20,7 @@ pub fn made<'t>(
 }
 
 /// Makes a statement that does this, from the first lexeme of the input to the last one before the rest.
-pub fn stated<'t>(
-    alloc: Global,
-    input: &[Lexeme],
-    rest: &'t [Lexeme],
-    action: Action,
-) -> Read<'t, Box<Statement>>
+pub fn stated<'t>(alloc: Global, input: &[Lexeme], rest: &'t [Lexeme], action: Action) -> Stated<'t>
     requires { length rest.now < length input.now }
     ensures { MatchResult result (λ r. IsStated r.0.value action input.now rest.now × (r.1.now ≡ rest.now)) (λ e. e ≡ NoMemory) }
 {

@@ -4,8 +4,9 @@ ghost use Rattle.std.specs.Prelude.{◌≡◌, ℕ, ◌≤◌, ◌<◌, ◌+◌,
 ghost use Rattle.kahn_syntax.specs.{Texts.First, Texts.AreProper, Texts.IsUnsigned, Texts.Placed, Texts.IsPast, Texts.Covers, inner.Reads.IsAbsent, declared.parser.cursor.Stop.TheVariants.Refused, declared.parser.cursor.Stop.TheVariants.TooDeep, declared.parser.cursor.Stop.TheVariants.NoMemory};
 
 use crate::lexeme::{Class, Lexeme};
-use kahn_streams::Span;
-use std::alloc::{AllocError, AllocFailed};
+use kahn_streams::{Expression, Span, Statement};
+use std::alloc::{AllocError, AllocFailed, Global};
+use std::marker::Model;
 
 /// The most levels of nesting.
 pub const DEEPEST: usize = 64;
@@ -37,8 +38,44 @@ impl<T: Drop> From<AllocFailed<T>> for Stop {
     }
 }
 
+/// The text whose lexemes are read, and where its tree is made. Contracts see the text.
+pub struct Source<'s> {
+    pub alloc: Global,
+    letters: &'s str,
+}
+
+impl<'s> Model for Source<'s> {
+    ghost use Rattle.std.specs.Prelude.{List, ℕ};
+
+    ghost Value = { List ℕ };
+
+    ghost view = { λ s. s.letters.now };
+}
+
+impl<'s> Source<'s> {
+    /// The source of this text.
+    pub fn new(alloc: Global, letters: &'s str) -> Source<'s>
+        ensures { result ≡ letters.now }
+    {
+        Source { alloc, letters }
+    }
+
+    /// The text.
+    pub fn letters(&self) -> &'s str
+        ensures { result.now ≡ self.now }
+    {
+        self.letters
+    }
+}
+
 /// A part of the tree, and the lexemes after it.
 pub type Read<'t, T> = Result<(T, &'t [Lexeme]), Stop>;
+
+/// An expression, and the lexemes after it.
+pub type Valued<'t> = Read<'t, Box<Expression>>;
+
+/// A statement, and the lexemes after it.
+pub type Stated<'t> = Read<'t, Box<Statement>>;
 
 /// Returns what the first lexeme is, and the lexemes after it.
 #[tactic(auto, using(crate::proofs::Lists::next_unsigned, crate::proofs::Lists::next_proper, crate::proofs::Lists::next_passed))]

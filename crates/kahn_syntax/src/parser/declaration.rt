@@ -7,13 +7,12 @@ ghost use Rattle.kahn_syntax.specs.Grammar.{kind_terminal, role_words, taking_wo
 ghost use Rattle.kahn_syntax.specs.inner.Machine.{DeclarationsPart, DeclarationPart, ProcessPart, RolePart, GroupsPart, GroupPart, TakingPart, VariablesPart, a_kind, leads, starts, head_parts, declaration_rules};
 
 use crate::lexeme::{Class, Keyword, Lexeme, Sign};
-use crate::parser::cursor::{Read, Stop, expect, next, past};
+use crate::parser::cursor::{Read, Source, Stop, expect, next, past};
 use crate::parser::names::{read_name, read_names};
 use crate::parser::statement::read_statements;
 use kahn_streams::{
     Declaration, Direction, Kind, Name, Parameter, Process, Role, Taking, Variable,
 };
-use std::alloc::Global;
 
 // Reads the kind that comes first.
 fn next_kind(input: &[Lexeme]) -> Option<(Kind, &[Lexeme])>
@@ -31,18 +30,14 @@ fn next_kind(input: &[Lexeme]) -> Option<(Kind, &[Lexeme])>
 }
 
 /// Reads the declarations that come first, each with the semicolon after it: none or more.
-pub fn read_declarations<'t>(
-    alloc: Global,
-    text: &str,
-    input: &'t [Lexeme],
-) -> Read<'t, Vec<Declaration>>
+pub fn read_declarations<'t>(text: &Source, input: &'t [Lexeme]) -> Read<'t, Vec<Declaration>>
     requires proper { AreProper text.now input.now }
     ensures { ParsesPart result text.now (DeclarationsPart ∷ []) (λ r. DeclarationsSpan text.now r.0.items) input.now (λ r. r.1.now) }
 {
-    let mut declarations = Vec::new(alloc);
+    let mut declarations = Vec::new(text.alloc);
     let mut rest = input;
     'declarations: while begins_declaration(rest) {
-        let (declaration, after) = read_declaration(alloc, text, rest)?;
+        let (declaration, after) = read_declaration(text, rest)?;
         declarations.push(declaration)?;
         let left = expect(after, Class::Sign(Sign::Semicolon))?;
         rest = left;
@@ -64,7 +59,7 @@ fn begins_declaration(input: &[Lexeme]) -> bool
 }
 
 // Reads a declaration.
-fn read_declaration<'t>(alloc: Global, text: &str, input: &'t [Lexeme]) -> Read<'t, Declaration>
+fn read_declaration<'t>(text: &Source, input: &'t [Lexeme]) -> Read<'t, Declaration>
     requires proper { AreProper text.now input.now }
     ensures { ParsesPart result text.now (DeclarationPart ∷ []) (λ r xs l. IsShallow (declaration_tree r.0) × DeclarationSpans text.now r.0 xs l) input.now (λ r. r.1.now) }
 {
@@ -72,11 +67,11 @@ fn read_declaration<'t>(alloc: Global, text: &str, input: &'t [Lexeme]) -> Read<
         Some((kind, rest)) => {
             let (role, rest) = read_role(rest);
             let rest = expect(rest, Class::Word(Keyword::Channel))?;
-            let (names, rest) = read_names(alloc, text, rest)?;
+            let (names, rest) = read_names(text, rest)?;
             Ok((Declaration::Channels(kind, role, names), rest))
         }
         None => {
-            let (process, rest) = read_process(alloc, text, input)?;
+            let (process, rest) = read_process(text, input)?;
             Ok((Declaration::Process(process), rest))
         }
     }
@@ -97,15 +92,15 @@ fn read_role(input: &[Lexeme]) -> (Role, &[Lexeme])
 }
 
 // Reads a process with its body.
-fn read_process<'t>(alloc: Global, text: &str, input: &'t [Lexeme]) -> Read<'t, Process>
+fn read_process<'t>(text: &Source, input: &'t [Lexeme]) -> Read<'t, Process>
     requires proper { AreProper text.now input.now }
     ensures { ParsesPart result text.now (ProcessPart ∷ []) (λ r xs l. IsShallow (process_tree r.0) × ProcessSpans text.now r.0 xs l) input.now (λ r. r.1.now) }
 {
     let rest = expect(input, Class::Word(Keyword::Process))?;
-    let (name, rest) = read_name(alloc, text, rest)?;
-    let (parameters, rest) = read_head(alloc, text, rest)?;
-    let (variables, rest) = read_variables(alloc, text, rest)?;
-    let (statements, rest) = read_statements(alloc, text, rest, 0)?;
+    let (name, rest) = read_name(text, rest)?;
+    let (parameters, rest) = read_head(text, rest)?;
+    let (variables, rest) = read_variables(text, rest)?;
+    let (statements, rest) = read_statements(text, rest, 0)?;
     let rest = expect(rest, Class::Word(Keyword::End))?;
     let process = Process {
         name,
@@ -117,12 +112,12 @@ fn read_process<'t>(alloc: Global, text: &str, input: &'t [Lexeme]) -> Read<'t, 
 }
 
 // Reads the parameters of a process in their brackets, and what is between them and its body.
-fn read_head<'t>(alloc: Global, text: &str, input: &'t [Lexeme]) -> Read<'t, Vec<Parameter>>
+fn read_head<'t>(text: &Source, input: &'t [Lexeme]) -> Read<'t, Vec<Parameter>>
     requires proper { AreProper text.now input.now }
     ensures { ParsesPart result text.now head_parts (λ r. Head (lexemes text.now) parameter_with r.0.items) input.now (λ r. r.1.now) }
 {
     let rest = expect(input, Class::Sign(Sign::Open))?;
-    let (parameters, rest) = read_parameters(alloc, text, rest)?;
+    let (parameters, rest) = read_parameters(text, rest)?;
     let rest = expect(rest, Class::Sign(Sign::Close))?;
     let rest = expect(rest, Class::Sign(Sign::Semicolon))?;
     let rest = expect(rest, Class::Word(Keyword::Begin))?;
@@ -130,17 +125,17 @@ fn read_head<'t>(alloc: Global, text: &str, input: &'t [Lexeme]) -> Read<'t, Vec
 }
 
 // Reads the groups of parameters, with semicolons between: none or more.
-fn read_parameters<'t>(alloc: Global, text: &str, input: &'t [Lexeme]) -> Read<'t, Vec<Parameter>>
+fn read_parameters<'t>(text: &Source, input: &'t [Lexeme]) -> Read<'t, Vec<Parameter>>
     requires proper { AreProper text.now input.now }
     ensures { ParsesPart result text.now (GroupsPart ∷ []) (λ r. Parameters (lexemes text.now) parameter_with r.0.items) input.now (λ r. r.1.now) }
 {
-    let mut parameters = Vec::new(alloc);
+    let mut parameters = Vec::new(text.alloc);
     if next_kind(input).is_none() {
         return Ok((parameters, input));
     }
     let mut rest = input;
     'groups: loop {
-        let (group, after) = read_group(alloc, text, rest)?;
+        let (group, after) = read_group(text, rest)?;
         add_parameters(&mut parameters, group.taking, group.names)?;
         let Some(further) = past(after, Class::Sign(Sign::Semicolon)) else {
             return Ok((parameters, after));
@@ -157,7 +152,7 @@ struct Group {
 }
 
 // Reads a group of parameters.
-fn read_group<'t>(alloc: Global, text: &str, input: &'t [Lexeme]) -> Read<'t, Group>
+fn read_group<'t>(text: &Source, input: &'t [Lexeme]) -> Read<'t, Group>
     requires proper { AreProper text.now input.now }
     ensures { ParsesPart result text.now (GroupPart ∷ []) (λ r. ParameterGroup (lexemes text.now) (group r.0.taking r.0.names.items)) input.now (λ r. r.1.now) }
 {
@@ -165,7 +160,7 @@ fn read_group<'t>(alloc: Global, text: &str, input: &'t [Lexeme]) -> Read<'t, Gr
         return Err(Stop::Refused(false, input.len()));
     };
     let (taking, rest) = read_taking(kind, rest);
-    let (names, rest) = read_names(alloc, text, rest)?;
+    let (names, rest) = read_names(text, rest)?;
     Ok((Group { taking, names }, rest))
 }
 
@@ -199,14 +194,14 @@ fn add_parameters(
 }
 
 // Reads the variables of a body: none or more.
-fn read_variables<'t>(alloc: Global, text: &str, input: &'t [Lexeme]) -> Read<'t, Vec<Variable>>
+fn read_variables<'t>(text: &Source, input: &'t [Lexeme]) -> Read<'t, Vec<Variable>>
     requires proper { AreProper text.now input.now }
     ensures { ParsesPart result text.now (VariablesPart ∷ []) (λ r. Variables (lexemes text.now) variable_with r.0.items) input.now (λ r. r.1.now) }
 {
-    let mut variables = Vec::new(alloc);
+    let mut variables = Vec::new(text.alloc);
     let mut rest = input;
     'variables: while let Some((kind, after)) = next_kind(rest) {
-        let (names, after) = read_names(alloc, text, after)?;
+        let (names, after) = read_names(text, after)?;
         let after = expect(after, Class::Sign(Sign::Semicolon))?;
         add_variables(&mut variables, kind, names)?;
         rest = after;

@@ -8,7 +8,7 @@ ghost use Rattle.kahn_syntax.specs.declared.fault.SyntaxFault.TheVariants as Syn
 
 use crate::fault::{SyntaxFault, What};
 use crate::lexeme::{Class, Keyword, Lexeme, Sign};
-use crate::parser::cursor::{Read, Stop, expect, next, past, reach, span_at};
+use crate::parser::cursor::{Read, Source, Stop, expect, next, past, reach, span_at};
 use crate::parser::declaration::read_declarations;
 use crate::parser::names::read_name;
 use kahn_streams::{Argument, Instance, Program, Span};
@@ -17,18 +17,17 @@ use std::alloc::Global;
 /// Parses the lexemes of a text.
 pub fn parse_lexemes(alloc: Global, text: &str, lexemes: &[Lexeme]) -> Result<Program, SyntaxFault>
     requires proper { AreProper text.now lexemes.now }
-    // The program is spelled by the lexemes, within the limit of nesting, and no other is.
+    // The program is spelled by the lexemes, within the limit of nesting.
     ensures spells { IfOk result (λ p. Spells (program_tree p) (terminals text.now lexemes.now)) }
     // Each name, statement and expression has the span from its first to its last lexeme.
     ensures spans { IfOk result (λ p. ProgramSpans text.now p lexemes.now) }
     ensures nesting { IfOk result (λ p. nesting (program_tree p) ≤ 64) }
-    ensures only { IfOk result (λ p. (t : ProgramTree) → Spells t (terminals text.now lexemes.now) → t ≡ program_tree p) }
     // Lexemes that spell a program within the limit fail only if memory was refused.
     ensures found { IfErr result (λ e. (t : ProgramTree) → Spells t (terminals text.now lexemes.now) → nesting t ≤ 64 → e ≡ SyntaxFault.NoMemory) }
     // A fault is at the first lexeme of which it is true, or at the end of the text.
     ensures fault { IfErr result (λ e. IsFault text.now lexemes.now e) }
 {
-    match read_program(alloc, text, lexemes) {
+    match read_program(&Source::new(alloc, text), lexemes) {
         Ok(program) => Ok(program),
         Err(stop) => Err(fault_of(text, lexemes, stop)),
     }
@@ -63,14 +62,14 @@ fn fault_of(text: &str, lexemes: &[Lexeme], stop: Stop) -> SyntaxFault
 }
 
 // Reads a whole program.
-fn read_program(alloc: Global, text: &str, lexemes: &[Lexeme]) -> Result<Program, Stop>
+fn read_program(text: &Source, lexemes: &[Lexeme]) -> Result<Program, Stop>
     requires proper { AreProper text.now lexemes.now }
     ensures read { IfOk result (λ p. (nesting (program_tree p) ≤ 64) × ProgramSpans text.now p lexemes.now) }
     ensures halts { IfErr result (λ e. Halts (terminals text.now lexemes.now) e) }
 {
     let rest = expect(lexemes, Class::Word(Keyword::Begin))?;
-    let (declarations, rest) = read_declarations(alloc, text, rest)?;
-    let (instances, rest) = read_instances(alloc, text, rest)?;
+    let (declarations, rest) = read_declarations(text, rest)?;
+    let (instances, rest) = read_instances(text, rest)?;
     let rest = expect(past_semicolon(rest), Class::Word(Keyword::End))?;
     let rest = past_semicolon(rest);
     if rest.is_empty() {
@@ -97,14 +96,14 @@ fn past_semicolon(input: &[Lexeme]) -> &[Lexeme]
 }
 
 // Reads one instance or more, with `par` between.
-fn read_instances<'t>(alloc: Global, text: &str, input: &'t [Lexeme]) -> Read<'t, Vec<Instance>>
+fn read_instances<'t>(text: &Source, input: &'t [Lexeme]) -> Read<'t, Vec<Instance>>
     requires proper { AreProper text.now input.now }
     ensures { ParsesPart result text.now (InstancePart ∷ InstancesTail ∷ []) (λ r. InstancesSpan text.now r.0.items) input.now (λ r. r.1.now) }
 {
-    let mut instances = Vec::new(alloc);
+    let mut instances = Vec::new(text.alloc);
     let mut rest = input;
     'instances: loop {
-        let (instance, after) = read_instance(alloc, text, rest)?;
+        let (instance, after) = read_instance(text, rest)?;
         instances.push(instance)?;
         let Some(further) = past(after, Class::Word(Keyword::Par)) else {
             return Ok((instances, after));
@@ -114,28 +113,28 @@ fn read_instances<'t>(alloc: Global, text: &str, input: &'t [Lexeme]) -> Read<'t
 }
 
 // Reads an instance.
-fn read_instance<'t>(alloc: Global, text: &str, input: &'t [Lexeme]) -> Read<'t, Instance>
+fn read_instance<'t>(text: &Source, input: &'t [Lexeme]) -> Read<'t, Instance>
     requires proper { AreProper text.now input.now }
     ensures { ParsesPart result text.now (InstancePart ∷ []) (λ r. InstanceSpans text.now r.0) input.now (λ r. r.1.now) }
 {
-    let (process, rest) = read_name(alloc, text, input)?;
+    let (process, rest) = read_name(text, input)?;
     let rest = expect(rest, Class::Sign(Sign::Open))?;
-    let (arguments, rest) = read_arguments(alloc, text, rest)?;
+    let (arguments, rest) = read_arguments(text, rest)?;
     Ok((Instance { process, arguments }, rest))
 }
 
 // Reads the arguments of an instance, with commas between, and the bracket after them: none or more.
-fn read_arguments<'t>(alloc: Global, text: &str, input: &'t [Lexeme]) -> Read<'t, Vec<Argument>>
+fn read_arguments<'t>(text: &Source, input: &'t [Lexeme]) -> Read<'t, Vec<Argument>>
     requires proper { AreProper text.now input.now }
     ensures { ParsesPart result text.now (ArgumentsPart ∷ []) (λ r. ClosedArgumentsSpan text.now r.0.items) input.now (λ r. r.1.now) }
 {
-    let mut arguments = Vec::new(alloc);
+    let mut arguments = Vec::new(text.alloc);
     if let Some(rest) = past(input, Class::Sign(Sign::Close)) {
         return Ok((arguments, rest));
     }
     let mut rest = input;
     'arguments: loop {
-        let (argument, after) = read_argument(alloc, text, rest)?;
+        let (argument, after) = read_argument(text, rest)?;
         arguments.push(argument)?;
         let Some(further) = past(after, Class::Sign(Sign::Comma)) else {
             let left = expect(after, Class::Sign(Sign::Close))?;
@@ -146,7 +145,7 @@ fn read_arguments<'t>(alloc: Global, text: &str, input: &'t [Lexeme]) -> Read<'t
 }
 
 // Reads an argument.
-fn read_argument<'t>(alloc: Global, text: &str, input: &'t [Lexeme]) -> Read<'t, Argument>
+fn read_argument<'t>(text: &Source, input: &'t [Lexeme]) -> Read<'t, Argument>
     requires proper { AreProper text.now input.now }
     ensures { ParsesPart result text.now (ArgumentPart ∷ []) (λ r. ArgumentSpans text.now r.0) input.now (λ r. r.1.now) }
 {
@@ -170,7 +169,7 @@ fn read_argument<'t>(alloc: Global, text: &str, input: &'t [Lexeme]) -> Read<'t,
             Ok((Argument::Number(number, reach(input, after)), after))
         }
         Some((Class::Name, _)) => {
-            let (name, rest) = read_name(alloc, text, input)?;
+            let (name, rest) = read_name(text, input)?;
             Ok((Argument::Channel(name), rest))
         }
         _ => Err(Stop::Refused(false, input.len())),

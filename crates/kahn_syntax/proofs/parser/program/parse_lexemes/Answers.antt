@@ -1,5 +1,4 @@
-use Rattle.kahn_syntax.proofs.Parsing.{one_tree, program_spelled}
-use Rattle.kahn_syntax.specs.Texts.{terminals}
+use Rattle.kahn_syntax.proofs.Parsing.{program_spelled}
 use Rattle.kahn_syntax.proofs.parser.program.parse_lexemes.Goals as goal
 
 pub returns-in-Ok-clause-spells : goal.returns-in-Ok-clause-spells
@@ -10,7 +9,3 @@ returns-in-Ok-clause-spans c = c.in-Ok.ensures.read.1
 
 pub returns-in-Ok-clause-nesting : goal.returns-in-Ok-clause-nesting
 returns-in-Ok-clause-nesting c = c.in-Ok.ensures.read.0
-
-pub returns-in-Ok-clause-only : goal.returns-in-Ok-clause-only
-returns-in-Ok-clause-only c = λ t p.
-    one_tree t _ (terminals c.args.text.now c.args.lexemes.now) p (program_spelled c.args.text.now c.in-Ok.program c.args.lexemes.now c.in-Ok.ensures.read.1)
