@@ -5,10 +5,9 @@ ghost use Rattle.kahn_crew.specs.{inner.Words.ℕ, inner.Words.OnErr, inner.Word
 ghost use Rattle.kahn_crew.specs.inner.Turns.{CanRest, IsDue, IsSetDown, IsShare, HasTask, Heeds, IsAtWork, IsTaskIn, SitsIn, SitsWith, StandsStill};
 
 use crate::hints::Order;
-use crate::pick::pick_hinted;
 use crate::publish::{hint, publish_all};
 use crate::run::Run;
-use crate::worker::Worker;
+use crate::worker::{Worker, pick_hinted};
 use kahn_board::{Draw, draw_some, rest_dry, rest_over, rest_ready};
 use kahn_code::{Pause, Steps};
 use kahn_job::{Task, TaskStanding};

@@ -3,17 +3,16 @@
 //! The writer asks for room, puts a token into its open segment, and flushes the segment when it is full or when the reader
 //! is to see it. The reader steals a segment when its own is used up, and takes its tokens one by one. No call ever blocks.
 
-ghost use Rattle.std.specs.Prelude.{◌≡◌, ◌+◌, ◌≤◌, ◌<◌, ◌^◌, ◌⊎◌, true, false, vec_len, vec_capacity, IfOk, IsOk, OnErr, IsSome, MatchResult, MatchOption, Some};
-ghost use Rattle.crossbeam_deque.specs.Handles.{worker_view, worker_deque, worker_flavor, stealer_deque, stealer_flavor};
-ghost use Rattle.kahn_lane.specs.{Places.lane_name, Places.token_name, Places.tag_name, Places.owner, inner.LaneRule.size, inner.LaneRule.tokens_of};
-ghost use Rattle.kahn_lane.specs.LaneEnds.{sender_lane, receiver_lane, sender_name, receiver_name, filled, flushed, sent, CanPut, received, waiting, CanTake, heard, left, SameSender, SameReceiver, AreEndsNamed, HavePassed, TakesNext, WasDry};
+ghost use Rattle.std.specs.Prelude.{◌≡◌, ◌+◌, ◌≤◌, ◌<◌, ◌^◌, ◌⊎◌, true, false, vec_len, IfOk, IsOk, OnErr, IsSome, MatchResult, MatchOption, Some};
+ghost use Rattle.kahn_lane.specs.Places.{lane_name, token_name, tag_name};
+ghost use Rattle.kahn_lane.specs.LaneEnds.{sender_lane, receiver_lane, sender_name, filled, flushed, sent, CanPut, received, waiting, CanTake, heard, left, SameSender, SameReceiver, AreEndsNamed, HavePassed, TakesNext, WasDry};
 
 use crate::deque::{TRIES, small_deque};
 use crate::fault::LaneFault;
 use crate::name::{Tag, make_tag};
 use crate::segments::{
-    Bare, Behind, Flushed, InPlaces, LaneStealer, LaneWorker, Mark, Receiver, Segment, Sender,
-    Sides, Starting, Stolen, Telling,
+    Bare, Behind, Flushed, InPlaces, Mark, Receiver, Segment, Sender, Sides, Starting, Stolen,
+    Telling,
 };
 use crossbeam_deque::Steal;
 use kahn_streams::{Carried, Input, Line, Network, NoMemory, Steps, Token};
@@ -25,33 +24,8 @@ use std::sync::ledger::{Blank, Ledger};
 // How many tokens a segment has at most.
 const SEGMENT: usize = 64;
 
-// The deque of a new lane that begins at the tag's place, with its name known to both ends.
-#[tactic(auto, using(crate::proofs::LaneMoves::tells, crate::proofs::LaneMoves::starts))]
-fn opened<A: Allocator + Clone + Drop>(
-    alloc: A,
-    tag: Tag,
-) -> Result<(LaneWorker<A>, LaneStealer<A>), LaneFault>
-    ensures one { IfOk result (λ r. (worker_deque r.0 ≡ stealer_deque r.1) × (worker_flavor r.0 ≡ 0) × (stealer_flavor r.1 ≡ 0)) }
-    ensures view { IfOk result (λ r. worker_view r.0 ≡ owner (Some (tag_name tag)) tag.from) }
-{
-    let head = Segment {
-        tag: Some(tag),
-        alone: None,
-        tokens: Vec::new(alloc.clone()?),
-    };
-    let mut worker = small_deque::<Segment<A>, A, Mark, InPlaces>(alloc)?;
-    let Ok(()) = worker.push_as::<Telling>(head) else {
-        return Err(LaneFault::NoMemory);
-    };
-    let Some(_) = worker.pop_as::<Starting>() else {
-        unreachable!()
-    };
-    let stealer = worker.stealer()?;
-    Ok((worker, stealer))
-}
-
-// The two ends of a new lane that begins at the place of two equal tags. The sender keeps the second.
-#[tactic(auto, using(crate::proofs::LaneMoves::forks))]
+// The two ends of a new lane that begins at the place of two equal tags, whose name both know. The sender keeps the second.
+#[tactic(auto, using(crate::proofs::LaneMoves::tells, crate::proofs::LaneMoves::starts, crate::proofs::LaneMoves::forks))]
 pub(crate) fn lane_from<A: Allocator + Clone + Drop>(
     alloc: A,
     head: Tag,
@@ -65,7 +39,19 @@ pub(crate) fn lane_from<A: Allocator + Clone + Drop>(
 {
     let left = Vec::new(alloc.clone()?);
     let right = Vec::with_capacity(alloc.clone()?, 1)?;
-    let (mut worker, stealer) = opened(alloc, head)?;
+    let first = Segment {
+        tag: Some(head),
+        alone: None,
+        tokens: Vec::new(alloc.clone()?),
+    };
+    let mut worker = small_deque::<Segment<A>, A, Mark, InPlaces>(alloc)?;
+    let Ok(()) = worker.push_as::<Telling>(first) else {
+        return Err(LaneFault::NoMemory);
+    };
+    let Some(_) = worker.pop_as::<Starting>() else {
+        unreachable!()
+    };
+    let stealer = worker.stealer()?;
     let pass = worker.another::<Sides>();
     let (line, from) = (tag.line, tag.from);
     let sender = Sender {
@@ -134,10 +120,8 @@ impl<A: Allocator + Clone + Drop> Sender<A> {
         if self.current.len() < self.current.capacity() {
             return Ok(());
         }
-        match self.current.reserve_exact(SEGMENT - self.current.len()) {
-            Ok(()) => Ok(()),
-            Err(_) => Err(NoMemory),
-        }
+        self.current.reserve_exact(SEGMENT - self.current.len())?;
+        Ok(())
     }
 
     /// Flushes the open segment, so that the reader can take its tokens, and returns how many tokens were flushed so far, which
@@ -162,9 +146,7 @@ impl<A: Allocator + Clone + Drop> Sender<A> {
         ensures flushed { MatchResult result (λ n. (n ≡ sent self.old) × (flushed self.new ≡ sent self.old)) (λ _. flushed self.new ≡ flushed self.old) }
         ensures room { CanPut self.old → CanPut self.new }
     {
-        let Ok(alloc) = self.current.allocator().clone() else {
-            return Err(NoMemory);
-        };
+        let alloc = self.current.allocator().clone()?;
         let segment = Segment {
             tag: None,
             alone: self.current.pop(),
@@ -189,12 +171,8 @@ impl<A: Allocator + Clone + Drop> Sender<A> {
         ensures flushed { MatchResult result (λ n. (n ≡ sent self.old) × (flushed self.new ≡ sent self.old)) (λ _. flushed self.new ≡ flushed self.old) }
         ensures room { CanPut self.old → CanPut self.new }
     {
-        let Ok(alloc) = self.current.allocator().clone() else {
-            return Err(NoMemory);
-        };
-        let Ok(next) = Vec::with_capacity(alloc, SEGMENT) else {
-            return Err(NoMemory);
-        };
+        let alloc = self.current.allocator().clone()?;
+        let next = Vec::with_capacity(alloc, SEGMENT)?;
         let count = self.current.len() as u64;
         let tokens = mem::replace(&mut self.current, next);
         match self.worker.push_as::<Flushed>(Segment {
@@ -238,27 +216,6 @@ impl<A: Allocator> Sender<A> {
         ensures { result ≡ flushed self.now }
     {
         self.flushed
-    }
-}
-
-// Replaces the tokens of the list by those of the segment.
-fn fill<A: Allocator + Drop>(current: &mut Vec<Carried, A>, segment: Segment<A>)
-    requires room { 1 ≤ vec_capacity current.old }
-    requires some { 0 < size segment }
-    ensures tokens { current.new.items ≡ tokens_of segment }
-    ensures room { 1 ≤ vec_capacity current.new }
-{
-    let Segment {
-        tag: _,
-        alone,
-        tokens,
-    } = segment;
-    match alone {
-        None => *current = tokens,
-        Some(token) => {
-            current.clear();
-            current.push_reserved(token);
-        }
     }
 }
 
@@ -326,9 +283,20 @@ impl<A: Allocator + Drop> Receiver<A> {
             tries.tick();
             match self.stealer.steal_as::<Stolen>(&mut self.pass) {
                 Steal::Success(segment) => {
+                    let Segment {
+                        tag: _,
+                        alone,
+                        tokens,
+                    } = segment;
                     self.from = taken;
-                    fill(&mut self.current, segment);
                     self.used = 0;
+                    match alone {
+                        None => self.current = tokens,
+                        Some(token) => {
+                            self.current.clear();
+                            self.current.push_reserved(token);
+                        }
+                    }
                     return true;
                 }
                 Steal::Empty => return false,

@@ -4,7 +4,7 @@ use Rattle.kahn_crew.specs.inner.Words.{ℕ, Bool, true, Option, None, Some, sli
 use Rattle.kahn_board.specs.{Rule.budget_at, Wires.Wires}
 use Rattle.kahn_crew.specs.{declared.run.Run.Run, declared.turn.Due.Due, declared.worker.Worker.Worker, inner.Tasks.IsTaskOf, inner.Tasks.AgreesWith, inner.Tasks.IsLater, inner.Tasks.told_tale}
 use Rattle.kahn_crew.specs.declared.turn.Due.TheVariants as due
-use Rattle.kahn_job.specs.declared.standing.TaskStanding.TheVariants as standing
+use Rattle.kahn_job.specs.declared.task.TaskStanding.TheVariants as standing
 
 abbrev pub terms_of : Run → Terms Tasked
 terms_of run = run.board.now.table.shared.key
