@@ -11,7 +11,7 @@ use crate::opening::{CrewFault, Left, open_board};
 use crate::parallel::{Parallel, run_all};
 use crate::run::Run;
 use crate::worker::{Worker, turns};
-use kahn_board::{Closed, Seat, join_all, split_all};
+use kahn_board::{Seat, join_all, split_all};
 use kahn_code::Code;
 use kahn_job::Task;
 use kahn_streams::{Gate, Input, Network};
@@ -208,15 +208,11 @@ pub fn run_tasks<R: Threads + Wait + Sync, G: Gate + Sync>(
         quantum: crewing.plan(bound).quantum,
     };
     let (outcome, seat, wanted) = run_workers(rt, alloc, crewing, &run, gate, seat, hints);
-    let Closed {
-        cells,
-        budget,
-        halted,
-    } = board.close(seat);
+    let closed = board.close(seat);
     let left = Left {
-        tasks: unbox_all(cells, room),
-        budget,
-        halted,
+        tasks: unbox_all(closed.cells, room),
+        budget: closed.budget,
+        halted: closed.halted,
         wanted,
     };
     (outcome, left)

@@ -115,32 +115,19 @@ fn gather<A: Allocator + Clone + Drop>(
     ensures all { received receiver + vec_len result ≡ sent sender }
     ensures room { vec_capacity result ≡ vec_capacity tokens }
 {
-    let Sender {
-        mut worker,
-        tag,
-        current: last,
-        flushed: _,
-    } = sender;
-    let Receiver {
-        stealer: _,
-        pass,
-        line: _,
-        from,
-        current: first,
-        used,
-    } = receiver;
-    let taken = from + used as u64;
-    worker.absorb::<Sides>(pass);
+    let taken = receiver.taken();
+    let mut worker = sender.worker;
+    worker.absorb::<Sides>(receiver.pass);
     let _segments = worker.len_as::<Behind>();
     let mut lifted = Lifted {
-        to: move_tag(&tag, input, taken),
-        from: tag,
+        to: move_tag(&sender.tag, input, taken),
+        from: sender.tag,
         first: taken,
         tokens,
     };
-    lifted.put_all(input, first.as_slice(), used);
+    lifted.put_all(input, receiver.current.as_slice(), receiver.used);
     lifted.put_rest(input, &mut worker);
-    lifted.put_all(input, last.as_slice(), 0);
+    lifted.put_all(input, sender.current.as_slice(), 0);
     lifted.tokens
 }
 

@@ -18,7 +18,7 @@ invariant_of-run g c = record {
 
 pub unbox_all-requires : goal.unbox_all-requires
 unbox_all-requires g c =
-    let e = c.close-cells.ensures.each.0 in
+    let e = c.close-closed.ensures.each.0 in
     let i = instances_of c.in-Ok.opened.0.table.shared.key.network.value c.args.network.now c.in-Ok.ensures.begun.network c.program-program.ensures.wired in
     let r = c.in-Ok.ensures.room in
     omega (arith, e, i, r.1, ap length r.0)
@@ -26,17 +26,17 @@ unbox_all-requires g c =
 pub returns-clause-gone : goal.returns-clause-gone
 returns-clause-gone g c =
     let o = c.in-Ok.ensures in
-    have_gone c.program-program.ensures.wired o.begun c.close-cells.ensures (unboxed _ _ _ o.room.0 c.unbox_all.ensures) o.key c.run_workers-outcome.ensures.seat.1.1
+    have_gone c.program-program.ensures.wired o.begun c.close-closed.ensures (unboxed _ _ _ o.room.0 c.unbox_all.ensures) o.key c.run_workers-outcome.ensures.seat.1.1
 
 pub returns-clause-over : goal.returns-clause-over
 returns-clause-over g c =
     let o = c.in-Ok.ensures in
-    on_ok c.run_workers-outcome.result.0 (is_over c.program-program.ensures.wired o.begun c.close-cells.ensures (unboxed _ _ _ o.room.0 c.unbox_all.ensures) o.key)
+    on_ok c.run_workers-outcome.result.0 (is_over c.program-program.ensures.wired o.begun c.close-closed.ensures (unboxed _ _ _ o.room.0 c.unbox_all.ensures) o.key)
     c.run_workers-outcome.ensures.left
 
 pub returns-clause-cause : goal.returns-clause-cause
 returns-clause-cause g c =
-    let r = c.close-cells.ensures.halt_raised in
+    let r = c.close-closed.ensures.halt_raised in
     on_ok c.run_workers-outcome.result.0 (λ h. ((λ yes. h.0 (r.1 yes)), λ yes. r.0 (h.1 yes))) c.run_workers-outcome.ensures.cause
 
 pub returns-clause-wants : goal.returns-clause-wants
@@ -45,5 +45,5 @@ returns-clause-wants g c = lack_of c.run_workers-outcome.result.0 (omega (arith,
 pub returns-clause-untouched : goal.returns-clause-untouched
 returns-clause-untouched g c none =
     let o = c.in-Ok.ensures in
-    untouched c.program-program.ensures.wired o.begun c.close-cells.ensures (unboxed _ _ _ o.room.0 c.unbox_all.ensures) o.key c.run_workers-outcome.ensures.seat.1.1
+    untouched c.program-program.ensures.wired o.begun c.close-closed.ensures (unboxed _ _ _ o.room.0 c.unbox_all.ensures) o.key c.run_workers-outcome.ensures.seat.1.1
     (c.run_workers-outcome.ensures.idle none ∙ ap (λ (m : Sat Tasked). m.0.done) o.seat.1)
