@@ -4,15 +4,16 @@
 //! is to see it. The reader steals a segment when its own is used up, and takes its tokens one by one. No call ever blocks.
 
 ghost use Rattle.std.specs.Prelude.{◌≡◌, ◌+◌, ◌≤◌, ◌<◌, ◌^◌, ◌⊎◌, true, false, vec_len, IfOk, IsOk, OnErr, IsSome, MatchResult, MatchOption, Some};
-ghost use Rattle.kahn_lane.specs.Places.{lane_name, token_name, tag_name};
+ghost use Rattle.crossbeam_deque.specs.Handles.{worker_view, worker_deque, worker_flavor, stealer_deque, stealer_flavor};
+ghost use Rattle.kahn_lane.specs.Places.{lane_name, token_name, tag_name, owner};
 ghost use Rattle.kahn_lane.specs.LaneEnds.{sender_lane, receiver_lane, sender_name, filled, flushed, sent, CanPut, received, waiting, CanTake, heard, left, SameSender, SameReceiver, AreEndsNamed, HavePassed, TakesNext, WasDry};
 
 use crate::deque::{TRIES, small_deque};
 use crate::fault::LaneFault;
 use crate::name::{Tag, make_tag};
 use crate::segments::{
-    Bare, Behind, Flushed, InPlaces, Mark, Receiver, Segment, Sender, Sides, Starting, Stolen,
-    Telling,
+    Bare, Behind, Flushed, InPlaces, LaneStealer, LaneWorker, Mark, Receiver, Segment, Sender,
+    Sides, Starting, Stolen, Telling,
 };
 use crossbeam_deque::Steal;
 use kahn_streams::{Carried, Input, Line, Network, NoMemory, Steps, Token};
@@ -24,8 +25,33 @@ use std::sync::ledger::{Blank, Ledger};
 // How many tokens a segment has at most.
 const SEGMENT: usize = 64;
 
-// The two ends of a new lane that begins at the place of two equal tags, whose name both know. The sender keeps the second.
-#[tactic(auto, using(crate::proofs::LaneMoves::tells, crate::proofs::LaneMoves::starts, crate::proofs::LaneMoves::forks))]
+// The deque of a new lane that begins at the tag's place, with its name known to both ends.
+#[tactic(auto, using(crate::proofs::LaneMoves::tells, crate::proofs::LaneMoves::starts))]
+fn opened<A: Allocator + Clone + Drop>(
+    alloc: A,
+    tag: Tag,
+) -> Result<(LaneWorker<A>, LaneStealer<A>), LaneFault>
+    ensures one { IfOk result (λ r. (worker_deque r.0 ≡ stealer_deque r.1) × (worker_flavor r.0 ≡ 0) × (stealer_flavor r.1 ≡ 0)) }
+    ensures view { IfOk result (λ r. worker_view r.0 ≡ owner (Some (tag_name tag)) tag.from) }
+{
+    let head = Segment {
+        tag: Some(tag),
+        alone: None,
+        tokens: Vec::new(alloc.clone()?),
+    };
+    let mut worker = small_deque::<Segment<A>, A, Mark, InPlaces>(alloc)?;
+    let Ok(()) = worker.push_as::<Telling>(head) else {
+        return Err(LaneFault::NoMemory);
+    };
+    let Some(_) = worker.pop_as::<Starting>() else {
+        unreachable!()
+    };
+    let stealer = worker.stealer()?;
+    Ok((worker, stealer))
+}
+
+// The two ends of a new lane that begins at the place of two equal tags. The sender keeps the second.
+#[tactic(auto, using(crate::proofs::LaneMoves::forks))]
 pub(crate) fn lane_from<A: Allocator + Clone + Drop>(
     alloc: A,
     head: Tag,
@@ -39,19 +65,7 @@ pub(crate) fn lane_from<A: Allocator + Clone + Drop>(
 {
     let left = Vec::new(alloc.clone()?);
     let right = Vec::with_capacity(alloc.clone()?, 1)?;
-    let first = Segment {
-        tag: Some(head),
-        alone: None,
-        tokens: Vec::new(alloc.clone()?),
-    };
-    let mut worker = small_deque::<Segment<A>, A, Mark, InPlaces>(alloc)?;
-    let Ok(()) = worker.push_as::<Telling>(first) else {
-        return Err(LaneFault::NoMemory);
-    };
-    let Some(_) = worker.pop_as::<Starting>() else {
-        unreachable!()
-    };
-    let stealer = worker.stealer()?;
+    let (mut worker, stealer) = opened(alloc, head)?;
     let pass = worker.another::<Sides>();
     let (line, from) = (tag.line, tag.from);
     let sender = Sender {

@@ -143,6 +143,9 @@ impl<A: Allocator> Lesson<Segment<A>, Mark> for Behind {
 /// The deque of a lane, as its owner sees it.
 pub(crate) type LaneWorker<A> = Worker<Segment<A>, A, Mark, InPlaces>;
 
+/// The deque of a lane, as the reader sees it.
+pub(crate) type LaneStealer<A> = Stealer<Segment<A>, A, Mark, InPlaces>;
+
 /// The writer's end of a lane, with its open segment. Its tag says what the tokens are of.
 #[derive(Drop)]
 pub struct Sender<A: Allocator = Global> {
@@ -164,7 +167,7 @@ pub struct Sender<A: Allocator = Global> {
 /// and how many of them were taken.
 #[derive(Drop)]
 pub struct Receiver<A: Allocator = Global> {
-    pub(crate) stealer: Stealer<Segment<A>, A, Mark, InPlaces>,
+    pub(crate) stealer: LaneStealer<A>,
     pub(crate) pass: Pass<Segment<A>, Mark, A>,
     pub(crate) line: Line,
     pub(crate) from: u64,
