@@ -35,6 +35,7 @@ impl Join<SeatView> for Both {
 }
 
 /// What a closed board returns.
+#[derive(Drop)]
 pub struct Closed<T> {
     pub cells: Vec<T, Global>,
     pub budget: u64,

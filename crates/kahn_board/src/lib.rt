@@ -6,12 +6,10 @@ mod board;
 mod closing;
 mod laws;
 mod opening;
-mod plays;
 mod rule;
 mod seat;
 mod turn;
 mod view;
-mod wiring;
 
 pub use board::Board;
 pub use closing::Closed;
@@ -20,7 +18,7 @@ pub use seat::{Draw, Look, Rest, Seat};
 
 // For the crates above.
 pub use closing::{join_all, split_all};
+pub use opening::reader_of;
 pub use rule::{Reports, Rule, Terms};
 pub use turn::{claim, draw_some, go_on, publish, rest_dry, rest_over, rest_ready};
 pub use view::SeatView;
-pub use wiring::{reader_of, writer_of};

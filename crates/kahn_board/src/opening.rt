@@ -1,13 +1,48 @@
-//! How a board is made.
+//! How a board is made, and what it keeps of its network.
 
 ghost use Rattle.std.specs.Prelude.{◌≡◌, ℕ, ◌+◌, ◌*◌, ◌^◌, ◌<◌, ◌≤◌, List, length, slice_index, [], IfOk, Some, map};
 ghost use Rattle.std.specs.{Vec.vec_capacity, VecDeque.deque_capacity};
 ghost use Rattle.kahn_board.specs.{inner.Turn.AreFirstWords, inner.Turn.IsWiringOf, Wires.wires};
 
-use crate::wiring::Wiring;
 use kahn_streams::{Network, NoMemory};
 use std::alloc::{AllocError, Global};
 use std::collections::VecDeque;
+
+/// How many instances and channels a network has, and who reads each channel.
+#[derive(Drop)]
+pub struct Wiring {
+    pub instances: usize,
+    pub channels: usize,
+    pub readers: Vec<Option<usize>, Global>,
+}
+
+/// Returns the instance that reads the channel, if one does; none reads an output channel. Never allocates.
+pub fn reader_of(network: &Network, channel: usize) -> Option<usize>
+    requires { channel < (wires network.now).channels }
+    ensures { result ≡ (wires network.now).reader channel }
+{
+    Some(network.reader(channel)?.instance)
+}
+
+impl Wiring {
+    /// Makes that of a network.
+    pub fn of(alloc: Global, network: &Network) -> Result<Wiring, NoMemory>
+        ensures { IfOk result (IsWiringOf network.now) }
+    {
+        let _program = network.program();
+        let instances = network.instances();
+        let channels = network.channels();
+        let mut readers = Vec::with_capacity(alloc, channels)?;
+        for channel in 0..channels {
+            readers.push_reserved(reader_of(network, channel));
+        }
+        Ok(Wiring {
+            instances,
+            channels,
+            readers,
+        })
+    }
+}
 
 // Lays the first words, eight apart: 0 for each instance, twice the number published for each channel, the bound, the
 // number of instances, and 0.

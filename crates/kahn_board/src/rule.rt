@@ -1,13 +1,14 @@
-//! What a cell reports, and the rule of the table.
+//! What a cell reports, the rule of the table, and what each step tells its seat.
 
 ghost use Rattle.std.specs.Prelude.{Option};
 ghost use Rattle.kahn_board.specs.Wires.{Summary};
+ghost use Rattle.kahn_board.specs.Plays.{becomes, after_step, after_giving_back, after_counting_up, after_halting, sees_halted, sees_count, sees_budget};
 
 use crate::view::SeatView;
-use atomic_table::TableRule;
+use atomic_table::{Play, TableRule};
 use kahn_streams::Network;
 use std::alloc::Global;
-use std::marker::PhantomData;
+use std::marker::{Brand, PhantomData};
 use std::snapshot::Snapshot;
 
 /// What a cell reports to contracts: its events, what it took, sent and flushed, and whether it has ended or waits. A
@@ -40,4 +41,51 @@ impl<T: Reports> TableRule<Option<T>, SeatView, Terms<T>> for Rule<T> {
     ghost holds = { holds T.told T.after };
 
     ghost first = { λ key. opening_view (wired key) };
+}
+
+// What a step tells of cells, of the network or of a moment is chosen where the step is made.
+impl<T> Play<Option<T>, SeatView> for Brand {
+    ghost then = { λ _ _ _ _. Unit {0} };
+}
+
+pub(crate) struct Notes;
+
+pub(crate) struct GivingBack;
+
+pub(crate) struct CountingUp;
+
+pub(crate) struct Halting;
+
+pub(crate) struct SeesHalted;
+
+pub(crate) struct SeesCount;
+
+pub(crate) struct SeesBudget;
+
+impl<T> Play<Option<T>, SeatView> for Notes {
+    ghost then = { becomes (λ _. after_step) };
+}
+
+impl<T> Play<Option<T>, SeatView> for GivingBack {
+    ghost then = { becomes (λ n v. after_giving_back v n) };
+}
+
+impl<T> Play<Option<T>, SeatView> for CountingUp {
+    ghost then = { becomes (λ _. after_counting_up) };
+}
+
+impl<T> Play<Option<T>, SeatView> for Halting {
+    ghost then = { becomes (λ _. after_halting) };
+}
+
+impl<T> Play<Option<T>, SeatView> for SeesHalted {
+    ghost then = { sees_halted };
+}
+
+impl<T> Play<Option<T>, SeatView> for SeesCount {
+    ghost then = { sees_count };
+}
+
+impl<T> Play<Option<T>, SeatView> for SeesBudget {
+    ghost then = { sees_budget };
 }

@@ -5,8 +5,9 @@ ghost use Rattle.std.specs.VecDeque.{deque_capacity};
 ghost use Rattle.kahn_board.specs.Plays.{Facts};
 
 use crate::board::Board;
-use crate::plays::{CountingUp, GivingBack, Halting, Notes, SeesBudget, SeesCount, SeesHalted};
-use crate::rule::Reports;
+use crate::rule::{
+    CountingUp, GivingBack, Halting, Notes, Reports, SeesBudget, SeesCount, SeesHalted,
+};
 use crate::view::SeatView;
 use std::alloc::Global;
 use std::collections::VecDeque;

@@ -1,15 +1,18 @@
 -- What a closed board says of a run.
-use Rattle.kahn_crew.proofs.Common.{none-some, same_Some, append-nil, ◌++◌, reverse, arith, ◌≡◌, ◌⊎◌, inl, inr, ⊎_elim, ℕ, zero, suc, ◌+◌, ◌<◌, ◌≤◌, true, false, List, [], ◌∷◌, length, sum_by, refl, sym, ap, ◌∙◌, subst, Option, Some, slice_get, some, get_elem?, sum_by-cons, slice_get_within, Program, Schema, Reads, Writes, Given, channel_source, network_of, instance_at, actual_at, role_at, IsWellWired, Lists, is_output, count, end_at, Work, belongs, dealt, wired, events_told, wires, Terms, SeatView, AreReadyTasks, HasBegun, IsTaskOf, Tasked, Continues, IsLater, count_on, handed_to_task, read_by, reads_at, told_tale, waits_on, writes_at, wrote_by, no_writer, ClosesBoard, below}
+use Rattle.kahn_crew.proofs.Common.{none-some, same_Some, append-nil, ◌++◌, reverse, arith, ◌≡◌, ◌⊎◌, inl, inr, ⊎_elim, ℕ, zero, suc, ◌+◌, ◌<◌, ◌≤◌, true, false, List, [], ◌∷◌, length, sum_by, refl, sym, ap, ◌∙◌, subst, Ok, Err, OnOk, Option, Result, Some, slice_get, some, get_elem?, sum_by-cons, slice_get_within, Program, Schema, Reads, Writes, Given, channel_source, network_of, instance_at, actual_at, role_at, IsWellWired, Lists, is_output, count, end_at, Work, belongs, dealt, wired, events_told, wires, Terms, SeatView, AreReadyTasks, HasBegun, IsTaskOf, Tasked, Continues, IsLater, count_on, handed_to_task, read_by, reads_at, told_tale, waits_on, writes_at, wrote_by, no_writer, ClosesBoard, below}
 use Rattle.kahn_streams.specs.declared.tree.Role.{Role}
 use Rattle.kahn_board.specs.declared.closing.Closed.{Closed}
-use Rattle.kahn_crew.specs.inner.Left.{AreAll, AreUntouched, HaveGone, IsQuietTask, IsOver, task_events}
-use Rattle.kahn_job.specs.declared.standing.TaskStanding.{TaskStanding}
+use Rattle.std.specs.Prelude.{IfErr}
+use Rattle.kahn_crew.specs.declared.opening.CrewFault.{CrewFault}
+use Rattle.kahn_crew.specs.declared.opening.CrewFault.TheVariants as fault
+use Rattle.kahn_crew.specs.inner.Left.{AreAll, AreUntouched, HaveGone, IsLack, IsQuietTask, IsOver, task_events}
+use Rattle.kahn_job.specs.declared.task.TaskStanding.{TaskStanding}
 use Rattle.kahn_board.proofs.Opens.{below_first}
 use Rattle.kahn_crew.proofs.{Publishing.handed_is, Resting.continues_here, Resting.task_of, Started.both_at, Started.fits_of, Wirings.instances_are, Wirings.read_so, Wirings.reads_first, Wirings.writes_first, Wirings.writer_is}
 use Rattle.kahn_streams.specs.declared.tree.Role.TheVariants as role
 use Rattle.kahn_streams.proofs.Sourced
 use Rattle.kahn_board.specs.Opening as closed
-use Rattle.kahn_job.specs.declared.standing.TaskStanding.TheVariants as standing
+use Rattle.kahn_job.specs.declared.task.TaskStanding.TheVariants as standing
 
 -- how many events may have been done in all: those of the tasks so far and the bound of the board
 abbrev most_events : Terms Tasked → ℕ
@@ -224,3 +227,15 @@ untouched_here same left = record {
   unused = left;
   cells = λ p x y e f. ap (λ (z : Tasked). z.work.cell) (sym (same_Some _ _ (sym e ∙ subst (λ (l : List Tasked). slice_get l p ≡ Some y) same f)));
 }
+
+-- ---- of a run that was done, or that was given up
+
+pub on_ok : {A E P Q : Type 0} (r : Result A E) → (P → Q) → OnOk r P → OnOk r Q
+on_ok (Ok v) f h = f h
+on_ok (Err e) f h = h
+
+-- a lack of fewer workers is one of more
+pub lack_of : {A : Type 0} (r : Result A CrewFault) {few many : ℕ} → few ≤ many → IfErr r (IsLack few) → IfErr r (IsLack many)
+lack_of (Ok v) le h = h
+lack_of (Err fault.NoMemory) le h = tt
+lack_of (Err fault.NoThread) le h = omega (arith, le, h)

@@ -1,4 +1,3 @@
-pub mod Begins
 pub mod Left
 pub mod Planned
 pub mod Tasks

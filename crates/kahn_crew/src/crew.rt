@@ -1,18 +1,17 @@
 //! A crew: all workers of a run, the first in the caller's thread and each other in one of its own.
 
 ghost use Rattle.std.specs.Prelude.{◌≡◌, ◌↔◌, ◌+◌, ◌<◌, ◌≤◌, ◌^◌};
-ghost use Rattle.kahn_crew.specs.inner.Words.{[], true, false, Err, length, map, All, IfOk, IfErr, OnOk, vec_capacity, events_told, IsLoneSeat, parts_of, raised_of};
-ghost use Rattle.kahn_crew.specs.{inner.Turns.HasCause, inner.Turns.HasGone, inner.Turns.HasSeat, inner.Turns.WantsNone, inner.Turns.seat_of, inner.Turns.table_id_of, inner.Planned.IsCrew, inner.Left.AreUntouched, inner.Left.IsLack, inner.Left.IsLeftOf, inner.Left.IsOver, inner.Tasks.AreReadyTasks, inner.Tasks.told_tale, declared.closing.CrewFault.TheVariants.NoMemory as NoMemoryFault, declared.closing.CrewFault.TheVariants.NoThread as NoThreadFault};
+ghost use Rattle.kahn_crew.specs.inner.Words.{[], true, false, Err, length, map, All, IfErr, OnOk, vec_capacity, events_told, IsLoneSeat, parts_of, raised_of};
+ghost use Rattle.kahn_crew.specs.{inner.Turns.HasCause, inner.Turns.HasGone, inner.Turns.HasSeat, inner.Turns.WantsNone, inner.Turns.seat_of, inner.Turns.table_id_of, inner.Planned.IsCrew, inner.Left.AreUntouched, inner.Left.IsLack, inner.Left.IsLeftOf, inner.Left.IsOver, inner.Tasks.AreReadyTasks, inner.Tasks.told_tale, declared.opening.CrewFault.TheVariants.NoMemory as NoMemoryFault, declared.opening.CrewFault.TheVariants.NoThread as NoThreadFault};
 
 use crate::boxes::{Boxed, unbox_all};
-use crate::closing::{CrewFault, Left};
 use crate::crewing::Crewing;
 use crate::hints::Hints;
-use crate::opening::open_board;
+use crate::opening::{CrewFault, Left, open_board};
 use crate::parallel::{Parallel, run_all};
 use crate::run::Run;
 use crate::worker::{Worker, turns};
-use kahn_board::{Closed, Seat, join_all, split_all};
+use kahn_board::{Seat, join_all, split_all};
 use kahn_code::Code;
 use kahn_job::Task;
 use kahn_streams::{Gate, Input, Network};
@@ -174,19 +173,17 @@ pub fn run_tasks<R: Threads + Wait + Sync, G: Gate + Sync>(
     bound: u64,
     tasks: Vec<Task>,
     gate: &G,
-) -> Result<Left, (CrewFault, Left)>
+) -> (Result<(), CrewFault>, Left)
     requires code { code.now.network.value ≡ network.now }
     requires crew { IsCrew crewing }
     requires ready { AreReadyTasks network.now input.now crewing.watch tasks.items }
     requires total { bound + events_told told_tale tasks.items < 2 ^ 48 }
-    ensures gone { IfOk result (IsLeftOf network.now input.now crewing.watch bound tasks.items) }
-    ensures over { IfOk result (λ left. IsOver network.now input.now left.tasks.items left.budget left.halted) }
-    ensures cause { IfOk result (λ left. left.halted ≡ true → left.wanted ≡ true) }
-    ensures heard { IfOk result (λ left. left.wanted ≡ true → left.halted ≡ true) }
-    ensures wants { IfErr result (λ e. IsLack crewing.workers e.0) }
-    ensures halted { IfErr result (λ e. e.0 ≡ NoThreadFault → e.1.halted ≡ true) }
-    ensures refused { IfErr result (λ e. IsLeftOf network.now input.now crewing.watch bound tasks.items e.1) }
-    ensures untouched { IfErr result (λ e. e.0 ≡ NoMemoryFault → AreUntouched bound tasks.items e.1.tasks.items e.1.budget) }
+    ensures gone { IsLeftOf network.now input.now crewing.watch bound tasks.items result.1 }
+    ensures over { OnOk result.0 (IsOver network.now input.now result.1.tasks.items result.1.budget result.1.halted) }
+    ensures cause { OnOk result.0 (result.1.halted ≡ true ↔ result.1.wanted ≡ true) }
+    ensures wants { IfErr result.0 (IsLack crewing.workers) }
+    ensures halted { result.0 ≡ Err NoThreadFault → result.1.halted ≡ true }
+    ensures untouched { result.0 ≡ Err NoMemoryFault → AreUntouched bound tasks.items result.1.tasks.items result.1.budget }
 {
     let _program = network.program();
     let (board, seat, hints, room) = match open_board(
@@ -200,7 +197,7 @@ pub fn run_tasks<R: Threads + Wait + Sync, G: Gate + Sync>(
                 halted: false,
                 wanted: false,
             };
-            return Err((CrewFault::NoMemory, left));
+            return (Err(CrewFault::NoMemory), left);
         }
     };
     let run = Run {
@@ -211,19 +208,12 @@ pub fn run_tasks<R: Threads + Wait + Sync, G: Gate + Sync>(
         quantum: crewing.plan(bound).quantum,
     };
     let (outcome, seat, wanted) = run_workers(rt, alloc, crewing, &run, gate, seat, hints);
-    let Closed {
-        cells,
-        budget,
-        halted,
-    } = board.close(seat);
+    let closed = board.close(seat);
     let left = Left {
-        tasks: unbox_all(cells, room),
-        budget,
-        halted,
+        tasks: unbox_all(closed.cells, room),
+        budget: closed.budget,
+        halted: closed.halted,
         wanted,
     };
-    match outcome {
-        Ok(()) => Ok(left),
-        Err(fault) => Err((fault, left)),
-    }
+    (outcome, left)
 }

@@ -2,13 +2,11 @@
 #![tactic(auto)]
 
 mod boxes;
-mod closing;
 mod crew;
 mod crewing;
 mod hints;
 mod opening;
 mod parallel;
-mod pick;
 mod publish;
 mod rest;
 mod run;
@@ -16,7 +14,6 @@ mod turn;
 mod worker;
 
 // For the crates above.
-pub use closing::{CrewFault, Left, rest_all};
 pub use crew::run_tasks;
 pub use crewing::Crewing;
-pub use opening::wake_all;
+pub use opening::{CrewFault, Left, rest_all, wake_all};

@@ -1,17 +1,50 @@
-//! How a run begins: its tasks, and the board on which they are.
+//! How a run begins and ends: its tasks, the board on which they are, and what its workers leave.
 
 ghost use Rattle.std.specs.Prelude.{◌≡◌, ◌+◌, ◌<◌, ◌≤◌, ◌^◌};
-ghost use Rattle.kahn_crew.specs.inner.Words.{ℕ, Option, [], length, map, IfOk, IfErr, vec_capacity, network_of, events_told, opening_view, AreIdle, HaveSettled, rows_of, woken_task};
+ghost use Rattle.kahn_crew.specs.inner.Words.{ℕ, Option, [], All, length, map, IfOk, IfErr, vec_capacity, network_of, events_told, opening_view, AreIdle, HaveSettled, IsJob, rows_of, woken_task};
 ghost use Rattle.kahn_board.specs.Wires.{wires};
-ghost use Rattle.kahn_crew.specs.inner.Tasks.{AreReadyTasks, HasBegun, IsNumber, told_tale};
+ghost use Rattle.kahn_crew.specs.{inner.Left.run_fault, inner.Tasks.AreReadyTasks, inner.Tasks.HasBegun, inner.Tasks.IsNumber, inner.Tasks.told_tale, inner.Tasks.work_of};
 
 use crate::boxes::{Boxed, box_all, unbox_all};
 use crate::crewing::Crewing;
 use crate::hints::{Hints, first_hints};
 use kahn_board::{Board, Seat};
 use kahn_job::{Idle, Task};
-use kahn_streams::{Input, Network, Role};
+use kahn_streams::{Input, Network, Role, RunFault};
 use std::alloc::Global;
+use thiserror::Error;
+
+/// The tasks of all instances in order, once all workers have left; how many events of the bound are left; whether the run
+/// was halted, since memory or a thread was refused; and whether memory was refused to a worker.
+#[derive(Drop)]
+pub struct Left {
+    pub tasks: Vec<Task>,
+    pub budget: u64,
+    pub halted: bool,
+    pub wanted: bool,
+}
+
+/// Why a network isn't run.
+#[derive(Clone, Copy, Debug, PartialEq, Eq, Drop, Error)]
+pub enum CrewFault {
+    /// Memory was refused before the first event.
+    #[error("no memory")]
+    NoMemory,
+    /// A thread couldn't be started.
+    #[error("no thread")]
+    NoThread,
+}
+
+impl From<CrewFault> for RunFault {
+    ghost from_gives = { λ f e. e ≡ run_fault f };
+
+    fn from(fault: CrewFault) -> RunFault {
+        match fault {
+            CrewFault::NoMemory => RunFault::NoMemory,
+            CrewFault::NoThread => RunFault::NoThread,
+        }
+    }
+}
 
 /// The tasks of idle jobs that go on with an input for which their ends have settled. The list that is given has room for all. Never allocates.
 pub fn wake_all(
@@ -29,6 +62,18 @@ pub fn wake_all(
         tasks.push_reserved(Task::woken(idle, input));
     }
     tasks
+}
+
+/// The jobs of tasks on which nobody works any more. The list that is given has room for all. Never allocates.
+pub fn rest_all(tasks: Vec<Task>, mut idles: Vec<Idle>) -> Vec<Idle>
+    requires room { (idles.items ≡ []) × (length tasks.items ≤ vec_capacity idles) }
+    ensures same { result.items ≡ map work_of tasks.items }
+    ensures jobs { All IsJob result.items }
+{
+    for task in tasks {
+        idles.push_reserved(task.rest());
+    }
+    idles
 }
 
 // How many tokens of a channel are published at the start: the whole list of an input, and of another one what its writer sent.

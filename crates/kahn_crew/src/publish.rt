@@ -2,7 +2,7 @@
 
 ghost use Rattle.std.specs.Prelude.{◌≡◌, ◌≢◌, ◌⊎◌, ◌<◌};
 ghost use Rattle.kahn_crew.specs.inner.Words.{ℕ, IfNone, IfSome, length, network_of, instance_at, actual_at, count, SeesMore, IsSeatOf, width_of};
-ghost use Rattle.kahn_crew.specs.{inner.Tasks.IsPublished, inner.Tasks.written_by, inner.Turns.Heeds, inner.Turns.IsAtWork, inner.Turns.SitsIn, inner.Turns.StandsStill, inner.Begins.IsHinted, declared.hints.Order.TheVariants.Last};
+ghost use Rattle.kahn_crew.specs.{inner.Tasks.IsPublished, inner.Tasks.written_by, inner.Turns.Heeds, inner.Turns.IsAtWork, inner.Turns.SitsIn, inner.Turns.StandsStill, inner.Turns.IsHinted, declared.hints.Order.TheVariants.Last};
 
 use crate::boxes::Boxed;
 use crate::hints::Order;

@@ -1,14 +1,13 @@
 //! A turn: instances are run one after another for a draw of events, and each is set down where it stands then.
 
 ghost use Rattle.std.specs.Prelude.{◌≡◌, ◌⊎◌, ◌+◌, ◌-◌, ◌≤◌};
-ghost use Rattle.kahn_crew.specs.{inner.Words.ℕ, inner.Words.OnErr, inner.Words.OnOk, inner.Words.wired, inner.Words.NoMemory as IsWant, inner.Words.IsDelivered, inner.Words.IsBetweenTurns, inner.Words.Going as IsGoing, inner.Begins.IsLeftHinted, inner.Begins.MayBegin, inner.Tasks.IsPublished};
-ghost use Rattle.kahn_crew.specs.inner.Turns.{CanRest, IsDue, IsSetDown, IsShare, HasTask, Heeds, IsAtWork, IsTaskIn, SitsIn, SitsWith, StandsStill};
+ghost use Rattle.kahn_crew.specs.{inner.Words.ℕ, inner.Words.OnErr, inner.Words.OnOk, inner.Words.wired, inner.Words.NoMemory as IsWant, inner.Words.IsDelivered, inner.Words.IsBetweenTurns, inner.Words.Going as IsGoing, inner.Tasks.IsPublished};
+ghost use Rattle.kahn_crew.specs.inner.Turns.{CanRest, IsDue, IsLeftHinted, IsSetDown, IsShare, MayBegin, HasTask, Heeds, IsAtWork, IsTaskIn, SitsIn, SitsWith, StandsStill};
 
 use crate::hints::Order;
-use crate::pick::pick_hinted;
 use crate::publish::{hint, publish_all};
 use crate::run::Run;
-use crate::worker::Worker;
+use crate::worker::{Worker, pick_hinted};
 use kahn_board::{Draw, draw_some, rest_dry, rest_over, rest_ready};
 use kahn_code::{Pause, Steps};
 use kahn_job::{Task, TaskStanding};

@@ -1,15 +1,15 @@
-//! A worker: it takes one instance after another, until there is a reason to leave.
+//! A worker: it takes one instance after another, until there is a reason to leave, and which it takes next.
 
 ghost use Rattle.std.specs.Prelude.{◌≡◌, ◌<◌};
-ghost use Rattle.kahn_crew.specs.{inner.Words.IsBetweenTurns, inner.Turns.HasPicked, inner.Turns.Heeds, inner.Turns.IsSameWorker, inner.Turns.SitsWith};
+ghost use Rattle.kahn_crew.specs.inner.Words.{ℕ, false, true, IfSome, IfNone, IsBetweenTurns, IsSeatOf};
+ghost use Rattle.kahn_crew.specs.inner.Turns.{HasPicked, HasTask, Heeds, IsSameWorker, SitsWith, WasNotReady};
 
 use crate::boxes::Boxed;
 use crate::hints::Hints;
-use crate::pick::{pick_any, pick_hinted};
 use crate::rest::Idling;
 use crate::run::Run;
 use crate::turn::turn;
-use kahn_board::{Seat, go_on};
+use kahn_board::{Seat, claim, go_on};
 use kahn_code::Steps;
 use kahn_streams::Gate;
 use std::sync::Wait;
@@ -24,6 +24,57 @@ pub struct Worker {
     pub seat: Seat<Boxed>,
     pub hints: Hints,
     pub start: usize,
+}
+
+// Takes the instance, if there is one of that number and it is ready. It looks first, since a claim writes a word.
+fn pick_one(run: &Run<'_>, seat: &mut Seat<Boxed>, p: usize) -> bool
+    requires { (n : ℕ) × SitsWith run.now n seat.old }
+    ensures same { IsSeatOf seat.old seat.new }
+    ensures picked { result ≡ true → (n : ℕ) → SitsWith run.now n seat.old → HasTask run.now p n seat.new }
+    ensures missed { result ≡ false → (n : ℕ) → SitsWith run.now n seat.old → SitsWith run.now n seat.new }
+    ensures late { result ≡ false → p < run.now.board.now.instances → WasNotReady run.now seat.old p }
+{
+    if p >= run.board.instances {
+        return false;
+    }
+    if !seat.looks_ready(run.board, p) {
+        return false;
+    }
+    claim(seat, run.board, p)
+}
+
+/// Picks an instance that a hint names: one of the worker's own, or one that it steals.
+pub(crate) fn pick_hinted(run: &Run<'_>, worker: &mut Worker, steals: bool) -> Option<usize>
+    requires { (n : ℕ) × SitsWith run.now n worker.old.seat }
+    ensures same { IsSameWorker worker.old worker.new }
+    ensures picked { IfSome result (λ p. (n : ℕ) → SitsWith run.now n worker.old.seat → HasTask run.now p n worker.new.seat) }
+    ensures left { IfNone result ((n : ℕ) → SitsWith run.now n worker.old.seat → SitsWith run.now n worker.new.seat) }
+{
+    for _ in 0..run.board.instances {
+        let Some(p) = worker.hints.find(steals) else {
+            return None;
+        };
+        if pick_one(run, &mut worker.seat, p) {
+            return Some(p);
+        }
+    }
+    None
+}
+
+// Picks an instance that is ready: it looks at each once, from the worker's start on.
+fn pick_any(run: &Run<'_>, worker: &mut Worker) -> Option<usize>
+    requires { SitsWith run.now 0 worker.old.seat }
+    ensures same { IsSameWorker worker.old worker.new }
+    ensures found { HasPicked run.now result worker.old worker.new }
+{
+    let (count, start) = (run.board.instances, worker.start);
+    for step in 0..count {
+        let p = (start % count + step) % count;
+        if pick_one(run, &mut worker.seat, p) {
+            return Some(p);
+        }
+    }
+    None
 }
 
 // An instance that looks ready, from the worker's start on, round all of them.

@@ -6,7 +6,7 @@ use Rattle.kahn_streams.specs.{declared.answer.Answer.Answer, declared.answer.En
 use Rattle.kahn_graph.specs.Graph.{IsPicture}
 use Rattle.kahn_streams.specs.declared.fault.RunFault.TheVariants as fault
 use Rattle.kahn_sequential.specs.HeldRuns.{IsRefusedRun}
-use Rattle.kahn_fault.specs.{Work.IsChecked, Work.IsUnchecked, declared.work.WorkFault.WorkFault, declared.work.WorkFault.TheVariants.Syntax, declared.work.WorkFault.TheVariants.Check, declared.work.WorkFault.TheVariants.Text, declared.work.WorkFault.TheVariants.Run as RunWork, declared.work.WorkFault.TheVariants.Write}
+use Rattle.kahn_fault.specs.{Work.IsChecked, Work.IsUnchecked, declared.work.WorkFault.WorkFault, declared.work.WorkFault.TheVariants.Syntax, declared.work.WorkFault.TheVariants.Check, declared.work.WorkFault.TheVariants.Text, declared.work.WorkFault.TheVariants.Run as RunWork}
 use Rattle.kahn_draw.specs.{declared.drawing.Drawn.Drawn, declared.drawing.Drawn.TheVariants.Network, declared.drawing.Drawn.TheVariants.Run}
 
 pub went_out : (program input : List ℕ) (drawn : Drawn) (t : Program) (picture : List ℕ) (old new : Option (List ℕ)) → IsChecked program t

@@ -4,7 +4,7 @@ use Rattle.std.specs.{declared.alloc.Global.Global, declared.string.String.Strin
 use Rattle.kahn_streams.specs.{declared.answer.Answer.Answer, declared.answer.End.End, declared.answer.Stream.Stream, declared.fault.RunFault.RunFault, declared.fault.RunFault.TheVariants.NoMemory, declared.tree.Program.Program, Answers.IsRight, Inputs.Lists, Inputs.inputs_of, Network.network_of, Written.AppendsFront}
 use Rattle.kahn_graph.specs.Graph.{IsPicture}
 use Rattle.kahn_texts.specs.Formats.{IsInputTextFault, StandsFor}
-use Rattle.kahn_fault.specs.{declared.work.WorkFault.WorkFault, declared.work.WorkFault.TheVariants.Syntax, declared.work.WorkFault.TheVariants.Check, declared.work.WorkFault.TheVariants.Text, declared.work.WorkFault.TheVariants.Run as RunWork, declared.work.WorkFault.TheVariants.Write, Work.IsChecked, Work.IsUnchecked}
+use Rattle.kahn_fault.specs.{declared.work.WorkFault.WorkFault, declared.work.WorkFault.TheVariants.Text, declared.work.WorkFault.TheVariants.Run as RunWork, declared.work.WorkFault.TheVariants.Write, Work.IsChecked, Work.IsUnchecked}
 use Rattle.kahn_draw.specs.{declared.drawing.Drawn.Drawn, declared.drawing.Drawn.TheVariants.Network, declared.drawing.Drawn.TheVariants.Run}
 
 -- a right answer for what the input text stands for, up to this bound

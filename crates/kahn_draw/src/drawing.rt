@@ -1,15 +1,15 @@
-//! From a program text, and an input text of a run, to the picture of the network.
+//! From a program text, and an input text of a run, to the picture of the network, and to the exit status.
 
-ghost use Rattle.std.specs.Prelude.{◌≡◌, ◌⊎◌, [], map};
+ghost use Rattle.std.specs.Prelude.{◌≡◌, ◌⊎◌, [], map, option_copied};
 ghost use Rattle.kahn_streams.specs.Network.{network_of};
 ghost use Rattle.kahn_fault.specs.Work.{IsChecked};
 ghost use Rattle.kahn_chain.specs.Chain.{AreStandings, stands};
-ghost use Rattle.kahn_draw.specs.{Drawing.IsDrawn, Drawing.IsDrawnFor, Drawing.IsPictured, declared.drawing.Drawn.TheVariants.Run};
+ghost use Rattle.kahn_draw.specs.{Drawing.IsDrawn, Drawing.IsDrawnFor, Drawing.IsPictured, Running.HasDrawnAs, Running.IsPointed, Running.drawn_answer};
 
-use kahn_fault::{WorkFault, checked};
+use kahn_fault::{Fault, Texts, Told, WorkFault, checked, tell, tell_explain};
 use kahn_graph::picture_text;
 use kahn_sequential::run_one;
-use kahn_streams::{End, Network, RunFault, Stream};
+use kahn_streams::{End, Network, RunFault, Stream, Verdict};
 use kahn_texts::{read_input, write_line};
 use std::alloc::Global;
 use std::io::Write;
@@ -40,25 +40,7 @@ fn pictured(
     }
 }
 
-/// The picture of a run of a network on an input text.
-fn run_picture(
-    alloc: Global,
-    network: &Network,
-    program: &str,
-    input: &str,
-    bound: u64,
-) -> Result<String, WorkFault>
-    requires { IsChecked program.now network.now }
-    ensures { IsDrawnFor network.now program.now input.now (Run bound) result }
-{
-    let input = read_input(alloc, input, network)?;
-    match run_one(alloc, network, input, bound) {
-        Ok(answer) => pictured(alloc, network, program, &answer.streams, &answer.ends),
-        Err(fault) => Err(WorkFault::Run(fault)),
-    }
-}
-
-/// The picture of a network, or of a run of it.
+/// The picture of a network, or of a run of it on an input text.
 fn picture(
     alloc: Global,
     network: &Network,
@@ -69,15 +51,20 @@ fn picture(
     requires { IsChecked program.now network.now }
     ensures { IsDrawnFor network.now program.now input.now drawn result }
 {
-    match drawn {
-        Drawn::Network => pictured(alloc, network, program, &[], &[]),
-        Drawn::Run(bound) => run_picture(alloc, network, program, input, bound),
+    let bound = match drawn {
+        Drawn::Network => return pictured(alloc, network, program, &[], &[]),
+        Drawn::Run(bound) => bound,
+    };
+    let input = read_input(alloc, input, network)?;
+    match run_one(alloc, network, input, bound) {
+        Ok(answer) => pictured(alloc, network, program, &answer.streams, &answer.ends),
+        Err(fault) => Err(WorkFault::Run(fault)),
     }
 }
 
 /// Writes the picture of the network of a program text, or of a run of it on an input text. Faults are found in this order: of the
 /// program text, of the network, of the input text, want of memory, of the writer; before a fault of the writer nothing is written.
-pub(crate) fn draw<W: Write>(
+fn draw<W: Write>(
     alloc: Global,
     program: &str,
     input: &str,
@@ -92,4 +79,45 @@ pub(crate) fn draw<W: Write>(
         Ok(()) => Ok(()),
         Err(fault) => Err(WorkFault::Write(fault)),
     }
+}
+
+/// What drawing came to, in the words of a run.
+fn drawn_answer(drawn: Result<(), WorkFault>) -> Result<Verdict, Fault>
+    ensures { result ≡ drawn_answer drawn }
+{
+    match drawn {
+        Ok(()) => Ok(Verdict::Finished),
+        Err(fault) => Err(Fault::Work(fault)),
+    }
+}
+
+/// Tells which program says more of a fault, if the program text has a path.
+fn point<E: Write>(path: Option<&str>, answer: &Result<Verdict, Fault>, errors: &mut E)
+    ensures { IsPointed (option_copied path.entry) answer.now (E.contents errors.old) (E.contents errors.new) }
+{
+    match path {
+        Some(path) => {
+            let _told = tell_explain(answer, path, errors);
+        }
+        None => {}
+    }
+}
+
+/// Draws the program of the texts, or a run of it, to `out`. A fault is told to `log`. It gives the exit status, and whether the line
+/// of the fault went out.
+pub(crate) fn ran<W: Write, E: Write>(
+    alloc: Global,
+    texts: &Texts,
+    path: Option<&str>,
+    drawn: Drawn,
+    out: &mut W,
+    log: &mut E,
+) -> Told
+    ensures { HasDrawnAs texts.now (option_copied path.entry) drawn (W.contents out.old) (W.contents out.new) (E.contents log.old) (E.contents log.new) result }
+{
+    let program = texts.program.as_str();
+    let answer = drawn_answer(draw(alloc, program, texts.input.as_str(), drawn, out));
+    let told = tell(&answer, program, log);
+    point(path, &answer, log);
+    told
 }

@@ -2,12 +2,10 @@
 #![tactic(auto)]
 
 mod drawing;
-mod running;
 
-use drawing::Drawn;
+use drawing::{Drawn, ran};
 use kahn_fault::{read_texts, shown_path, tell_shown};
 use kahn_line::{DrawOptions, read_draw_line, tell_line, tell_no_memory, tell_words};
-use running::ran;
 use std::alloc::{AllocError, Global};
 use std::io::Write;
 use std::process::ExitCode;
@@ -22,14 +20,6 @@ fn path_of(alloc: Global, program: &Option<String>) -> Result<Option<String>, Al
     }
 }
 
-/// What is drawn.
-fn drawn_of(options: &DrawOptions) -> Drawn {
-    match options.input {
-        Some(_) => Drawn::Run(options.bound),
-        None => Drawn::Network,
-    }
-}
-
 /// Draws what the command line asks for, and gives the status. Faults are told to the writer.
 fn answered<R: Runtime + AllocGlobal, W: Write>(
     rt: &R,
@@ -37,7 +27,10 @@ fn answered<R: Runtime + AllocGlobal, W: Write>(
     path: Option<String>,
     writer: &mut W,
 ) -> u8 {
-    let drawn = drawn_of(&options);
+    let drawn = match options.input {
+        Some(_) => Drawn::Run(options.bound),
+        None => Drawn::Network,
+    };
     match read_texts(rt, options.program, options.input) {
         Ok(texts) => {
             let (path, out) = (path.as_deref(), &mut io::writer(rt));

@@ -48,59 +48,44 @@ what_words Other = codes "this cannot stand here"
 what_words More = codes "text ends too early"
 what_words Nothing = codes "text goes on after the program"
 
--- the place at which a text is no program, if it is one place
+-- the place at which a text is no program, if it is one place, and why
+abbrev pub syntax_told : SyntaxFault → Option Span × List ℕ
+syntax_told syntax.TooLong = (None, codes "program text is too long")
+syntax_told (syntax.BadCharacter span) = (Some span, codes "character is not of the language")
+syntax_told (syntax.NumberTooLarge span) = (Some span, codes "number is too large")
+syntax_told (syntax.CommentOpen span) = (Some span, codes "comment has no end")
+syntax_told (syntax.NameTooLong span) = (Some span, codes "name is too long")
+syntax_told (syntax.Expected span what) = (Some span, what_words what)
+syntax_told (syntax.TooDeep span) = (Some span, codes "nesting is too deep")
+syntax_told syntax.NoMemory = (None, codes "no memory")
+
 abbrev pub syntax_span : SyntaxFault → Option Span
-syntax_span syntax.TooLong = None
-syntax_span (syntax.BadCharacter span) = Some span
-syntax_span (syntax.NumberTooLarge span) = Some span
-syntax_span (syntax.CommentOpen span) = Some span
-syntax_span (syntax.NameTooLong span) = Some span
-syntax_span (syntax.Expected span what) = Some span
-syntax_span (syntax.TooDeep span) = Some span
-syntax_span syntax.NoMemory = None
+syntax_span fault = (syntax_told fault).0
 
--- why a text is no program
 abbrev pub syntax_words : SyntaxFault → List ℕ
-syntax_words syntax.TooLong = codes "program text is too long"
-syntax_words (syntax.BadCharacter span) = codes "character is not of the language"
-syntax_words (syntax.NumberTooLarge span) = codes "number is too large"
-syntax_words (syntax.CommentOpen span) = codes "comment has no end"
-syntax_words (syntax.NameTooLong span) = codes "name is too long"
-syntax_words (syntax.Expected span what) = what_words what
-syntax_words (syntax.TooDeep span) = codes "nesting is too deep"
-syntax_words syntax.NoMemory = codes "no memory"
+syntax_words fault = (syntax_told fault).1
 
--- the place for which a program is refused, if it is one place
+-- the place for which a program is refused, if it is one place, and why
+abbrev pub check_told : CheckFault → Option Span × List ℕ
+check_told (checked.DeclaredTwice span) = (Some span, codes "name is declared twice")
+check_told (checked.Unknown span) = (Some span, codes "name is not declared")
+check_told (checked.WrongKind span) = (Some span, codes "kind does not agree")
+check_told (checked.WrongCount span) = (Some span, codes "number of arguments does not agree")
+check_told (checked.ChannelExpected span) = (Some span, codes "a channel is expected")
+check_told (checked.ValueExpected span) = (Some span, codes "a value is expected")
+check_told (checked.WrongDirection span) = (Some span, codes "direction does not agree")
+check_told (checked.NoWriter span) = (Some span, codes "channel has no writer")
+check_told (checked.TwoWriters span) = (Some span, codes "channel has two writers")
+check_told (checked.NoReader span) = (Some span, codes "channel has no reader")
+check_told (checked.TwoReaders span) = (Some span, codes "channel has two readers")
+check_told (checked.TooMany span) = (Some span, codes "limit is exceeded")
+check_told checked.NoMemory = (None, codes "no memory")
+
 abbrev pub check_span : CheckFault → Option Span
-check_span (checked.DeclaredTwice span) = Some span
-check_span (checked.Unknown span) = Some span
-check_span (checked.WrongKind span) = Some span
-check_span (checked.WrongCount span) = Some span
-check_span (checked.ChannelExpected span) = Some span
-check_span (checked.ValueExpected span) = Some span
-check_span (checked.WrongDirection span) = Some span
-check_span (checked.NoWriter span) = Some span
-check_span (checked.TwoWriters span) = Some span
-check_span (checked.NoReader span) = Some span
-check_span (checked.TwoReaders span) = Some span
-check_span (checked.TooMany span) = Some span
-check_span checked.NoMemory = None
+check_span fault = (check_told fault).0
 
--- why a program is refused
 abbrev pub check_words : CheckFault → List ℕ
-check_words (checked.DeclaredTwice span) = codes "name is declared twice"
-check_words (checked.Unknown span) = codes "name is not declared"
-check_words (checked.WrongKind span) = codes "kind does not agree"
-check_words (checked.WrongCount span) = codes "number of arguments does not agree"
-check_words (checked.ChannelExpected span) = codes "a channel is expected"
-check_words (checked.ValueExpected span) = codes "a value is expected"
-check_words (checked.WrongDirection span) = codes "direction does not agree"
-check_words (checked.NoWriter span) = codes "channel has no writer"
-check_words (checked.TwoWriters span) = codes "channel has two writers"
-check_words (checked.NoReader span) = codes "channel has no reader"
-check_words (checked.TwoReaders span) = codes "channel has two readers"
-check_words (checked.TooMany span) = codes "limit is exceeded"
-check_words checked.NoMemory = codes "no memory"
+check_words fault = (check_told fault).1
 
 -- of an entry of the input text, by its place from 1
 abbrev pub entry_line : InputFault → List ℕ

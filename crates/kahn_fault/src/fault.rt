@@ -3,14 +3,12 @@
 ghost use Rattle.std.specs.Prelude.{◌≡◌};
 ghost use Rattle.kahn_fault.specs.Status.{live_status_of, read_status, work_status, status_of};
 
-use crate::message::path_words;
+use crate::message::{path_words, read_said};
 use crate::work::WorkFault;
 use kahn_check::CheckFault;
 use kahn_streams::{InputFault, RunFault, Verdict};
 use kahn_syntax::SyntaxFault;
 use kahn_texts::{ReadFault, TextFault};
-use std::fmt;
-use std::fmt::{Display, Formatter, Write};
 use thiserror::Error;
 
 /// Why a run has no report. It is displayed in the words of its line, without the program's name and without a place.
@@ -20,37 +18,14 @@ pub enum Fault {
     #[error("cannot read {0}")]
     Open(String),
     /// The program text couldn't be read from the file of that path, or from standard input.
-    #[error("{}", why_unread(path_words(.0), "program text is too long", *.1))]
+    #[error("{}", read_said(path_words(.0), "program text is too long", *.1))]
     Program(Option<String>, ReadFault),
     /// The input text couldn't be read from the file of that path.
-    #[error("{}", why_unread(.0, "input text is too long", *.1))]
+    #[error("{}", read_said(.0, "input text is too long", *.1))]
     InputText(String, ReadFault),
     /// The texts were read, and the run has no report.
     #[error("{0}")]
     Work(WorkFault),
-}
-
-// A text that wasn't read: its path, what is said if it is too long, and why.
-#[derive(Clone, Copy)]
-struct Unread<'a> {
-    path: &'a str,
-    long: &'a str,
-    fault: ReadFault,
-}
-
-fn why_unread<'a>(path: &'a str, long: &'a str, fault: ReadFault) -> Unread<'a> {
-    Unread { path, long, fault }
-}
-
-impl Display for Unread<'_> {
-    fn fmt<W: Write>(&self, formatter: &mut Formatter<W>) -> fmt::Result {
-        match self.fault {
-            ReadFault::Failed => write!(formatter, "cannot read {}", self.path),
-            ReadFault::TooLong => write!(formatter, "{}", self.long),
-            ReadFault::NotUtf8 => write!(formatter, "{} is not UTF-8", self.path),
-            ReadFault::NoMemory => write!(formatter, "no memory"),
-        }
-    }
 }
 
 /// Returns the status of a text that wasn't read.

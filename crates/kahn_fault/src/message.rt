@@ -1,9 +1,9 @@
 //! What the program says of a fault: one line.
 
-ghost use Rattle.std.specs.Prelude.{◌≡◌, ◌≤◌, List, ℕ, length, decimal};
+ghost use Rattle.std.specs.Prelude.{◌≡◌, List, ℕ, Some, decimal};
 ghost use Rattle.kahn_streams.specs.Written.{Writes};
 ghost use Rattle.kahn_texts.specs.Flushes.{FlushesOnce};
-ghost use Rattle.kahn_fault.specs.Message.{WritesCounted, numbered_line, between_line, place_line, placed_line, what_words, syntax_span, syntax_words, check_span, check_words, entry_line, text_line, run_line, work_line, read_line, path_words, fault_text};
+ghost use Rattle.kahn_fault.specs.Message.{WritesCounted, numbered_line, between_line, placed_line, syntax_span, syntax_words, check_span, check_words, entry_line, text_line, run_line, work_line, read_line, path_words, fault_text};
 ghost use Rattle.kahn_fault.specs.inner.Said.{said_line};
 
 use crate::fault::Fault;
@@ -13,17 +13,29 @@ use kahn_check::CheckFault;
 use kahn_streams::{InputFault, RunFault, Span};
 use kahn_syntax::{SyntaxFault, What};
 use kahn_texts::{CallCount, ReadFault, TextFault, WriteFault, flush, put_line, uncounted};
+use std::fmt;
+use std::fmt::{Display, Formatter};
 use std::io::Write;
 
 /// What a line says.
 #[derive(Clone, Copy)]
-enum Says<'a> {
+pub(crate) enum Says<'a> {
     /// Words, and a path or nothing; or a path and words.
     Words(&'a str, &'a str),
     /// A number between words.
     Numbered(&'static str, usize, &'static str),
-    /// A place in the program text, if there is one, and words.
-    Placed(Option<Span>, &'static str),
+    /// A place in the program text, and words.
+    Placed(Span, &'static str),
+}
+
+impl Display for Says<'_> {
+    fn fmt<W: fmt::Write>(&self, formatter: &mut Formatter<W>) -> fmt::Result {
+        match self {
+            Says::Words(first, second) => write!(formatter, "{first}{second}"),
+            Says::Numbered(before, number, after) => write!(formatter, "{before}{number}{after}"),
+            Says::Placed(_, words) => write!(formatter, "{words}"),
+        }
+    }
 }
 
 /// Writes a line of words, of what stands between, and of more words.
@@ -72,39 +84,22 @@ fn put_place<'a, W: Write, C: CallCount>(
     )
 }
 
-/// Writes a line with the place of a byte of the program text.
-fn put_byte<W: Write, C: CallCount>(
-    writer: &mut W,
-    program: &str,
-    from: usize,
-    words: &str,
-    writes: &mut C,
-) -> Result<(), WriteFault>
-    requires { from ≤ length program.now }
-    ensures { WritesCounted W.contents C.count writer.old writer.new result writes.old writes.new (place_line program.now from words.now) }
-{
-    let (line, column) = Span { from, to: from }.place(program);
-    let mut first = Buffer::new();
-    let mut second = Buffer::new();
-    let line = first.format(line);
-    let column = second.format(column);
-    put_place(writer, line, column, words, writes)
-}
-
-/// Writes a line with the place of a byte, if there is one.
+/// Writes a line with a place in the program text; a place beyond the text is reported as its end.
 fn put_placed<W: Write, C: CallCount>(
     writer: &mut W,
     program: &str,
-    place: Option<Span>,
+    place: Span,
     words: &str,
     writes: &mut C,
 ) -> Result<(), WriteFault>
-    ensures { WritesCounted W.contents C.count writer.old writer.new result writes.old writes.new (placed_line program.now place words.now) }
+    ensures { WritesCounted W.contents C.count writer.old writer.new result writes.old writes.new (placed_line program.now (Some place) words.now) }
 {
-    match place {
-        Some(span) => put_byte(writer, program, span.from.min(program.len()), words, writes),
-        None => put_between(writer, words, "", "", writes),
-    }
+    let from = place.from.min(program.len());
+    let (line, column) = Span { from, to: from }.place(program);
+    let mut first = Buffer::new();
+    let mut second = Buffer::new();
+    let (line, column) = (first.format(line), second.format(column));
+    put_place(writer, line, column, words, writes)
 }
 
 /// Writes a line.
@@ -123,14 +118,25 @@ fn put_said<W: Write, C: CallCount>(
     }
 }
 
-/// Returns why a lexeme is unexpected.
-fn what_words(what: What) -> &'static str
-    ensures { result.now ≡ what_words what }
+/// Returns the place at which a text is no program, if it is one place, and why.
+fn syntax_told(fault: SyntaxFault) -> (Option<Span>, &'static str)
+    ensures place { result.0 ≡ syntax_span fault }
+    ensures words { result.1.now ≡ syntax_words fault }
 {
-    match what {
-        What::Other => "this cannot stand here",
-        What::More => "text ends too early",
-        What::Nothing => "text goes on after the program",
+    match fault {
+        SyntaxFault::TooLong => (None, "program text is too long"),
+        SyntaxFault::BadCharacter(span) => (Some(span), "character is not of the language"),
+        SyntaxFault::NumberTooLarge(span) => (Some(span), "number is too large"),
+        SyntaxFault::CommentOpen(span) => (Some(span), "comment has no end"),
+        SyntaxFault::NameTooLong(span) => (Some(span), "name is too long"),
+        SyntaxFault::Expected(span, What::Other) => (Some(span), "this cannot stand here"),
+        SyntaxFault::Expected(span, What::More) => (Some(span), "text ends too early"),
+        SyntaxFault::Expected(span, What::Nothing) => (
+            Some(span),
+            "text goes on after the program",
+        ),
+        SyntaxFault::TooDeep(span) => (Some(span), "nesting is too deep"),
+        SyntaxFault::NoMemory => (None, "no memory"),
     }
 }
 
@@ -138,30 +144,35 @@ fn what_words(what: What) -> &'static str
 pub fn syntax_span(fault: SyntaxFault) -> Option<Span>
     ensures { result ≡ syntax_span fault }
 {
-    match fault {
-        SyntaxFault::TooLong | SyntaxFault::NoMemory => None,
-        SyntaxFault::BadCharacter(span)
-        | SyntaxFault::NumberTooLarge(span)
-        | SyntaxFault::CommentOpen(span)
-        | SyntaxFault::NameTooLong(span)
-        | SyntaxFault::Expected(span, _)
-        | SyntaxFault::TooDeep(span) => Some(span),
-    }
+    syntax_told(fault).0
 }
 
 /// Returns why a text is no program.
 pub fn syntax_words(fault: SyntaxFault) -> &'static str
     ensures { result.now ≡ syntax_words fault }
 {
+    syntax_told(fault).1
+}
+
+/// Returns the place for which a program is refused, if it is one place, and why.
+fn check_told(fault: CheckFault) -> (Option<Span>, &'static str)
+    ensures place { result.0 ≡ check_span fault }
+    ensures words { result.1.now ≡ check_words fault }
+{
     match fault {
-        SyntaxFault::TooLong => "program text is too long",
-        SyntaxFault::BadCharacter(_) => "character is not of the language",
-        SyntaxFault::NumberTooLarge(_) => "number is too large",
-        SyntaxFault::CommentOpen(_) => "comment has no end",
-        SyntaxFault::NameTooLong(_) => "name is too long",
-        SyntaxFault::Expected(_, what) => what_words(what),
-        SyntaxFault::TooDeep(_) => "nesting is too deep",
-        SyntaxFault::NoMemory => "no memory",
+        CheckFault::DeclaredTwice(span) => (Some(span), "name is declared twice"),
+        CheckFault::Unknown(span) => (Some(span), "name is not declared"),
+        CheckFault::WrongKind(span) => (Some(span), "kind does not agree"),
+        CheckFault::WrongCount(span) => (Some(span), "number of arguments does not agree"),
+        CheckFault::ChannelExpected(span) => (Some(span), "a channel is expected"),
+        CheckFault::ValueExpected(span) => (Some(span), "a value is expected"),
+        CheckFault::WrongDirection(span) => (Some(span), "direction does not agree"),
+        CheckFault::NoWriter(span) => (Some(span), "channel has no writer"),
+        CheckFault::TwoWriters(span) => (Some(span), "channel has two writers"),
+        CheckFault::NoReader(span) => (Some(span), "channel has no reader"),
+        CheckFault::TwoReaders(span) => (Some(span), "channel has two readers"),
+        CheckFault::TooMany(span) => (Some(span), "limit is exceeded"),
+        CheckFault::NoMemory => (None, "no memory"),
     }
 }
 
@@ -169,42 +180,14 @@ pub fn syntax_words(fault: SyntaxFault) -> &'static str
 pub fn check_span(fault: CheckFault) -> Option<Span>
     ensures { result ≡ check_span fault }
 {
-    match fault {
-        CheckFault::NoMemory => None,
-        CheckFault::DeclaredTwice(span)
-        | CheckFault::Unknown(span)
-        | CheckFault::WrongKind(span)
-        | CheckFault::WrongCount(span)
-        | CheckFault::ChannelExpected(span)
-        | CheckFault::ValueExpected(span)
-        | CheckFault::WrongDirection(span)
-        | CheckFault::NoWriter(span)
-        | CheckFault::TwoWriters(span)
-        | CheckFault::NoReader(span)
-        | CheckFault::TwoReaders(span)
-        | CheckFault::TooMany(span) => Some(span),
-    }
+    check_told(fault).0
 }
 
 /// Returns why a program is refused.
 pub fn check_words(fault: CheckFault) -> &'static str
     ensures { result.now ≡ check_words fault }
 {
-    match fault {
-        CheckFault::DeclaredTwice(_) => "name is declared twice",
-        CheckFault::Unknown(_) => "name is not declared",
-        CheckFault::WrongKind(_) => "kind does not agree",
-        CheckFault::WrongCount(_) => "number of arguments does not agree",
-        CheckFault::ChannelExpected(_) => "a channel is expected",
-        CheckFault::ValueExpected(_) => "a value is expected",
-        CheckFault::WrongDirection(_) => "direction does not agree",
-        CheckFault::NoWriter(_) => "channel has no writer",
-        CheckFault::TwoWriters(_) => "channel has two writers",
-        CheckFault::NoReader(_) => "channel has no reader",
-        CheckFault::TwoReaders(_) => "channel has two readers",
-        CheckFault::TooMany(_) => "limit is exceeded",
-        CheckFault::NoMemory => "no memory",
-    }
+    check_told(fault).1
 }
 
 /// Returns what is said of an entry of the input text.
@@ -247,13 +230,23 @@ fn run_said(fault: RunFault) -> Says<'static>
     }
 }
 
+/// Returns what is said of a program text, with its place, if it is one place.
+fn placed_said(place: Option<Span>, words: &'static str) -> Says<'static>
+    ensures { (program : List ℕ) → said_line program result ≡ placed_line program place words.now }
+{
+    match place {
+        Some(span) => Says::Placed(span, words),
+        None => Says::Words(words, ""),
+    }
+}
+
 /// Returns what is said of a run without a report.
 fn work_said(fault: WorkFault) -> Says<'static>
     ensures { (program : List ℕ) → said_line program result ≡ work_line program fault }
 {
     match fault {
-        WorkFault::Syntax(fault) => Says::Placed(syntax_span(fault), syntax_words(fault)),
-        WorkFault::Check(fault) => Says::Placed(check_span(fault), check_words(fault)),
+        WorkFault::Syntax(fault) => placed_said(syntax_span(fault), syntax_words(fault)),
+        WorkFault::Check(fault) => placed_said(check_span(fault), check_words(fault)),
         WorkFault::Text(fault) => text_said(fault),
         WorkFault::Run(fault) => run_said(fault),
         WorkFault::Write(_) => Says::Words("report could not be written", ""),
@@ -261,7 +254,7 @@ fn work_said(fault: WorkFault) -> Says<'static>
 }
 
 /// Returns what is said of a text that wasn't read, by its path and what is said if it is too long.
-fn read_said<'a>(path: &'a str, long: &'a str, fault: ReadFault) -> Says<'a>
+pub(crate) fn read_said<'a>(path: &'a str, long: &'a str, fault: ReadFault) -> Says<'a>
     ensures { (program : List ℕ) → said_line program result ≡ read_line path.now long.now fault }
 {
     match fault {

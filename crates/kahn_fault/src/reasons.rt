@@ -3,7 +3,7 @@
 ghost use Rattle.std.specs.Prelude.{◌≡◌, Err, IfOk, string_bytes};
 ghost use Rattle.kahn_marks.specs.Marks.{shown_text};
 ghost use Rattle.kahn_streams.specs.Written.{Writes};
-ghost use Rattle.kahn_fault.specs.{Reasons.reason_line, Reasons.file_words, Status.status_of};
+ghost use Rattle.kahn_fault.specs.{Reasons.reason_line, Status.status_of};
 
 use crate::fault::Fault;
 use crate::telling::tell;
@@ -15,9 +15,7 @@ use std::io::{ErrorKind, Read, Write};
 use std::rt::Runtime;
 
 /// Returns why the system opens or reads no file, in words.
-fn file_words(kind: ErrorKind) -> &'static str
-    ensures { result.now ≡ file_words kind }
-{
+fn file_words(kind: ErrorKind) -> &'static str {
     match kind {
         ErrorKind::NotFound => "there is no such file",
         ErrorKind::PermissionDenied => "there is no permission to read it",

@@ -1,7 +1,7 @@
 //! What a program reports of its run at the end.
 
 ghost use Rattle.std.specs.Prelude.{◌≡◌};
-ghost use Rattle.kahn_fault.specs.{Status.status_of, Places.fault_span, Telling.explain_line, Telling.pointer_text, Telling.has_place, Telling.told_text};
+ghost use Rattle.kahn_fault.specs.{Status.status_of, Places.fault_span, Telling.explain_line, Telling.pointer_text, Telling.told_text};
 ghost use Rattle.kahn_streams.specs.Written.{Writes};
 
 use crate::fault::{Fault, status};
@@ -47,27 +47,17 @@ fn fault_span(fault: WorkFault) -> Option<Span>
     }
 }
 
-/// Whether a fault has a place in the program text.
-fn has_place(fault: &Fault) -> bool
-    ensures { result ≡ has_place fault.now }
-{
-    match fault {
-        Fault::Open(_) | Fault::Program(_, _) | Fault::InputText(_, _) => false,
-        Fault::Work(fault) => fault_span(*fault).is_some(),
-    }
-}
-
 /// Writes which program says more of a fault.
-fn put_more<W: Write>(fault: &Fault, path: &str, writer: &mut W) -> Result<(), WriteFault>
-    ensures { Writes (W.contents writer.old) (W.contents writer.new) result (explain_line (has_place fault.now) path.now) }
+fn put_more<W: Write>(fault: WorkFault, path: &str, writer: &mut W) -> Result<(), WriteFault>
+    ensures { Writes (W.contents writer.old) (W.contents writer.new) result (explain_line (fault_span fault) path.now) }
 {
-    if has_place(fault) {
-        return write_line(
+    match fault_span(fault) {
+        Some(_) => write_line(
             writer,
             &[b"kahn_explain ", path.as_bytes(), b" says more\n"],
-        );
+        ),
+        None => Ok(()),
     }
-    Ok(())
 }
 
 /// Reports, in one line, which program says more of the fault of a run, if it has a place in the program text, which is that of the file
@@ -80,7 +70,7 @@ pub fn tell_explain<W: Write>(
     ensures { Writes (W.contents writer.old) (W.contents writer.new) result (pointer_text path.now answer.now) }
 {
     match answer {
-        Ok(_) => Ok(()),
-        Err(fault) => put_more(fault, path, writer),
+        Ok(_) | Err(Fault::Open(_) | Fault::Program(_, _) | Fault::InputText(_, _)) => Ok(()),
+        Err(Fault::Work(fault)) => put_more(*fault, path, writer),
     }
 }

@@ -1,7 +1,7 @@
 -- A task after a run: what its standing says of its process, and its job.
 use Rattle.kahn_job.proofs.Common.{◌≡◌, ℕ, length, sym, ap, ◌∙◌, subst, network_of, instance_at, inputs_of, told_view, Work, width_of, IsTrueOf, standing_after, ◌<◌, List, Site, CellView, IsAt, IsSameProcess, IsStill, site_of, TaskEnd, AreServed, end_at, IsJob, Paused, IsPause}
 use Rattle.kahn_code.specs.declared.progress.Pause.{Pause}
-use Rattle.kahn_job.specs.declared.standing.TaskStanding.{TaskStanding}
+use Rattle.kahn_job.specs.declared.task.TaskStanding.{TaskStanding}
 use Rattle.kahn_code.specs.declared.progress.Pause.TheVariants as pause
 
 -- after a run the standing is that of the process

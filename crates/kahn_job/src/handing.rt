@@ -1,13 +1,15 @@
-//! Ends are given to parameters and taken back, and a channel's ends go to the parameters that it is handed to.
+//! Ends are given to parameters and taken back, and a channel's ends go to the parameters that it is handed to; jobs with all their ends
+//! are made so.
 
-ghost use Rattle.std.specs.Prelude.{◌≡◌, ◌<◌, ◌≤◌, ◌+◌, ◌^◌, vec_capacity};
-ghost use Rattle.kahn_job.specs.inner.Words.{ℕ, Tapped, nothing_gone, [], length, map, replicate, slice_get, IfOk, IfSome, Some, network_of, lane_name, sender_lane, receiver_lane, sender_name, receiver_name, flushed, sent, received, taken_of, waiting_of, given_of};
-ghost use Rattle.kahn_job.specs.{inner.Idles.cells_of, inner.Idles.rows_of, inner.Idles.AreEndsAt, inner.Idles.HaveFewTokens, inner.Idles.AreSamePlaces, inner.Idles.placed, inner.Idles.tolds_of, inner.Berths.HasPlace, inner.Berths.end_of_side};
+ghost use Rattle.std.specs.Prelude.{◌≡◌, ◌<◌, ◌≤◌, vec_capacity};
+ghost use Rattle.kahn_code.specs.inner.Opening.{IsOpening};
+ghost use Rattle.kahn_job.specs.inner.Words.{ℕ, Tapped, nothing_gone, [], length, map, replicate, slice_get, IfOk, IfSome, Some, Lists, network_of, instance_at};
+ghost use Rattle.kahn_job.specs.{inner.Idles.cells_of, inner.Idles.rows_of, inner.Idles.AreEndsAt, inner.Idles.AreJobsAt, inner.Idles.HaveFewTokens, inner.Idles.HaveNoEnds, inner.Idles.AreSamePlaces, inner.Idles.placed, inner.Idles.tolds_of, inner.Berths.HasPlace, inner.Berths.end_of_side, inner.Ways.no_end};
 
 use crate::idle::Idle;
 use crate::port::TaskPort;
-use kahn_code::{Plain, Tap};
-use kahn_lane::{Receiver, Sender, lane_at};
+use kahn_code::{Cell, Code, Plain, Tap};
+use kahn_lane::lane_at;
 use kahn_streams::{Input, Network, NoMemory, Role, Side};
 use std::alloc::Global;
 
@@ -42,8 +44,8 @@ pub(crate) fn exchange_two(
     (sender, receiver)
 }
 
-/// Gives an end to the parameter where it belongs, if any.
-pub(crate) fn place(idles: &mut Vec<Idle>, side: Option<Side>, port: TaskPort)
+// Gives an end to the parameter where it belongs, if any.
+fn place(idles: &mut Vec<Idle>, side: Option<Side>, port: TaskPort)
     requires { IfSome side (HasPlace (rows_of idles.old.items)) }
     ensures rows { rows_of idles.new.items ≡ placed (rows_of idles.old.items) side port }
     ensures cells { cells_of idles.new.items ≡ cells_of idles.old.items }
@@ -53,37 +55,9 @@ pub(crate) fn place(idles: &mut Vec<Idle>, side: Option<Side>, port: TaskPort)
     }
 }
 
-// Makes a lane that begins where a queue stands, with copies of the tokens that wait there.
-fn lane_of(
-    alloc: Global,
-    network: &Network,
-    input: &Input,
-    channel: usize,
-    queues: &Plain<Global>,
-) -> Result<(Sender, Receiver), NoMemory>
-    requires queues { (queues.now.network ≡ network.now) × (queues.now.input ≡ input.now) }
-    requires few { given_of (slice_get queues.now.queues channel) ≤ 2 ^ 48 }
-    ensures lane { IfOk result (λ r. sender_lane r.0 ≡ receiver_lane r.1) }
-    ensures sender { IfOk result (λ r. sender_name r.0 ≡ Some (lane_name network.now input.now channel)) }
-    ensures receiver { IfOk result (λ r. receiver_name r.1 ≡ Some (lane_name network.now input.now channel)) }
-    ensures taken { IfOk result (λ r. received r.1 ≡ taken_of (slice_get queues.now.queues channel)) }
-    ensures given { IfOk result (λ r. (sent r.0 ≡ given_of (slice_get queues.now.queues channel)) × (flushed r.0 ≡ sent r.0)) }
-{
-    let taken = queues.taken(channel);
-    let waiting = queues.waiting(channel);
-    let Ok((mut sender, receiver)) = lane_at(alloc, network, input, channel, taken) else {
-        return Err(NoMemory);
-    };
-    for number in 0..waiting {
-        sender.room()?;
-        sender.put(queues.token(channel, number));
-    }
-    let _flushed = sender.flush()?;
-    Ok((sender, receiver))
-}
-
-/// Makes the ends of a channel, the writer's and the reader's, which stand where its queue stands.
-pub(crate) fn ends_at(
+// Makes the ends of a channel, the writer's and the reader's, which stand where its queue stands: those of a lane with copies of the
+// tokens that wait there, if the channel is an inner one.
+fn ends_at(
     alloc: Global,
     network: &Network,
     input: &Input,
@@ -95,20 +69,96 @@ pub(crate) fn ends_at(
     requires few { HaveFewTokens network.now queues.now.queues }
     ensures { IfOk result (λ r. AreEndsAt network.now input.now queues.now.queues channel r.0 r.1) }
 {
+    let taken = queues.taken(channel);
     match network.channel(channel).role {
         Role::Inner => {
-            let (sender, receiver) = lane_of(alloc, network, input, channel, queues)?;
+            let Ok((mut sender, receiver)) = lane_at(alloc, network, input, channel, taken) else {
+                return Err(NoMemory);
+            };
+            for number in 0..queues.waiting(channel) {
+                sender.room()?;
+                sender.put(queues.token(channel, number));
+            }
+            let _flushed = sender.flush()?;
             Ok((TaskPort::puts(sender), TaskPort::takes(receiver)))
         }
-        Role::Input => {
-            let taken = queues.taken(channel);
-            Ok((
-                TaskPort::nothing(),
-                TaskPort::feeds(network, input, channel, taken),
-            ))
-        }
+        Role::Input => Ok((
+            TaskPort::nothing(),
+            TaskPort::feeds(network, input, channel, taken),
+        )),
         Role::Output => Ok((TaskPort::nothing(), TaskPort::nothing())),
     }
+}
+
+// Makes the job of an instance before its first event, for the input that the caller names. Its parameters have no ends yet.
+fn bare_job(
+    alloc: Global,
+    network: &Network,
+    _input: &Input,
+    code: &Code,
+    instance: usize,
+    watch: Option<usize>,
+) -> Result<Idle, NoMemory>
+    ghost input: { Lists }
+    requires code { code.now.network.value ≡ network.now }
+    requires here { instance < length (network_of network.now).instances }
+    ensures cell { IfOk result (λ w. IsOpening network.now input watch instance w.cell) }
+    ensures ends { IfOk result (λ w. w.ends ≡ replicate (length (instance_at (network_of network.now) instance).actuals) no_end) }
+{
+    let Ok(cell) = Cell::new(alloc, code, instance, watch) else {
+        return Err(NoMemory);
+    };
+    let parameters = cell.parameters();
+    let mut ports = Vec::with_capacity(alloc, parameters)?;
+    let mut numbers = Vec::with_capacity(alloc, parameters)?;
+    for _ in 0..parameters {
+        ports.push_reserved(TaskPort::nothing());
+        numbers.push_reserved(0);
+    }
+    Ok(Idle::new(cell, instance, ports, numbers))
+}
+
+// Makes the jobs of all instances before their first events, in order. Their parameters have no ends yet.
+fn bare_jobs(
+    alloc: Global,
+    network: &Network,
+    input: &Input,
+    code: &Code,
+    watch: Option<usize>,
+) -> Result<Vec<Idle>, NoMemory>
+    requires { code.now.network.value ≡ network.now }
+    ensures { IfOk result (λ idles. HaveNoEnds network.now input.now watch idles.items) }
+{
+    let mut idles = Vec::new(alloc);
+    for instance in 0..network.instances() {
+        idles.push(bare_job(alloc, network, input, code, instance, watch)?)?;
+    }
+    Ok(idles)
+}
+
+/// Makes jobs of all instances, in order, whose ends stand where these queues stand. Their cells are still at their openings.
+/// Each inner channel has a new lane with copies of the tokens that wait in its queue. Fails only if memory was refused.
+pub fn jobs_at(
+    alloc: Global,
+    network: &Network,
+    input: &Input,
+    code: &Code,
+    watch: Option<usize>,
+    queues: &Plain<Global>,
+) -> Result<Vec<Idle>, NoMemory>
+    requires code { code.now.network.value ≡ network.now }
+    requires queues { (queues.now.network ≡ network.now) × (queues.now.input ≡ input.now) }
+    requires few { HaveFewTokens network.now queues.now.queues }
+    ensures { IfOk result (λ idles. AreJobsAt network.now input.now queues.now.queues idles.items) }
+{
+    let _program = network.program();
+    let mut idles = bare_jobs(alloc, network, input, code, watch)?;
+    for channel in 0..network.channels() {
+        let (writer, reader) = ends_at(alloc, network, input, channel, queues)?;
+        place(&mut idles, network.writer(channel), writer);
+        place(&mut idles, network.reader(channel), reader);
+    }
+    Ok(idles)
 }
 
 /// Gives the jobs the cells of these taps, which are of the same instances and have let go of nothing. Never allocates.
@@ -135,7 +185,7 @@ pub fn unseat(idles: Vec<Idle>, mut taps: Vec<Tap>) -> Vec<Tap>
     ensures whole { map (λ x. x.gone) result.items ≡ replicate (length idles.items) nothing_gone }
 {
     for idle in idles {
-        taps.push_reserved(idle.into_tap());
+        taps.push_reserved(Tap::of(idle.cell));
     }
     taps
 }

@@ -1,10 +1,10 @@
 //! A job on which nobody works, while its input may grow.
 
-ghost use Rattle.std.specs.Prelude.{◌≡◌, ◌<◌, length, map, slice_index_or, slice_set, [], IfOk};
-ghost use Rattle.kahn_job.specs.{inner.Berths.end_at, inner.Words.nothing_gone, inner.Works.IsSamePlace, inner.Works.width_of};
+ghost use Rattle.std.specs.Prelude.{◌≡◌, ◌<◌, length, map, slice_set, IfOk};
+ghost use Rattle.kahn_job.specs.{inner.Berths.end_at, inner.Works.IsSamePlace, inner.Works.width_of};
 
 use crate::port::TaskPort;
-use kahn_code::{Cell, Kept, Tap};
+use kahn_code::{Cell, Kept};
 use kahn_streams::{Carried, NoMemory};
 use std::alloc::Global;
 use std::marker::Model;
@@ -25,7 +25,6 @@ impl Model for Idle {
     ghost use Rattle.kahn_streams.specs.contracts.tree.Form as form;
     ghost use Rattle.std.specs.Prelude.{◌≡◌};
     ghost use Rattle.kahn_job.specs.inner.Words.{codes, length};
-    ghost use Rattle.kahn_job.specs.inner.Words.{nothing_gone};
     ghost use Rattle.kahn_job.specs.inner.Works.{Work, width_of};
 
     ghost Value = { Work };
@@ -78,29 +77,6 @@ impl Idle {
         ensures { self.new ≡ record self.old { cell = cell } }
     {
         self.cell = cell;
-    }
-
-    /// Turns the job into the tap of its cell. Never allocates.
-    pub(crate) fn into_tap(self) -> Tap
-        ensures { (result.told ≡ self.cell) × (result.gone ≡ nothing_gone) }
-    {
-        Tap::of(self.cell)
-    }
-
-    /// Returns what its cell kept of what it sent on a parameter.
-    pub fn kept(&self, parameter: usize) -> &[Carried]
-        requires { parameter < width_of self.now }
-        ensures { result.now ≡ slice_index_or self.now.cell.kept parameter [] }
-    {
-        let _parameters = self.cell.parameters();
-        self.cell.kept(parameter)
-    }
-
-    /// Returns what its cell printed.
-    pub fn printed(&self) -> &[Carried]
-        ensures { result.now ≡ self.now.cell.printed }
-    {
-        self.cell.printed()
     }
 
     /// Copies what its cell kept. Fails only if memory was refused.

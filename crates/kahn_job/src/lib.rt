@@ -4,17 +4,13 @@
 mod feed;
 mod handing;
 mod idle;
-mod opening;
 mod port;
 mod ports;
 mod settling;
-mod standing;
 mod task;
 
 // For the crates above.
-pub use handing::{seat, unseat};
+pub use handing::{jobs_at, seat, unseat};
 pub use idle::Idle;
-pub use opening::jobs_at;
 pub use settling::{meet, settle};
-pub use standing::TaskStanding;
-pub use task::Task;
+pub use task::{Task, TaskStanding};

@@ -2,7 +2,7 @@
 //! flushed.
 
 ghost use Rattle.std.specs.Prelude.{◌≡◌, ◌<◌};
-ghost use Rattle.kahn_job.specs.{inner.Words.ℕ, inner.Words.length, inner.Words.OnOk, inner.Words.network_of, inner.Words.Lists, inner.Ends.IsBehind, inner.Ends.MayMeet, inner.Idles.HaveMet, inner.Idles.HaveSettled, inner.Idles.cells_of, inner.Idles.rows_of, inner.Berths.AreBehindOn, inner.Berths.HasPlace, inner.Berths.end_of_side, inner.Settling.GoesOrStays, inner.Settling.AreResting, inner.Settling.AreSettled, inner.Settling.CanFeed, inner.Settling.CanSettle, inner.Settling.HasExchanged, inner.Settling.HaveExchanged, inner.Settling.HaveStood};
+ghost use Rattle.kahn_job.specs.{inner.Words.ℕ, inner.Words.length, inner.Words.OnOk, inner.Words.network_of, inner.Words.Lists, inner.Idles.HaveMet, inner.Idles.HaveSettled, inner.Idles.cells_of, inner.Idles.rows_of, inner.Berths.AreBehindOn, inner.Berths.HasPlace, inner.Berths.end_of_side, inner.Settling.GoesOrStays, inner.Settling.AreResting, inner.Settling.AreSettled, inner.Settling.CanFeed, inner.Settling.CanSettle, inner.Settling.HasExchanged, inner.Settling.HaveExchanged, inner.Settling.HaveStood};
 
 use crate::handing::{exchange, exchange_two};
 use crate::idle::Idle;
@@ -90,25 +90,6 @@ pub fn settle(network: &Network, input: &Input, idles: &mut Vec<Idle>) -> Result
     Ok(())
 }
 
-// Lets the two ends of a lane meet.
-fn meet_sides(idles: &mut Vec<Idle>, writer: Side, reader: Side)
-    requires places { HasPlace (rows_of idles.old.items) writer × HasPlace (rows_of idles.old.items) reader }
-    requires apart { writer ≡ reader → ⊥ }
-    requires lane { MayMeet (end_of_side (rows_of idles.old.items) writer) (end_of_side (rows_of idles.old.items) reader) }
-    ensures met { HaveMet idles.old.items idles.new.items }
-    ensures behind { IsBehind (end_of_side (rows_of idles.old.items) writer) (end_of_side (rows_of idles.old.items) reader) }
-{
-    let (sender, receiver) = exchange_two(
-        idles,
-        writer,
-        TaskPort::nothing(),
-        reader,
-        TaskPort::nothing(),
-    );
-    let (sender, receiver) = sender.meet(receiver);
-    let _none = exchange_two(idles, writer, sender, reader, receiver);
-}
-
 // Lets the two ends of a channel meet, if it has two.
 fn meet_on(network: &Network, idles: &mut Vec<Idle>, channel: usize)
     requires here { channel < length (network_of network.now).channels }
@@ -119,7 +100,15 @@ fn meet_on(network: &Network, idles: &mut Vec<Idle>, channel: usize)
     let _program = network.program();
     if let Some(writer) = network.writer(channel) {
         if let Some(reader) = network.reader(channel) {
-            meet_sides(idles, writer, reader);
+            let (sender, receiver) = exchange_two(
+                idles,
+                writer,
+                TaskPort::nothing(),
+                reader,
+                TaskPort::nothing(),
+            );
+            let (sender, receiver) = sender.meet(receiver);
+            let _none = exchange_two(idles, writer, sender, reader, receiver);
         }
     }
 }

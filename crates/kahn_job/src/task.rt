@@ -1,18 +1,44 @@
 //! A task: a job as workers pass it on, with what they have to know of it.
 
 ghost use Rattle.std.specs.Prelude.{◌≡◌, ◌+◌, ◌*◌, ◌^◌, ◌<◌, ◌≤◌};
-ghost use Rattle.kahn_job.specs.inner.Words.{length, slice_set, OnOk, network_of, instance_at, site_code, count, AreCounts, WantsRoom, site_of};
+ghost use Rattle.kahn_job.specs.inner.Words.{length, slice_set, OnOk, site_code, count, AreCounts, WantsRoom, site_of};
 ghost use Rattle.kahn_code.specs.declared.progress.Pause.TheVariants.{NoMemory as IsRefused};
 ghost use Rattle.kahn_job.specs.{inner.Ends.HasRoom, inner.Berths.HaveFlushed, inner.Berths.IsWithinInput, inner.Berths.end_at, inner.Idles.CanGoOn, inner.Tasks.Continues, inner.Tasks.IsTrueOf, inner.Tasks.standing_after, inner.Tasks.woken_task, inner.Works.HasPaused, inner.Works.IsDelivered, inner.Works.IsJob, inner.Works.width_of};
 
 use crate::idle::Idle;
 use crate::port::TaskPort;
 use crate::ports::{Ends, flush_all};
-use crate::standing::TaskStanding;
 use kahn_code::{Cell, Code, Pause, Steps};
-use kahn_streams::{Input, Network, NoMemory};
+use kahn_streams::{Failure, Input, Network, NoMemory};
 use std::marker::Model;
 use std::sync::ledger::Ledger;
+
+/// Where a process stood when it was last run, as far as more runs can't change it.
+#[derive(Clone, Copy, Debug, PartialEq, Eq)]
+pub enum TaskStanding {
+    /// It may go on, as far as is known.
+    Going,
+    /// It has ended.
+    Ended,
+    /// It has faulted.
+    Faulted(Failure),
+    /// It waits on this parameter, and has taken all that it found there.
+    Dry(usize),
+}
+
+impl TaskStanding {
+    /// Returns the standing after a pause.
+    pub fn after(pause: Pause) -> TaskStanding
+        ensures { result ≡ standing_after pause }
+    {
+        match pause {
+            Pause::Spent | Pause::NoMemory => TaskStanding::Going,
+            Pause::Ended => TaskStanding::Ended,
+            Pause::Fault(failure) => TaskStanding::Faulted(failure),
+            Pause::Dry(parameter) => TaskStanding::Dry(parameter),
+        }
+    }
+}
 
 /// A cell and the ends of its channels, which go from worker to worker together, with where its process stood when it was last
 /// run, and by parameter how many of the tokens that it sent are published. Code, network and input are lent to it when it runs.
@@ -40,18 +66,6 @@ impl Model for Task {
     ghost invariant = { λ t. IsTask t.instance (record { cell = t.cell; ends = t.ports.items }) t.standing t.published.items };
 }
 
-// Writes how many tokens a cell sent on each of its parameters into a list of that length.
-fn sent_into(cell: &Cell, mut numbers: Vec<u64>) -> Vec<u64>
-    requires { length numbers.items ≡ length (instance_at (network_of cell.now.network) cell.now.instance).actuals }
-    ensures { result.items ≡ cell.now.sent }
-{
-    cell.sized();
-    for parameter in 0..numbers.len() {
-        numbers[parameter] = cell.sent(parameter);
-    }
-    numbers
-}
-
 impl Task {
     /// Turns an idle job into a task for an input for which its ends have settled. All that it sent counts as
     /// published. Never allocates.
@@ -60,7 +74,11 @@ impl Task {
         ensures { result ≡ woken_task input.now idle }
     {
         let cell = idle.cell.grown(input);
-        let published = sent_into(&cell, idle.numbers);
+        let mut published = idle.numbers;
+        cell.sized();
+        for parameter in 0..published.len() {
+            published[parameter] = cell.sent(parameter);
+        }
         Task {
             cell,
             instance: idle.instance,

@@ -1,6 +1,5 @@
 //! Why a lane or a relay can't be made.
 
-use kahn_streams::NoMemory;
 use std::alloc::AllocError;
 use thiserror::Error;
 
@@ -14,12 +13,6 @@ pub enum LaneFault {
 
 impl From<AllocError> for LaneFault {
     fn from(_error: AllocError) -> LaneFault {
-        LaneFault::NoMemory
-    }
-}
-
-impl From<NoMemory> for LaneFault {
-    fn from(_error: NoMemory) -> LaneFault {
         LaneFault::NoMemory
     }
 }

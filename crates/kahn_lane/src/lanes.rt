@@ -3,10 +3,10 @@
 //! The writer asks for room, puts a token into its open segment, and flushes the segment when it is full or when the reader
 //! is to see it. The reader steals a segment when its own is used up, and takes its tokens one by one. No call ever blocks.
 
-ghost use Rattle.std.specs.Prelude.{◌≡◌, ◌+◌, ◌≤◌, ◌<◌, ◌^◌, ◌⊎◌, true, false, vec_len, vec_capacity, IfOk, IsOk, OnErr, IsSome, MatchResult, MatchOption, Some};
+ghost use Rattle.std.specs.Prelude.{◌≡◌, ◌+◌, ◌≤◌, ◌<◌, ◌^◌, ◌⊎◌, true, false, vec_len, IfOk, IsOk, OnErr, IsSome, MatchResult, MatchOption, Some};
 ghost use Rattle.crossbeam_deque.specs.Handles.{worker_view, worker_deque, worker_flavor, stealer_deque, stealer_flavor};
-ghost use Rattle.kahn_lane.specs.{Places.lane_name, Places.token_name, Places.tag_name, Places.owner, inner.LaneRule.size, inner.LaneRule.tokens_of};
-ghost use Rattle.kahn_lane.specs.LaneEnds.{sender_lane, receiver_lane, sender_name, receiver_name, filled, flushed, sent, CanPut, received, waiting, CanTake, heard, left, SameSender, SameReceiver, AreEndsNamed, HavePassed, TakesNext, WasDry};
+ghost use Rattle.kahn_lane.specs.Places.{lane_name, token_name, tag_name, owner};
+ghost use Rattle.kahn_lane.specs.LaneEnds.{sender_lane, receiver_lane, sender_name, filled, flushed, sent, CanPut, received, waiting, CanTake, heard, left, SameSender, SameReceiver, AreEndsNamed, HavePassed, TakesNext, WasDry};
 
 use crate::deque::{TRIES, small_deque};
 use crate::fault::LaneFault;
@@ -134,10 +134,8 @@ impl<A: Allocator + Clone + Drop> Sender<A> {
         if self.current.len() < self.current.capacity() {
             return Ok(());
         }
-        match self.current.reserve_exact(SEGMENT - self.current.len()) {
-            Ok(()) => Ok(()),
-            Err(_) => Err(NoMemory),
-        }
+        self.current.reserve_exact(SEGMENT - self.current.len())?;
+        Ok(())
     }
 
     /// Flushes the open segment, so that the reader can take its tokens, and returns how many tokens were flushed so far, which
@@ -162,9 +160,7 @@ impl<A: Allocator + Clone + Drop> Sender<A> {
         ensures flushed { MatchResult result (λ n. (n ≡ sent self.old) × (flushed self.new ≡ sent self.old)) (λ _. flushed self.new ≡ flushed self.old) }
         ensures room { CanPut self.old → CanPut self.new }
     {
-        let Ok(alloc) = self.current.allocator().clone() else {
-            return Err(NoMemory);
-        };
+        let alloc = self.current.allocator().clone()?;
         let segment = Segment {
             tag: None,
             alone: self.current.pop(),
@@ -189,12 +185,8 @@ impl<A: Allocator + Clone + Drop> Sender<A> {
         ensures flushed { MatchResult result (λ n. (n ≡ sent self.old) × (flushed self.new ≡ sent self.old)) (λ _. flushed self.new ≡ flushed self.old) }
         ensures room { CanPut self.old → CanPut self.new }
     {
-        let Ok(alloc) = self.current.allocator().clone() else {
-            return Err(NoMemory);
-        };
-        let Ok(next) = Vec::with_capacity(alloc, SEGMENT) else {
-            return Err(NoMemory);
-        };
+        let alloc = self.current.allocator().clone()?;
+        let next = Vec::with_capacity(alloc, SEGMENT)?;
         let count = self.current.len() as u64;
         let tokens = mem::replace(&mut self.current, next);
         match self.worker.push_as::<Flushed>(Segment {
@@ -238,27 +230,6 @@ impl<A: Allocator> Sender<A> {
         ensures { result ≡ flushed self.now }
     {
         self.flushed
-    }
-}
-
-// Replaces the tokens of the list by those of the segment.
-fn fill<A: Allocator + Drop>(current: &mut Vec<Carried, A>, segment: Segment<A>)
-    requires room { 1 ≤ vec_capacity current.old }
-    requires some { 0 < size segment }
-    ensures tokens { current.new.items ≡ tokens_of segment }
-    ensures room { 1 ≤ vec_capacity current.new }
-{
-    let Segment {
-        tag: _,
-        alone,
-        tokens,
-    } = segment;
-    match alone {
-        None => *current = tokens,
-        Some(token) => {
-            current.clear();
-            current.push_reserved(token);
-        }
     }
 }
 
@@ -326,9 +297,20 @@ impl<A: Allocator + Drop> Receiver<A> {
             tries.tick();
             match self.stealer.steal_as::<Stolen>(&mut self.pass) {
                 Steal::Success(segment) => {
+                    let Segment {
+                        tag: _,
+                        alone,
+                        tokens,
+                    } = segment;
                     self.from = taken;
-                    fill(&mut self.current, segment);
                     self.used = 0;
+                    match alone {
+                        None => self.current = tokens,
+                        Some(token) => {
+                            self.current.clear();
+                            self.current.push_reserved(token);
+                        }
+                    }
                     return true;
                 }
                 Steal::Empty => return false,

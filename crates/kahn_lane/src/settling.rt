@@ -7,7 +7,7 @@
 ghost use Rattle.std.specs.Prelude.{◌≡◌, ◌+◌, ◌-◌, ◌≤◌, ◌<◌, [], Some, IfOk, IfErr, ℕ, length, vec_len, vec_capacity};
 ghost use Rattle.crossbeam_deque.specs.Handles.{worker_view, worker_flavor};
 ghost use Rattle.kahn_lane.specs.{Places.StandFrom, Places.moved_to, Places.tag_name, Places.token_name, inner.LaneRule.size, inner.LaneRule.tokens_of, inner.Settles.HasBothRights, inner.Settles.HasStolen, inner.Settles.IsGrown, inner.Settles.LiftsTo, inner.Settles.SameLifted, declared.name.LaneName.LaneName};
-ghost use Rattle.kahn_lane.specs.LaneEnds.{sender_lane, receiver_lane, sender_name, receiver_name, flushed, sent, received, waiting, CanTake, heard, AreEndsNamed, HavePassed};
+ghost use Rattle.kahn_lane.specs.LaneEnds.{sender_lane, receiver_lane, sender_name, flushed, sent, received, CanTake, heard, AreEndsNamed, HavePassed};
 
 use crate::fault::LaneFault;
 use crate::lanes::lane_from;
@@ -15,7 +15,7 @@ use crate::lifted::Lifted;
 use crate::name::move_tag;
 use crate::segments::{Behind, Emptied, LaneWorker, Receiver, Segment, Sender, Sides};
 use kahn_streams::{Carried, Input, NoMemory};
-use std::alloc::{Allocator, Global};
+use std::alloc::Allocator;
 
 impl<A: Allocator + Drop> Lifted<A> {
     // Lifts the next token.
@@ -78,26 +78,18 @@ impl<A: Allocator + Drop> Lifted<A> {
     }
 }
 
-// What a settled lane is made of: both ends of a lane that begins where the old one ended, and room for the tokens that
-// weren't taken.
-#[derive(Drop)]
-struct Prepared<A: Allocator = Global> {
-    sender: Sender<A>,
-    receiver: Receiver<A>,
-    tokens: Vec<Carried, A>,
-}
-
-// Allocates all that settling needs.
+// Allocates all that settling needs: both ends of a lane that begins where the old one ended, and room for the tokens that weren't
+// taken.
 fn prepare<A: Allocator + Clone + Drop>(
     sender: &Sender<A>,
     receiver: &Receiver<A>,
     input: &Input,
-) -> Result<Prepared<A>, LaneFault>
-    ensures lane { IfOk result (λ p. sender_lane p.sender ≡ receiver_lane p.receiver) }
-    ensures name { IfOk result (λ p. AreEndsNamed (Some (moved_to input.now (tag_name sender.now.tag))) p.sender p.receiver) }
-    ensures start { IfOk result (λ p. HavePassed (sent sender.now) p.sender p.receiver) }
-    ensures dry { IfOk result (λ p. vec_len p.receiver.current ≡ 0) }
-    ensures room { IfOk result (λ p. (p.tokens.items ≡ []) × (1 ≤ vec_capacity p.tokens) × (sent sender.now ≤ received receiver.now + vec_capacity p.tokens)) }
+) -> Result<(Sender<A>, Receiver<A>, Vec<Carried, A>), LaneFault>
+    ensures lane { IfOk result (λ p. sender_lane p.0 ≡ receiver_lane p.1) }
+    ensures name { IfOk result (λ p. AreEndsNamed (Some (moved_to input.now (tag_name sender.now.tag))) p.0 p.1) }
+    ensures start { IfOk result (λ p. HavePassed (sent sender.now) p.0 p.1) }
+    ensures dry { IfOk result (λ p. vec_len p.1.current ≡ 0) }
+    ensures room { IfOk result (λ p. (p.2.items ≡ []) × (1 ≤ vec_capacity p.2) × (sent sender.now ≤ received receiver.now + vec_capacity p.2)) }
 {
     let end = sender.sent();
     let count = end.saturating_sub(receiver.taken()) as usize;
@@ -105,11 +97,7 @@ fn prepare<A: Allocator + Clone + Drop>(
     let head = move_tag(&sender.tag, input, end);
     let tag = move_tag(&sender.tag, input, end);
     let (sender, receiver) = lane_from(sender.current.allocator().clone()?, head, tag)?;
-    Ok(Prepared {
-        sender,
-        receiver,
-        tokens,
-    })
+    Ok((sender, receiver, tokens))
 }
 
 // Collects the tokens of a lane that weren't taken, lifted to the input.
@@ -127,64 +115,20 @@ fn gather<A: Allocator + Clone + Drop>(
     ensures all { received receiver + vec_len result ≡ sent sender }
     ensures room { vec_capacity result ≡ vec_capacity tokens }
 {
-    let Sender {
-        mut worker,
-        tag,
-        current: last,
-        flushed: _,
-    } = sender;
-    let Receiver {
-        stealer: _,
-        pass,
-        line: _,
-        from,
-        current: first,
-        used,
-    } = receiver;
-    let taken = from + used as u64;
-    worker.absorb::<Sides>(pass);
+    let taken = receiver.taken();
+    let mut worker = sender.worker;
+    worker.absorb::<Sides>(receiver.pass);
     let _segments = worker.len_as::<Behind>();
     let mut lifted = Lifted {
-        to: move_tag(&tag, input, taken),
-        from: tag,
+        to: move_tag(&sender.tag, input, taken),
+        from: sender.tag,
         first: taken,
         tokens,
     };
-    lifted.put_all(input, first.as_slice(), used);
+    lifted.put_all(input, receiver.current.as_slice(), receiver.used);
     lifted.put_rest(input, &mut worker);
-    lifted.put_all(input, last.as_slice(), 0);
+    lifted.put_all(input, sender.current.as_slice(), 0);
     lifted.tokens
-}
-
-// The receiver with these tokens in its hands, which stand before the place where its lane begins.
-fn with_tokens<A: Allocator + Drop>(
-    receiver: Receiver<A>,
-    tokens: Vec<Carried, A>,
-    from: u64,
-) -> Receiver<A>
-    requires dry { vec_len receiver.current ≡ 0 }
-    requires all { from + vec_len tokens ≡ received receiver }
-    requires placed { StandFrom (receiver_name receiver) from tokens.items }
-    requires room { 1 ≤ vec_capacity tokens }
-    ensures same { (receiver_lane result ≡ receiver_lane receiver) × (receiver_name result ≡ receiver_name receiver) × (heard result ≡ heard receiver) }
-    ensures tokens { (received result ≡ from) × (waiting result ≡ vec_len tokens) }
-{
-    let Receiver {
-        stealer,
-        pass,
-        line,
-        from: _,
-        current: _,
-        used: _,
-    } = receiver;
-    Receiver {
-        stealer,
-        pass,
-        line,
-        from,
-        current: tokens,
-        used: 0,
-    }
 }
 
 /// Moves a lane to an input whose lists begin with those of its own: as many tokens were sent and taken, all that were sent are
@@ -202,17 +146,12 @@ pub fn settle<A: Allocator + Clone + Drop>(
     ensures ready { IfOk result (λ r. received receiver < sent sender → CanTake r.1) }
     ensures refused { IfErr result (λ e. (e.1 ≡ sender) × (e.2 ≡ receiver)) }
 {
-    let Ok(
-        Prepared {
-            sender: next,
-            receiver: behind,
-            tokens,
-        },
-    ) = prepare(&sender, &receiver, input)
-    else {
+    let Ok((next, mut behind, tokens)) = prepare(&sender, &receiver, input) else {
         return Err((NoMemory, sender, receiver));
     };
     let taken = receiver.taken();
     let tokens = gather(sender, receiver, input, tokens);
-    Ok((next, with_tokens(behind, tokens, taken)))
+    behind.from = taken;
+    behind.current = tokens;
+    Ok((next, behind))
 }

@@ -11,13 +11,9 @@ parted sign word = (
   if nat_lt (position_or_len (λ b. b == sign) word) (length word) then Some (after_first (λ b. b == sign) word) else None,
 )
 
--- a word that begins as a negative number does (45 is the minus)
-abbrev pub is_negative : Text → Bool
-is_negative word = slice_index word 0 == 45 && is_ascii_digit (slice_index word 1)
-
--- whether a word is `--at-end`, and the one after it begins as a negative number does
+-- whether a word is `--at-end`, and the one after it begins as a negative number does (45 is the minus)
 abbrev pub takes_behind : Text → Text → Bool
-takes_behind word value = bytes_eq word (codes "--at-end") && is_negative value
+takes_behind word value = bytes_eq word (codes "--at-end") && (slice_index value 0 == 45 && is_ascii_digit (slice_index value 1))
 
 -- the words, with such two joined as in `--at-end=-1`
 abbrev pub joined_words : List Text → List Text

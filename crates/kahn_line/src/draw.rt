@@ -9,11 +9,6 @@ use clap::Command;
 use std::alloc::{AllocError, Global};
 use std::convert::AsStr;
 
-static ABOUT: &str = "Draws the network of a program, in the language of Graphviz.";
-
-// How a line goes on behind the name of the program.
-static USAGE: &str = "kahn_draw [PROGRAM] [--input FILE] [OPTIONS]";
-
 // The text after the options in the help.
 static MORE: &str = "\
 A box is an instance, with its number, process and value arguments; a second border means that its process prints. An
@@ -49,7 +44,9 @@ pub struct DrawOptions {
 fn draw_command<'a>(alloc: Global) -> Result<Command<'a>, AllocError>
     ensures { IfOk result (λ c. app_of c ≡ draw_app) }
 {
-    bare(alloc, "kahn_draw", USAGE, ABOUT, MORE)?
+    let usage = "kahn_draw [PROGRAM] [--input FILE] [OPTIONS]";
+    let about = "Draws the network of a program, in the language of Graphviz.";
+    bare(alloc, "kahn_draw", usage, about, MORE)?
         .arg(program_arg(alloc))?
         .arg(input_arg(alloc))?
         .arg(bound_arg(alloc))

@@ -13,11 +13,6 @@ use kahn_streams::Config;
 use std::alloc::{AllocError, Global};
 use std::convert::AsStr;
 
-static ABOUT: &str = "Runs a network of processes, and explains why the run stopped.";
-
-// The usage line.
-static USAGE: &str = "kahn_explain [PROGRAM] [--input FILE] [OPTIONS]";
-
 // The text after the options in the help.
 static MORE: &str = "\
 kahn_explain first says in one line what came of the run. Then it writes each cause once: a deadlock, which is a ring of
@@ -93,23 +88,6 @@ Exit status:
   7  processes are in a deadlock
   8  a process has a fault of arithmetic, whatever else there is";
 
-// What the help says of the options.
-static WORKERS: &str = "As of kahn, 1 to 16; without effect here, where one thread runs";
-
-static TRACE: &str = "Writes all values of all channels, as a CSV table";
-
-static CHANNELS: &str = "Writes how many values each channel carried, as a CSV table";
-
-static CHECK: &str = "Looks at the texts alone, for editors and repositories: nothing is run";
-
-static NEEDS: &str =
-    "Writes what the value at a place of a channel needs; without a place, a CSV table of all";
-
-static WAKES: &str =
-    "Writes which value of each output is the first that needs the value at a place of an input";
-
-static JSON: &str = "As --check, and writes each note as an object of JSON, for editors";
-
 /// What the command line asks for.
 #[derive(Debug, Drop)]
 pub struct ExplainOptions {
@@ -141,20 +119,31 @@ pub struct ExplainOptions {
 fn explain_command<'a>(alloc: Global) -> Result<Command<'a>, AllocError>
     ensures { IfOk result (λ c. app_of c ≡ explain_app) }
 {
-    bare(alloc, "kahn_explain", USAGE, ABOUT, MORE)?
+    let usage = "kahn_explain [PROGRAM] [--input FILE] [OPTIONS]";
+    let about = "Runs a network of processes, and explains why the run stopped.";
+    let workers = "As of kahn, 1 to 16; without effect here, where one thread runs";
+    let trace = "Writes all values of all channels, as a CSV table";
+    let channels = "Writes how many values each channel carried, as a CSV table";
+    let check = "Looks at the texts alone, for editors and repositories: nothing is run";
+    let needs =
+        "Writes what the value at a place of a channel needs; without a place, a CSV table of all";
+    let wakes =
+        "Writes which value of each output is the first that needs the value at a place of an input";
+    let json = "As --check, and writes each note as an object of JSON, for editors";
+    bare(alloc, "kahn_explain", usage, about, MORE)?
         .arg(program_arg(alloc))?
         .arg(input_arg(alloc))?
-        .arg(number_arg(alloc, "workers", 1, 16, "4", WORKERS))?
+        .arg(number_arg(alloc, "workers", 1, 16, "4", workers))?
         .arg(quantum_arg(alloc))?
         .arg(bound_arg(alloc))?
         .arg(flag_arg(alloc, "all", "Tells each process that hasn't ended"))?
         .arg(flag_arg(alloc, "strict", "Refuses a program with a warning"))?
-        .arg(flag_arg(alloc, "trace", TRACE))?
-        .arg(flag_arg(alloc, "channels", CHANNELS))?
-        .arg(flag_arg(alloc, "check", CHECK))?
-        .arg(text_arg(alloc, "needs", "OUT[:PLACE]", NEEDS))?
-        .arg(text_arg(alloc, "wakes", "IN[:PLACE]", WAKES))?
-        .arg(flag_arg(alloc, "json", JSON))
+        .arg(flag_arg(alloc, "trace", trace))?
+        .arg(flag_arg(alloc, "channels", channels))?
+        .arg(flag_arg(alloc, "check", check))?
+        .arg(text_arg(alloc, "needs", "OUT[:PLACE]", needs))?
+        .arg(text_arg(alloc, "wakes", "IN[:PLACE]", wakes))?
+        .arg(flag_arg(alloc, "json", json))
 }
 
 /// Reads the words of a command line, the first of which is the name of the program. Fails with `Refused` if clap

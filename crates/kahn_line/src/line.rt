@@ -16,12 +16,6 @@ use thiserror::Error;
 /// The version of the programs, which `--version` prints after the name of the program. CHANGELOG.md has it as its newest heading.
 static VERSION: &str = "0.9.0";
 
-static ABOUT: &str =
-    "Runs a network of processes that send one another values over channels, and reports what was sent.";
-
-// The usage line.
-static USAGE: &str = "kahn [PROGRAM] [--input FILE] [OPTIONS]";
-
 // The text after the options in the help.
 static MORE: &str = "\
 A program that sends 0, 1 and 2 on its output channel W:
@@ -58,15 +52,6 @@ Exit status:
   4  no memory; a report may be there, with a last line that says so
   5  a file can't be read or isn't UTF-8, or the report can't be written
   6  run refused: the watched channel isn't declared, or no thread could be started";
-
-// What the help says of the options.
-static INPUT: &str =
-    "File of the input text, with lines such as `A: 1 2 3` (an input channel and its values); /dev/stdin is standard input";
-
-static WORKERS: &str = "Threads at most, as many as have work, 1 to 16";
-
-static WATCH: &str =
-    "Reports one more channel besides the output channels; kahn_explain --trace shows all";
 
 /// What the command line asks for.
 #[derive(Debug, Drop)]
@@ -150,7 +135,9 @@ pub(crate) fn input_arg<'a>(alloc: Global) -> Arg<'a>
     ensures rule { rule_of result ≡ text_rule (codes "input") }
     ensures local { result.global ≡ false }
 {
-    text_arg(alloc, "input", "FILE", INPUT)
+    let help =
+        "File of the input text, with lines such as `A: 1 2 3` (an input channel and its values); /dev/stdin is standard input";
+    text_arg(alloc, "input", "FILE", help)
 }
 
 /// Makes the option of the bound on events.
@@ -216,13 +203,19 @@ pub(crate) fn bare<'a>(
 fn command<'a>(alloc: Global) -> Result<Command<'a>, AllocError>
     ensures { IfOk result (λ c. app_of c ≡ kahn_app) }
 {
-    bare(alloc, "kahn", USAGE, ABOUT, MORE)?
+    let usage = "kahn [PROGRAM] [--input FILE] [OPTIONS]";
+    let about =
+        "Runs a network of processes that send one another values over channels, and reports what was sent.";
+    let workers = "Threads at most, as many as have work, 1 to 16";
+    let watch =
+        "Reports one more channel besides the output channels; kahn_explain --trace shows all";
+    bare(alloc, "kahn", usage, about, MORE)?
         .arg(program_arg(alloc))?
         .arg(input_arg(alloc))?
-        .arg(number_arg(alloc, "workers", 1, 16, "4", WORKERS))?
+        .arg(number_arg(alloc, "workers", 1, 16, "4", workers))?
         .arg(quantum_arg(alloc))?
         .arg(bound_arg(alloc))?
-        .arg(text_arg(alloc, "watch", "NAME", WATCH))
+        .arg(text_arg(alloc, "watch", "NAME", watch))
 }
 
 /// Copies a text, if there is one.

@@ -7,17 +7,11 @@ ghost use Rattle.kahn_line.specs.{Line.IsRead, Live.IsLive, Live.at_end_rule, Li
 use crate::line::{
     LineFault, bare, config_of, file_copied, flag_arg, number_arg, quantum_arg, text_arg, was_given,
 };
-use crate::parts::{PlainNames, input_named, joined_words, plain_of, set_lines};
+use crate::parts::{PlainNames, input_named, joined_words, plain_of, set_line};
 use clap::{Arg, ArgAction, ArgMatches, Command};
 use kahn_streams::Config;
 use std::alloc::{AllocError, Global};
 use std::convert::AsStr;
-
-static ABOUT: &str =
-    "Runs a network of processes on the lines of its standard input, and shows after each line what is new.";
-
-// The usage line.
-static USAGE: &str = "kahn_live PROGRAM [--in NAMES] [--out NAMES] [OPTIONS] < LINES";
 
 // The text after the options in the help.
 static MORE: &str = "\
@@ -64,29 +58,6 @@ Exit status:
   7  with --strict: the end was reached, and processes wait on one another in a ring
   8  with --strict: the end was reached, and a process has a fault of arithmetic";
 
-// What the help says of the options.
-static STEP: &str =
-    "Limit of events after each line, 1 to 281474976710655; if one needs more, its answers come late";
-
-static WATCH: &str =
-    "Shows one more channel besides the output channels; with --plain, write --plain INPUT,NAME";
-
-static KEEP_GOING: &str = "Leaves the status 0 even if lines were refused";
-
-static STRICT: &str =
-    "Ends with 8 if a process has a fault of arithmetic, and else with 7 if processes wait on one another";
-
-static AT_END: &str =
-    "Feeds the line `NAME: VALUE` when the input has ended; with --plain, VALUE alone, such as -1; may be repeated";
-
-static IN: &str =
-    "Reads bare values of this input channel alone, or rows with one value for each of these";
-
-static OUT: &str =
-    "Writes bare values of this channel alone, one a line, or rows of these; with --in alone, those of the first stream";
-
-static PLAIN: &str = "Is short for --in INPUT --out OUTPUT";
-
 /// What the command line asks for.
 #[derive(Debug, Drop)]
 pub struct LiveOptions {
@@ -109,28 +80,45 @@ fn at_end_arg<'a>(alloc: Global) -> Arg<'a>
     ensures rule { rule_of result ≡ at_end_rule }
     ensures local { result.global ≡ false }
 {
-    text_arg(alloc, "at-end", "NAME=VALUE", AT_END).action(ArgAction::Append)
+    let help =
+        "Feeds the line `NAME: VALUE` when the input has ended; with --plain, VALUE alone, such as -1; may be repeated";
+    text_arg(alloc, "at-end", "NAME=VALUE", help).action(ArgAction::Append)
 }
 
 /// Returns the rules of the command line.
 fn live_command<'a>(alloc: Global) -> Result<Command<'a>, AllocError>
     ensures { IfOk result (λ c. app_of c ≡ live_app) }
 {
-    bare(alloc, "kahn_live", USAGE, ABOUT, MORE)?
+    let usage = "kahn_live PROGRAM [--in NAMES] [--out NAMES] [OPTIONS] < LINES";
+    let about =
+        "Runs a network of processes on the lines of its standard input, and shows after each line what is new.";
+    let step =
+        "Limit of events after each line, 1 to 281474976710655; if one needs more, its answers come late";
+    let watch =
+        "Shows one more channel besides the output channels; with --plain, write --plain INPUT,NAME";
+    let keep_going = "Leaves the status 0 even if lines were refused";
+    let strict =
+        "Ends with 8 if a process has a fault of arithmetic, and else with 7 if processes wait on one another";
+    let inputs =
+        "Reads bare values of this input channel alone, or rows with one value for each of these";
+    let outputs =
+        "Writes bare values of this channel alone, one a line, or rows of these; with --in alone, those of the first stream";
+    let plain = "Is short for --in INPUT --out OUTPUT";
+    bare(alloc, "kahn_live", usage, about, MORE)?
         .arg(
             Arg::new(alloc, "PROGRAM")
                 .required(true)
                 .help("File of the program text"),
         )?
         .arg(quantum_arg(alloc))?
-        .arg(number_arg(alloc, "step", 1, 281_474_976_710_655, "1000000", STEP))?
-        .arg(text_arg(alloc, "watch", "NAME", WATCH))?
-        .arg(flag_arg(alloc, "keep-going", KEEP_GOING))?
-        .arg(flag_arg(alloc, "strict", STRICT))?
+        .arg(number_arg(alloc, "step", 1, 281_474_976_710_655, "1000000", step))?
+        .arg(text_arg(alloc, "watch", "NAME", watch))?
+        .arg(flag_arg(alloc, "keep-going", keep_going))?
+        .arg(flag_arg(alloc, "strict", strict))?
         .arg(at_end_arg(alloc))?
-        .arg(text_arg(alloc, "in", "NAME[,NAME..]", IN))?
-        .arg(text_arg(alloc, "out", "NAME[,NAME..]", OUT))?
-        .arg(text_arg(alloc, "plain", "INPUT[,OUTPUT]", PLAIN))
+        .arg(text_arg(alloc, "in", "NAME[,NAME..]", inputs))?
+        .arg(text_arg(alloc, "out", "NAME[,NAME..]", outputs))?
+        .arg(text_arg(alloc, "plain", "INPUT[,OUTPUT]", plain))
 }
 
 /// Returns the lines that are fed at the end of the input.
@@ -141,10 +129,13 @@ fn lines_at_end(
 ) -> Result<Vec<String>, AllocError>
     ensures { IfOk result (λ lines. map string_bytes lines.items ≡ map (set_line (input_named plain.now)) (found_texts (found_of matches.now) (codes "at-end"))) }
 {
-    match matches.get_strs("at-end") {
-        Some(words) => set_lines(alloc, input_named(plain), words),
-        None => Ok(Vec::new(alloc)),
+    let words = matches.get_strs("at-end").unwrap_or(&[]);
+    let input = input_named(plain);
+    let mut lines = Vec::new(alloc);
+    for word in words {
+        lines.push(set_line(alloc, input, word)?)?;
     }
+    Ok(lines)
 }
 
 /// Reads the words of a command line, the first of which is the name of the program. Fails with `Refused` if clap refuses the

@@ -1,7 +1,7 @@
 //! Words of the command line that have two parts.
 
 ghost use Rattle.std.specs.Prelude.{◌≡◌, ◌<◌, ◌≤◌, ◌∷◌, ◌++◌, IfOk, Some, length, map, option_copied, option_map, string_bytes};
-ghost use Rattle.kahn_line.specs.Parts.{IsJoinedBy, columns_given, input_named, is_negative, joined_words, lent, parted, plain_parts, set_line, takes_behind};
+ghost use Rattle.kahn_line.specs.Parts.{IsJoinedBy, columns_given, input_named, joined_words, lent, parted, plain_parts, set_line, takes_behind};
 
 use crate::line::copied;
 use std::alloc::{AllocError, Global};
@@ -28,21 +28,11 @@ pub fn parted(word: &str, sign: char) -> (&str, Option<&str>)
     }
 }
 
-/// Whether a word begins as a negative number does.
-fn is_negative(word: &str) -> bool
-    ensures { result ≡ is_negative word.now }
-{
-    match word.as_bytes() {
-        [b'-', digit, ..] => digit.is_ascii_digit(),
-        _ => false,
-    }
-}
-
 /// Whether a word is `--at-end`, and the one after it begins as a negative number does.
 fn takes_behind(word: &str, value: &str) -> bool
     ensures { result ≡ takes_behind word.now value.now }
 {
-    word == "--at-end" && is_negative(value)
+    word == "--at-end" && matches!(value.as_bytes(), [b'-', digit, ..] if digit.is_ascii_digit())
 }
 
 /// Joins a word and its value, with a sign between.
@@ -91,7 +81,7 @@ pub(crate) fn joined_words<S: AsStr>(alloc: Global, words: &[S]) -> Result<Vec<S
 
 /// Returns the line for a word `NAME=VALUE`, `NAME: VALUE`. A word without `=` is values of the input channel whose values
 /// stand alone, if they do, and else the line itself.
-fn set_line(alloc: Global, input: Option<&str>, word: &str) -> Result<String, AllocError>
+pub(crate) fn set_line(alloc: Global, input: Option<&str>, word: &str) -> Result<String, AllocError>
     ensures { IfOk result (λ line. string_bytes line ≡ set_line (option_copied input.entry) word.now) }
 {
     let (name, value) = parted(word, '=');
@@ -100,21 +90,6 @@ fn set_line(alloc: Global, input: Option<&str>, word: &str) -> Result<String, Al
         (None, Some(input)) => joined(alloc, input, ": ", name),
         (None, None) => String::from_str(alloc, name),
     }
-}
-
-/// Returns the lines for words.
-pub(crate) fn set_lines(
-    alloc: Global,
-    input: Option<&str>,
-    words: &[&str],
-) -> Result<Vec<String>, AllocError>
-    ensures { IfOk result (λ lines. map string_bytes lines.items ≡ map (λ w. set_line (option_copied input.entry) w.now) words.now) }
-{
-    let mut lines = Vec::new(alloc);
-    for word in words {
-        lines.push(set_line(alloc, input, word)?)?;
-    }
-    Ok(lines)
 }
 
 /// Returns the name of the channel whose values stand alone in the lines of input, if they do.
@@ -137,17 +112,6 @@ fn named(alloc: Global, input: &str, output: Option<&str>) -> Result<Option<Plai
     }))
 }
 
-/// Returns the channels that a word `IN,OUT` or `IN` names, if there is one.
-fn short_plain(alloc: Global, word: Option<&str>) -> Result<Option<PlainNames>, AllocError>
-    ensures { IfOk result (λ p. option_map plain_parts p ≡ option_map (parted 44) (option_map (λ t. t.now) word.entry)) }
-{
-    let Some(word) = word else {
-        return Ok(None);
-    };
-    let (input, output) = parted(word, ',');
-    named(alloc, input, output)
-}
-
 /// Returns the channels that the words of `--in` and `--out` name, if one of them is there, and else those of the short form.
 pub(crate) fn plain_of(
     alloc: Global,
@@ -157,9 +121,13 @@ pub(crate) fn plain_of(
 ) -> Result<Option<PlainNames>, AllocError>
     ensures { IfOk result (λ p. option_map plain_parts p ≡ columns_given (lent inputs.entry) (lent outputs.entry) (lent word.entry)) }
 {
-    match (inputs, outputs) {
-        (None, None) => short_plain(alloc, word),
-        (Some(inputs), outputs) => named(alloc, inputs, outputs),
-        (None, Some(outputs)) => named(alloc, "", Some(outputs)),
+    match (inputs, outputs, word) {
+        (Some(inputs), outputs, _) => named(alloc, inputs, outputs),
+        (None, Some(outputs), _) => named(alloc, "", Some(outputs)),
+        (None, None, Some(word)) => {
+            let (input, output) = parted(word, ',');
+            named(alloc, input, output)
+        }
+        (None, None, None) => Ok(None),
     }
 }

@@ -9,18 +9,12 @@ use clap::error::ErrorKind as LineKind;
 use std::fmt::Write;
 use std::io::{Error, ErrorKind};
 
-/// The status of a command line that is refused.
-const REFUSED: u8 = 2;
-
-/// The status if memory was refused.
-const NO_MEMORY: u8 = 4;
-
 /// Reports on standard error that memory was refused, and returns the status, 4.
 pub fn tell_no_memory(rt: &impl Eprint) -> u8
     ensures { result ≡ 4 }
 {
     let _ = eprintln!(rt; "kahn: no memory");
-    NO_MEMORY
+    4
 }
 
 /// Returns the programs that have an option, by the text of a refusal that begins with the option.
@@ -58,15 +52,6 @@ fn tell_unexpected(rt: &impl Eprint, text: &str) {
     }
 }
 
-/// Reports why the words are refused, or writes the help or the version if they ask for it.
-fn tell_refused(rt: &(impl Print + Eprint + AllocGlobal), error: &clap::Error) {
-    let mut text = String::new(rt.alloc());
-    if error.kind() == LineKind::UnknownArgument && write!(text, "{error}").is_ok() {
-        return tell_unexpected(rt, text.as_str());
-    }
-    let _ = error.print(rt);
-}
-
 /// Reports why a command line asks for no run, and returns the status: 0 if it asks for the help or the version, which
 /// goes to standard output, 2 if it is refused, and 4 if memory was.
 pub fn tell_line(rt: &(impl Print + Eprint + AllocGlobal), fault: &LineFault) -> u8
@@ -75,10 +60,15 @@ pub fn tell_line(rt: &(impl Print + Eprint + AllocGlobal), fault: &LineFault) ->
     match fault {
         LineFault::NoMemory => tell_no_memory(rt),
         LineFault::Refused(error) => {
-            tell_refused(rt, error);
+            let mut text = String::new(rt.alloc());
+            if error.kind() == LineKind::UnknownArgument && write!(text, "{error}").is_ok() {
+                tell_unexpected(rt, text.as_str());
+            } else {
+                let _ = error.print(rt);
+            }
             match error.kind() {
                 LineKind::DisplayHelp | LineKind::DisplayVersion => 0,
-                _ => REFUSED,
+                _ => 2,
             }
         }
     }
@@ -94,5 +84,5 @@ pub fn tell_words(rt: &impl Eprint, error: &Error) -> u8
         return tell_no_memory(rt);
     }
     let _ = eprintln!(rt; "error: a word of the command line is not UTF-8");
-    REFUSED
+    2
 }

@@ -1,4 +1,3 @@
 mod Fronts
-pub mod Joined
 mod Rows
 pub mod Common

@@ -8,22 +8,13 @@ use std::alloc::{AllocError, Global};
 
 /// Whether a byte is a letter, a digit or `_`.
 fn is_of_word(byte: Option<u8>) -> bool {
-    match byte {
-        Some(byte) => byte.is_ascii_alphanumeric() || byte == b'_',
-        None => false,
-    }
-}
-
-/// The byte before a place.
-fn byte_before(text: &[u8], at: usize) -> Option<u8> {
-    text.get(at.checked_sub(1)?).copied()
+    matches!(byte, Some(b'a'..=b'z' | b'A'..=b'Z' | b'0'..=b'9' | b'_'))
 }
 
 /// Whether a blank stands before what is put there: between two words, and before what is put in, if it is no bracket and ends nothing.
-fn is_apart(before: Option<u8>, put: &[u8], is_insertion: bool) -> bool {
-    let first = put.first().copied();
-    let stands_apart = !matches!(put, b";" | b"," | b")" | b"(") && before != Some(b' ');
-    (is_of_word(before) && is_of_word(first)) || (is_insertion && stands_apart && before.is_some())
+fn is_apart(before: Option<u8>, put: &str, is_insertion: bool) -> bool {
+    let is_free = !matches!(put, ";" | "," | ")" | "(") && !matches!(before, None | Some(b' '));
+    is_insertion && is_free || is_of_word(before) && is_of_word(put.as_bytes().first().copied())
 }
 
 /// A blank, or none.
@@ -38,15 +29,10 @@ pub fn padded(alloc: Global, text: &str, fix: &Fix) -> Result<String, AllocError
     ensures { IfOk result (λ put. IsPadded (string_bytes fix.now.put) (string_bytes put)) }
 {
     let (bytes, put) = (text.as_bytes(), fix.put.as_str());
-    let before = byte_before(bytes, fix.span.from);
+    let before = bytes.get(fix.span.from.wrapping_sub(1)).copied();
     let behind = bytes.get(fix.span.to).copied();
-    let last = if put.is_empty() {
-        before
-    } else {
-        put.as_bytes().last().copied()
-    };
-    let is_insertion = fix.span.from == fix.span.to;
-    let front = gap(is_apart(before, put.as_bytes(), is_insertion));
+    let last = put.as_bytes().last().copied().or(before);
+    let front = gap(is_apart(before, put, fix.span.from == fix.span.to));
     let back = gap(is_of_word(last) && is_of_word(behind));
     let mut all = String::new(alloc);
     all.push_str(front)?;

@@ -1,7 +1,7 @@
 //! How the characters of a source line are shown, and what stands below them.
 
 ghost use Rattle.std.specs.Prelude.{◌≡◌, ◌++◌, IfOk, string_bytes};
-ghost use Rattle.kahn_marks.specs.{Marks.columns, Marks.is_format, Marks.is_kept_back, Marks.is_near, Marks.piece_of, Marks.shown_row, Marks.shown_character};
+ghost use Rattle.kahn_marks.specs.{Marks.columns, Marks.is_kept_back, Marks.piece_of, Marks.shown_row, Marks.shown_character};
 
 use crate::pieces::add_repeated;
 use std::alloc::AllocError;
@@ -21,28 +21,16 @@ pub(crate) enum Row {
     Carets,
 }
 
-/// Whether a character that begins at a byte is shown, where the part begins at another.
-fn is_near(from: usize, at: usize) -> bool
-    ensures { result ≡ is_near from at }
-{
-    from.saturating_sub(NEAR) <= at && at.saturating_sub(from) < NEAR
-}
-
-/// Whether a format character changes how or in which order those beside it are shown, or takes no place.
-fn is_format(character: char) -> bool
-    ensures { result ≡ is_format character }
-{
-    matches!(
-        character,
-        '\u{061C}' | '\u{200B}'..='\u{200F}' | '\u{2028}'..='\u{202E}' | '\u{2060}'..='\u{206F}' | '\u{FEFF}'
-    )
-}
-
-/// Whether a terminal doesn't get a character as it is.
+/// Whether a terminal doesn't get a character as it is: a control character, or a format character that changes how or in which order
+/// those beside it are shown, or takes no place.
 pub(crate) fn is_kept_back(character: char) -> bool
     ensures { result ≡ is_kept_back character }
 {
-    character.is_control() || is_format(character)
+    let is_format = matches!(
+        character,
+        '\u{061C}' | '\u{200B}'..='\u{200F}' | '\u{2028}'..='\u{202E}' | '\u{2060}'..='\u{206F}' | '\u{FEFF}'
+    );
+    character.is_control() || is_format
 }
 
 /// The columns that a character takes as it is shown.
@@ -83,7 +71,8 @@ fn add_piece(
 ) -> Result<(), AllocError>
     ensures { IfOk result (λ _. string_bytes text.new ≡ string_bytes text.old ++ piece_of row from bytes at character) }
 {
-    if !is_near(from, at) {
+    let is_near = from.saturating_sub(NEAR) <= at && at.saturating_sub(from) < NEAR;
+    if !is_near {
         return Ok(());
     }
     match row {

@@ -1,7 +1,7 @@
 //! A note as data, and how it is written.
 
-ghost use Rattle.std.specs.Prelude.{◌≡◌, ◌++◌, IfOk, flat_map, string_bytes};
-ghost use Rattle.kahn_marks.specs.{Notes.IsFixShown, Notes.IsRendered, Notes.below_text, Notes.line_below, Notes.other_text, Notes.sort_words};
+ghost use Rattle.std.specs.Prelude.{◌≡◌, ◌++◌, IfOk, string_bytes};
+ghost use Rattle.kahn_marks.specs.{Notes.IsFixShown, Notes.IsRendered, Notes.line_below, Notes.sort_words};
 
 use crate::note::add_marked;
 use crate::pieces::{add, add_repeated};
@@ -88,10 +88,7 @@ fn sort_words(sort: Sort) -> &'static str
 
 /// What stands in a part of a text; nothing where no characters begin and end there.
 pub fn part_of(text: &str, span: Span) -> &str {
-    match text.get(span.from..span.to) {
-        Some(part) => part,
-        None => "",
-    }
+    text.get(span.from..span.to).unwrap_or("")
 }
 
 /// Adds a change, in one of four forms.
@@ -112,16 +109,6 @@ fn add_change(words: &mut String, text: &str, fix: &Fix) -> Result<(), AllocErro
     add(words, &["insert `", put, side, beside, "`"])
 }
 
-/// A change in words, with its place, if that isn't where the note is.
-fn fix_words(alloc: Global, text: &str, span: Span, fix: &Fix) -> Result<String, AllocError> {
-    let mut words = String::from_str(alloc, "fix: ")?;
-    add_change(&mut words, text, fix)?;
-    if fix.span.from != span.from {
-        add_spot(&mut words, " at ", text, fix.span.from)?;
-    }
-    Ok(words)
-}
-
 /// Adds a line below the carets under a part.
 fn add_remark(lines: &mut String, text: &str, span: Span, words: &str) -> Result<(), AllocError>
     ensures { IfOk result (λ _. string_bytes lines.new ≡ string_bytes lines.old ++ line_below text.now span words.now) }
@@ -136,50 +123,19 @@ fn add_remark(lines: &mut String, text: &str, span: Span, words: &str) -> Result
     lines.push_str("\n")
 }
 
-/// Adds the line of a change, where there is one.
-fn add_fix(
-    lines: &mut String,
-    alloc: Global,
-    text: &str,
-    span: Span,
-    fix: &Option<Fix>,
-) -> Result<(), AllocError>
-    ensures { IfOk result (λ _. IsFixShown text.now span fix.now (string_bytes lines.old) (string_bytes lines.new)) }
+/// Adds the line of the change, where there is one: with its place, if that isn't where the note is.
+fn add_fix(lines: &mut String, alloc: Global, text: &str, note: &Note) -> Result<(), AllocError>
+    ensures { IfOk result (λ _. IsFixShown text.now note.now.span note.now.fix (string_bytes lines.old) (string_bytes lines.new)) }
 {
-    match fix {
-        Some(fix) => {
-            let words = fix_words(alloc, text, span, fix)?;
-            add_remark(lines, text, span, words.as_str())
-        }
-        None => Ok(()),
+    let Some(fix) = &note.fix else {
+        return Ok(());
+    };
+    let mut words = String::from_str(alloc, "fix: ")?;
+    add_change(&mut words, text, fix)?;
+    if fix.span.from != note.span.from {
+        add_spot(&mut words, " at ", text, fix.span.from)?;
     }
-}
-
-/// Adds sentences, a line each.
-fn add_below(lines: &mut String, text: &str, span: Span, below: &[String]) -> Result<(), AllocError>
-    ensures { IfOk result (λ _. string_bytes lines.new ≡ string_bytes lines.old ++ flat_map (below_text text.now span) below.now) }
-{
-    for sentence in below {
-        add_remark(lines, text, span, sentence.as_str())?;
-    }
-    Ok(())
-}
-
-/// Adds other places, with the words on each.
-fn add_others(
-    lines: &mut String,
-    alloc: Global,
-    path: &str,
-    text: &str,
-    others: &[Other],
-) -> Result<(), AllocError>
-    ensures { IfOk result (λ _. string_bytes lines.new ≡ string_bytes lines.old ++ flat_map (other_text path.now text.now) others.now) }
-{
-    for other in others {
-        let words = other.words.as_str();
-        add_marked(lines, alloc, "note", path, text, other.span, words)?;
-    }
-    Ok(())
+    add_remark(lines, text, note.span, words.as_str())
 }
 
 /// A note on the text of a file, as lines: `PATH:LINE:COLUMN: error: WORDS`, the source line with carets, the change that mends it and
@@ -190,8 +146,13 @@ pub fn render(alloc: Global, path: &str, text: &str, note: &Note) -> Result<Stri
     let (sort, words) = (sort_words(note.sort), note.words.as_str());
     let mut lines = String::new(alloc);
     add_marked(&mut lines, alloc, sort, path, text, note.span, words)?;
-    add_fix(&mut lines, alloc, text, note.span, &note.fix)?;
-    add_below(&mut lines, text, note.span, &note.below)?;
-    add_others(&mut lines, alloc, path, text, &note.others)?;
+    add_fix(&mut lines, alloc, text, note)?;
+    for sentence in &note.below {
+        add_remark(&mut lines, text, note.span, sentence.as_str())?;
+    }
+    for other in &note.others {
+        let words = other.words.as_str();
+        add_marked(&mut lines, alloc, "note", path, text, other.span, words)?;
+    }
     Ok(lines)
 }

@@ -1,7 +1,7 @@
 //! The processes of a network over its plain queues, run by single events.
 
 ghost use Rattle.std.specs.Prelude.{◌≡◌, ◌<◌, ◌+◌, ◌^◌, ℕ, IfOk, IfSome, MatchOption, Some, length, slice_get};
-ghost use Rattle.kahn_streams.specs.{Inputs.Lists, Network.Given, Network.Reads, Network.Written, Network.actual_at, Network.instance_at, Network.network_of, Solution.source, declared.value.Line.TheVariants.Channel, declared.value.Line.TheVariants.Print, declared.token.Token.Token};
+ghost use Rattle.kahn_streams.specs.{Inputs.Lists, Network.Given, Network.Reads, Network.Written, Network.actual_at, Network.instance_at, Network.network_of, Solution.source, declared.value.Line.TheVariants.Channel, declared.token.Token.Token};
 ghost use Rattle.kahn_code.specs.Lines.{taken_of};
 ghost use Rattle.kahn_needs.specs.{Finding.IsNetworkLine, inner.Finding.HasCome, inner.Finding.HasSentSoMany, inner.Finding.HasValue, inner.Finding.watch_of};
 ghost use Rattle.kahn_needs.specs.inner.Bench.{AreCounted, AreUnmoved, HaveNotMoved, HasActed, HaveSeats, AreSeatsOf, events_in, events_seen, seats_of, taken_in};
@@ -175,7 +175,7 @@ impl<'n> Bench<'n> {
     {
         match line {
             Line::Channel(channel) => self.sent_on(channel),
-            Line::Print(instance) => self.printed(instance),
+            Line::Print(instance) => self.cells[instance].printed().len() as u64,
         }
     }
 
@@ -194,14 +194,6 @@ impl<'n> Bench<'n> {
         }
     }
 
-    // How many values an instance printed.
-    fn printed(&self, instance: usize) -> u64
-        requires { instance < length (network_of self.now.network).instances }
-        ensures { HasSentSoMany self.now (Print instance) result }
-    {
-        self.cells[instance].printed().len() as u64
-    }
-
     /// The number of channels.
     pub(crate) fn channels(&self) -> usize
         ensures { result ≡ length (network_of self.now.network).channels }
@@ -217,7 +209,7 @@ impl<'n> Bench<'n> {
     {
         match line {
             Line::Channel(channel) => self.value_on(channel, place),
-            Line::Print(instance) => self.value_printed(instance, place),
+            Line::Print(instance) => value_at(self.cells[instance].printed(), place),
         }
     }
 
@@ -236,14 +228,6 @@ impl<'n> Bench<'n> {
             }
             None => Value::Integer(0),
         }
-    }
-
-    // The value that an instance printed at a place.
-    fn value_printed(&self, instance: usize, place: u64) -> Value
-        requires { instance < length (network_of self.now.network).instances }
-        ensures { HasCome self.now (Print instance) place → HasValue self.now (Print instance) place result }
-    {
-        value_at(self.cells[instance].printed(), place)
     }
 }
 

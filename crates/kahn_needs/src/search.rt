@@ -196,14 +196,6 @@ fn has_come(bench: &Bench<'_>, demand: Demand) -> bool
     }
 }
 
-// What is left of the bound after a turn.
-fn left_after(turn: Turn, left: u64) -> u64 {
-    match turn {
-        Turn::Acted => left.saturating_sub(1),
-        _ => left,
-    }
-}
-
 /// Processes act until the value of a demand was sent, or it is known that it never is, for as many events as are left. All that they do is
 /// needed.
 pub(crate) fn search<L: Ledger>(
@@ -229,7 +221,9 @@ pub(crate) fn search<L: Ledger>(
             return Sought::Bound;
         }
         let turn = act(bench, root, chain.demand, &mut steps);
-        *left = left_after(turn, *left);
+        if matches!(turn, Turn::Acted) {
+            *left -= 1;
+        }
         chain = match next_chain(bench, root, chain, turn) {
             Ok(next) => next,
             Err(end) => return end,

@@ -12,7 +12,7 @@ pub use Rattle.kahn_code.specs.inner.Tapped.{Tapped}
 pub use Rattle.kahn_crew.proofs.Ended.{all_told}
 pub use Rattle.kahn_crew.proofs.Started.{at_mapped, woken_ready}
 pub use Rattle.kahn_streams.proofs.By_number.{mapped_at}
-pub use Rattle.kahn_crew.specs.declared.{crewing.Crewing.Crewing, closing.CrewFault.CrewFault, closing.CrewFault.TheVariants.NoMemory, closing.CrewFault.TheVariants.NoThread}
+pub use Rattle.kahn_crew.specs.declared.{crewing.Crewing.Crewing, opening.CrewFault.CrewFault, opening.CrewFault.TheVariants.NoMemory, opening.CrewFault.TheVariants.NoThread}
 pub use Rattle.kahn_streams.specs.declared.plan.Plan.{Plan}
 pub use Rattle.kahn_crew.specs.inner.Planned.{IsAsConfigured, IsCrew}
 pub use Rattle.kahn_crew.specs.inner.Left.{AreAll, AreUntouched, HaveGone, IsLack, IsOver, IsQuietTask, task_events}
@@ -20,7 +20,7 @@ pub use Rattle.kahn_crew.specs.inner.Tasks.{AreReadyTasks, handed_to_task, is_ov
 pub use Rattle.kahn_job.proofs.Berthed.{past_none}
 pub use Rattle.kahn_job.proofs.Idles.{all_idle, idle_grown, idle_met, idle_still, row_there, settled_rest, AreJoinedJobs}
 pub use Rattle.kahn_job.proofs.Settles.{same_lanes}
-pub use Rattle.kahn_job.specs.declared.{standing.TaskStanding.TaskStanding}
+pub use Rattle.kahn_job.specs.declared.{task.TaskStanding.TaskStanding}
 pub use Rattle.kahn_job.specs.inner.Berths.{IsWithinInput, Serves, end_at, AreBehindOn, AreJoinedOn, end_in}
 pub use Rattle.kahn_job.specs.inner.Ends.{IsBehind, IsReady, TaskEnd}
 pub use Rattle.kahn_job.specs.inner.Idles.{HaveFewTokens, AreIdle, AreJobsAt, HaveSettled, IsIdle, AreSamePlaces, HaveMet, StandsByQueue, cells_of, rows_of}

@@ -1,6 +1,6 @@
 -- The ends of tasks.
 use Rattle.kahn_pool.proofs.Common.{arith, ◌≡◌, ◌⊎◌, inl, inr, ℕ, suc, ◌<◌, List, [], ◌∷◌, ◌++◌, length, refl, sym, ap, ◌∙◌, subst, Some, None, slice_get, length-append, Program, Side, Reads, Writes, network_of, instance_at, actual_at, IsWriter, IsOnly, IsFed, IsWellWired, side_at, handed_within, reads, writes, Lists, inputs_of, Joins, at_last, joins_parameter, count, Tasked, handed_to_task, AreAll, AreEndsOfTasks, AreTold, IsEndOf, IsToldAs, same_Some, End, got}
-use Rattle.kahn_job.specs.declared.standing.TaskStanding.TheVariants as standing
+use Rattle.kahn_job.specs.declared.task.TaskStanding.TheVariants as standing
 use Rattle.kahn_streams.specs.declared.answer.Outcome.TheVariants as outcome
 
 pub writer_side : (t : Program) (p q c : ℕ) → actual_at (instance_at (network_of t) p) q ≡ Writes c → IsWriter (network_of t) c (side_at p q)

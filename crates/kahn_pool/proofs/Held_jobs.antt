@@ -1,5 +1,7 @@
 -- The jobs of a held run: how they become tasks, and how tasks come to rest.
-use Rattle.kahn_pool.proofs.Common.{false, true, IsOk, arith, ◌≡◌, ℕ, ◌+◌, List, length, map, sum_by, sym, ap, ◌∙◌, subst, Some, slice_get, Bool, Option, Result, Err, length-map, Program, network_of, AreInputsExtended, Lists, inputs_of, StoodBy, CellView, told_view, AreIdle, AreJoinedJobs, HaveMet, cells_of, rows_of, AreJoinedOn, IsJob, Work, all_idle, idle_grown, idle_met, events_told, woken_task, Tasked, AreUntouched, HaveGone, task_events, told_tale, work_of, all_told, at_mapped, mapped_at, IsConcluded, seen_of, AreEnded, AreHeld, AreHeldBy, HasEnded, HasRisen, HasStoppedPart, HaveRisen, cell_alone, cell_for, held_state, cell_of, RunState, Verdict, RunPart, Stopped, IsLack, CrewFault, NoMemory, IsWellWired, HaveChanged, SettlesTo, view_events, seen_events, same_Some, prefix_refl, AllStandBy, End as RunEnd, events_seen, map_map, sum_over, map_changed}
+use Rattle.std.specs.Prelude.{◌↔◌}
+use Rattle.kahn_streams.specs.declared.answer.Verdict.TheVariants as verdict
+use Rattle.kahn_pool.proofs.Common.{false, true, arith, IsVerdict, ◌≡◌, ℕ, ◌+◌, List, length, map, sum_by, sym, ap, ◌∙◌, subst, Some, slice_get, Bool, Option, Result, Err, length-map, Program, network_of, AreInputsExtended, Lists, inputs_of, StoodBy, CellView, told_view, AreIdle, AreJoinedJobs, HaveMet, cells_of, rows_of, AreJoinedOn, IsJob, Work, all_idle, idle_grown, idle_met, events_told, woken_task, Tasked, AreUntouched, HaveGone, task_events, told_tale, work_of, all_told, at_mapped, mapped_at, IsConcluded, seen_of, AreEnded, AreHeld, AreHeldBy, HasEnded, HasRisen, HasStoppedPart, HaveRisen, cell_alone, cell_for, held_state, cell_of, RunState, Verdict, RunPart, Stopped, IsLack, CrewFault, NoMemory, IsWellWired, HaveChanged, SettlesTo, view_events, seen_events, same_Some, prefix_refl, AllStandBy, End as RunEnd, events_seen, map_map, sum_over, map_changed}
 use Rattle.kahn_pool.proofs.Over as over
 use Rattle.kahn_pool.proofs.Rests as rests
 use Rattle.kahn_pool.proofs.Rests.{state_of_tasks}
@@ -128,15 +130,11 @@ module _ {t : Program} {lists : Lists} {watch : Option ℕ} {bound : ℕ} {ws : 
 
 -- ---- how a part stopped
 
--- it ended, with these jobs
-pub ended_so : (part : RunPart) (old : List Work) (r : Stopped) → AreHeldBy part r.idles.items r.budget →
-    HasEnded part.network.now part.input.now part.crew.watch part.crew.workers part.bound r → IsOk r.outcome → HaveRisen (cells_of old) (cells_of r.idles.items) → HasStoppedPart part old r
-ended_so part old r held ended one risen = record {
-  held = held;
-  risen = risen;
-  outcome = ended;
-  untouched = λ f. absurd (let g : false ≡ true = subst (λ (o : Result Verdict CrewFault). IsOk o) f one in cc);
-}
+-- the verdict tells of want of memory
+pub memory_is : (halted : Bool) (ends : List RunEnd) (v : Verdict) → IsVerdict halted ends v → v ≡ verdict.Memory ↔ halted ≡ true
+memory_is halted ends verdict.Memory r = ((λ e. r), λ h. refl)
+memory_is halted ends verdict.Finished r = ((λ e. absurd cc), λ h. let no : false ≡ true = sym r.0 ∙ h in absurd cc)
+memory_is halted ends verdict.Bound r = ((λ e. absurd cc), λ h. let no : false ≡ true = sym r.0 ∙ h in absurd cc)
 
 -- it was refused, with the jobs as they are
 pub refused_so : (part : RunPart) (old : List Work) (r : Stopped) → AreHeldBy part r.idles.items r.budget → HaveRisen (cells_of old) (cells_of r.idles.items) → (fault : CrewFault) →

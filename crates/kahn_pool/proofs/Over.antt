@@ -1,6 +1,6 @@
 -- A run that is over.
 use Rattle.kahn_pool.proofs.Common.{true≢false, arith, ◌≡◌, ◌⊎◌, inl, inr, ℕ, ◌+◌, ◌^◌, ◌<◌, ◌≤◌, Bool, true, List, [], length, map, sum_by, sym, ap, ◌∙◌, subst, Option, Some, slice_get, length-map, Program, network_of, IsWellWired, Lists, count, told_view, end_at, AreBehindOn, AreJoinedOn, end_in, Work, same_lanes, Tasked, handed_to_task, is_over, task_rows, work_of, AreAll, HaveGone, IsQuietTask, IsOver, task_events, AreEndsOfTasks, IsSettledTask, IsToldAs, SettlesTo, cell_of, Verdict, IsVerdict, HasEndIn, view_events, IsConcluded, get_or_from_slice_get, get_or-le-sum_by, HaveChanged, cases_lt, get_or_past, all_events, CellView, End, got, within_get, TaskEnd as LaneEnd, old_item, map_changed, sum_over}
-use Rattle.kahn_job.specs.declared.standing.TaskStanding.TheVariants as standing
+use Rattle.kahn_job.specs.declared.task.TaskStanding.TheVariants as standing
 use Rattle.kahn_streams.specs.declared.answer.Outcome.TheVariants as outcome
 use Rattle.kahn_pool.proofs.Rests as rests
 use Rattle.kahn_pool.proofs.Rests.{AreTasks, IsInstanceTask, state_of_tasks}

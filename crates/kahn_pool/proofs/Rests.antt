@@ -4,7 +4,7 @@ use Rattle.kahn_streams.specs.declared.answer.Outcome.{Outcome}
 use Rattle.kahn_pool.proofs.Ended.{handed_to, one_number}
 use Rattle.kahn_streams.specs.Script as script
 use Rattle.kahn_code.specs.Progress as code
-use Rattle.kahn_job.specs.declared.standing.TaskStanding.TheVariants as standing
+use Rattle.kahn_job.specs.declared.task.TaskStanding.TheVariants as standing
 use Rattle.kahn_streams.specs.declared.answer.Outcome.TheVariants as outcome
 
 -- what stands on an input channel is of its list

@@ -2,7 +2,7 @@
 use Rattle.kahn_pool.proofs.Common.{arith, ◌≡◌, ◌⊎◌, inl, inr, ℕ, ◌+◌, ◌<◌, ◌≤◌, List, length, refl, sym, subst, network_of, Store, inputs_of, Pause, Paused, IsPause, told_view, IsReady, IsWithinInput, end_at, no_end, Work, TaskStanding, Tasked, Continues, IsTrueOf, standing_after, past_none, IsSaid, IsSettledTask, SettlesTo, TaskEnd}
 use Rattle.kahn_streams.specs.Script as script
 use Rattle.kahn_code.specs.declared.progress.Pause.TheVariants as pause
-use Rattle.kahn_job.specs.declared.standing.TaskStanding.TheVariants as standing
+use Rattle.kahn_job.specs.declared.task.TaskStanding.TheVariants as standing
 
 -- ---- input channels
 

@@ -1,7 +1,7 @@
 //! A part of a held run: idle jobs go on, and come to rest again.
 
-ghost use Rattle.std.specs.Prelude.{◌≡◌, ◌↔◌, ◌≤◌, ◌<◌, [], Err, Ok, length, map, true, vec_capacity, IfOk, IsOk};
-ghost use Rattle.kahn_pool.specs.{inner.Below.NoMemory as Refused, inner.Below.HaveSettled, inner.Below.IsAsConfigured, inner.Below.IsOver, inner.Below.cells_of, inner.Below.network_of, inner.Below.rows_of, inner.Holding.AreHeldBy, inner.Holding.HasEnded, inner.Holding.HasStoppedPart, inner.Holding.HaveAllLeft, inner.Holding.IsHeldPart, inner.Holding.IsRoomFor, inner.Holding.cell_for, inner.Rested.cell_of};
+ghost use Rattle.std.specs.Prelude.{◌≡◌, ◌↔◌, ◌≤◌, ◌<◌, [], Err, Ok, length, map, true, vec_capacity, IfErr, IfOk, OnOk};
+ghost use Rattle.kahn_pool.specs.{inner.Below.NoMemory as Refused, inner.Below.CrewFault as Fault, inner.Below.HaveSettled, inner.Below.IsAsConfigured, inner.Below.IsLack, inner.Below.IsOver, inner.Below.cells_of, inner.Below.network_of, inner.Below.rows_of, inner.Holding.AreHeldBy, inner.Holding.HasEnded, inner.Holding.HasStoppedPart, inner.Holding.HaveAllLeft, inner.Holding.IsHeldPart, inner.Holding.IsRoomFor, inner.Holding.cell_for, inner.Rested.cell_of};
 ghost use Rattle.kahn_streams.specs.declared.answer.Verdict.TheVariants as verdict;
 
 use crate::ends::ends_of;
@@ -45,54 +45,48 @@ pub(crate) struct Stopped {
     pub(crate) outcome: Result<Verdict, CrewFault>,
 }
 
-// The jobs, the ends and the verdict of a run that is over: `Memory` exactly if it was halted, and it was halted only if memory
-// was refused to a worker. The lists that are given have room for the jobs and for the ends. Never allocates.
-fn conclude(part: &RunPart<'_>, mut left: Left, idles: Vec<Idle>, ends: Vec<End>) -> Stopped
-    requires left { HaveAllLeft part.now left }
-    requires over { IsOver part.now.network.now part.now.input.now left.tasks.items left.budget left.halted }
-    requires cause { left.halted ≡ true → left.wanted ≡ true }
-    requires idles { (idles.items ≡ []) × (length (network_of part.now.network.now).instances ≤ vec_capacity idles) }
-    requires ends { length (network_of part.now.network.now).instances ≤ vec_capacity ends }
-    ensures held { AreHeldBy part.now result.idles.items result.budget }
-    ensures cells { cells_of result.idles.items ≡ map cell_of left.tasks.items }
-    ensures ended { HasEnded part.now.network.now part.now.input.now part.now.crew.watch part.now.crew.workers part.now.bound result }
-    ensures verdict { result.outcome ≡ Ok verdict.Memory ↔ left.halted ≡ true }
-    ensures is_one { IsOk result.outcome }
-{
-    let _program = part.network.program();
-    settle_all(&mut left.tasks, part);
-    let ends = ends_of(part, &left.tasks, ends);
-    let verdict = verdict_of(left.halted, &ends);
-    let idles = rest_all(left.tasks, idles);
-    Stopped {
-        idles: meet(part.network, idles),
-        budget: left.budget,
-        ends,
-        outcome: Ok(verdict),
-    }
-}
-
-// The jobs of a run that was given up.
-fn give_up(
-    fault: CrewFault,
+// The jobs, the ends and the verdict of a run that is over, or the jobs of one that was given up. The verdict is `Memory` exactly if the run
+// was halted, and it was halted only if memory was refused to a worker. The lists that are given have room for the jobs and for the ends.
+// Never allocates.
+fn conclude(
     part: &RunPart<'_>,
+    outcome: Result<(), CrewFault>,
     mut left: Left,
     idles: Vec<Idle>,
     ends: Vec<End>,
 ) -> Stopped
     requires left { HaveAllLeft part.now left }
+    requires over { OnOk outcome (IsOver part.now.network.now part.now.input.now left.tasks.items left.budget left.halted) }
+    requires cause { OnOk outcome (left.halted ≡ true ↔ left.wanted ≡ true) }
+    requires lack { IfErr outcome (IsLack part.now.crew.workers) }
     requires idles { (idles.items ≡ []) × (length (network_of part.now.network.now).instances ≤ vec_capacity idles) }
+    requires ends { length (network_of part.now.network.now).instances ≤ vec_capacity ends }
     ensures held { AreHeldBy part.now result.idles.items result.budget }
     ensures cells { cells_of result.idles.items ≡ map cell_of left.tasks.items }
-    ensures outcome { (result.outcome ≡ Err fault) × (result.budget ≡ left.budget) }
+    ensures ended { HasEnded part.now.network.now part.now.input.now part.now.crew.watch part.now.crew.workers part.now.bound result }
+    ensures verdict { OnOk outcome (result.outcome ≡ Ok verdict.Memory ↔ left.halted ≡ true) }
+    ensures refused { (f : Fault) → (result.outcome ≡ Err f ↔ outcome ≡ Err f) }
+    ensures budget { result.budget ≡ left.budget }
 {
     let _program = part.network.program();
     settle_all(&mut left.tasks, part);
-    Stopped {
-        idles: rest_all(left.tasks, idles),
-        budget: left.budget,
-        ends,
-        outcome: Err(fault),
+    let ends = ends_of(part, &left.tasks, ends);
+    let verdict = verdict_of(left.halted, &ends);
+    let budget = left.budget;
+    let idles = meet(part.network, rest_all(left.tasks, idles));
+    match outcome {
+        Ok(()) => Stopped {
+            idles,
+            budget,
+            ends,
+            outcome: Ok(verdict),
+        },
+        Err(fault) => Stopped {
+            idles,
+            budget,
+            ends,
+            outcome: Err(fault),
+        },
     }
 }
 
@@ -115,12 +109,10 @@ pub(crate) fn run_settled<R: Threads + Wait + Sync, G: Gate + Sync>(
     let (network, input) = (part.network, part.input);
     let _program = network.program();
     let tasks = wake_all(network, input, idles, room.tasks);
-    match run_tasks(
+    let (outcome, left) = run_tasks(
         rt, alloc, network, input, part.code, part.crew, part.left, tasks, gate,
-    ) {
-        Ok(left) => conclude(part, left, room.idles, room.ends),
-        Err((fault, left)) => give_up(fault, part, left, room.idles, room.ends),
-    }
+    );
+    conclude(part, outcome, left, room.idles, room.ends)
 }
 
 /// Runs idle jobs for as many events as are left for the part, by the workers and the quantum that were asked for, until every worker has

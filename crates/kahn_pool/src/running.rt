@@ -19,14 +19,6 @@ use std::sync::Wait;
 use std::sync::ledger::Blank;
 use std::thread::{Threads, available_parallelism};
 
-// How many threads may run side by side, if the system tells.
-fn processors<R: Threads>(rt: &R) -> usize {
-    match available_parallelism(rt) {
-        Ok(count) => count.get(),
-        Err(_) => usize::MAX,
-    }
-}
-
 // What a hand-over wants. Fails only if memory was refused.
 fn hand_room(
     alloc: Global,
@@ -63,7 +55,11 @@ fn run_open<R: Threads + Wait + Sync, G: Gate + Sync>(
     requires crew { IsCrew crew × (bound < 2 ^ 48) }
     ensures { MatchResult result (IsRight (network_of network.now) (inputs_of input.now) bound crew.watch) (IsWant crew.workers) }
 {
-    let side_by_side = network.instances().min(processors(rt));
+    let processors = match available_parallelism(rt) {
+        Ok(count) => count.get(),
+        Err(_) => usize::MAX,
+    };
+    let side_by_side = network.instances().min(processors);
     let most = crew.at_open_gate(gate, side_by_side, QUANTUM);
     let plan = most.plan(bound);
     if plan.workers == 1 {

@@ -1,7 +1,7 @@
 -- Inner. What a task tells the board, and the tasks of a run before its next events.
 use Rattle.std.specs.Prelude.{◌≡◌, if◌then◌else◌, ◌==◌, ◌^◌, ◌<◌}
 use Rattle.kahn_crew.specs.inner.Words.{ℕ, Bool, true, false, List, map, option_map, option_map_or, position, Option, Some, None, Schema, Actual, Reads, Writes, network_of, instance_at, actual_at, role_at, is_output, count, end_at, TaskEnd, rows_of, Continues, Tasked, Work, Summary, TaskStanding, length, slice_get, Program, Lists, inputs_of, AreJoinedOn, IsDelivered, some, get_elem?, dealt, wired, Terms, Input}
-use Rattle.kahn_job.specs.declared.standing.TaskStanding.TheVariants as standing
+use Rattle.kahn_job.specs.declared.task.TaskStanding.TheVariants as standing
 
 abbrev pub work_of : Tasked → Work
 work_of x = x.work

@@ -1,10 +1,11 @@
--- Inner. What a worker has between two turns and in a turn, how a task is set down, and what the workers of a run have together.
+-- Inner. What a worker has between two turns and in a turn, when it may begin an instance, how a task is set down, and what the workers of a run have together.
 use Rattle.std.specs.Prelude.{◌≡◌, ◌≢◌, ◌⊎◌, ◌↔◌, ◌+◌, ◌*◌, ◌/◌, ◌^◌, ◌<◌, ◌≤◌, min}
 use Rattle.kahn_crew.specs.inner.Words.{ℕ, Bool, true, Option, None, Some, slice_index, false, List, length, slice_index_or, TableId, Was, belongs, wired, SeesMore, channel_at, TellsEnd, TellsWait, Seat, Terms, SeatView, BeginsTurn, EndsTurn, HoldsInTurn, IsBetween, IsDoneAt, IsSeatOf, SetsStill, SitsAt, Continues, Tasked}
-use Rattle.kahn_board.specs.{Rule.budget_at, Wires.Wires}
+use Rattle.crossbeam_deque.specs.Handles.{worker_index}
+use Rattle.kahn_board.specs.{Rule.budget_at, Wires.Wires, declared.seat.Draw.Draw, declared.seat.Draw.TheVariants.Lost, inner.Turn.DrawsAgain}
 use Rattle.kahn_crew.specs.{declared.run.Run.Run, declared.turn.Due.Due, declared.worker.Worker.Worker, inner.Tasks.IsTaskOf, inner.Tasks.AgreesWith, inner.Tasks.IsLater, inner.Tasks.told_tale}
 use Rattle.kahn_crew.specs.declared.turn.Due.TheVariants as due
-use Rattle.kahn_job.specs.declared.standing.TaskStanding.TheVariants as standing
+use Rattle.kahn_job.specs.declared.task.TaskStanding.TheVariants as standing
 
 abbrev pub terms_of : Run → Terms Tasked
 terms_of run = run.board.now.table.shared.key
@@ -132,3 +133,17 @@ HasGone run w = IsDoneAt (table_id_of run) w.seat
 -- and it halted the run
 abbrev pub HasQuit : Run → Worker → Worker → Type 0
 HasQuit run old new = HasGone run new × (new.seat.seat.me.0.parts ≡ old.seat.seat.me.0.parts) × (0 < new.seat.seat.me.0.raised)
+
+-- an instance begins with a whole draw; or with what another one left of it, if that is more than seven eighths of a quantum, and no memory
+-- was refused to the worker
+abbrev pub MayBegin : Run → ℕ → Worker → Type 0
+MayBegin run n w = IsShare run n ⊎ ((w.hints.wanted ≡ false) × (run.quantum / 8 * 7 < n))
+
+-- a hint more was given, or the seat knows that the run is halted
+abbrev pub IsHinted : Worker → Worker → Type 0
+IsHinted old new = (worker_index old.hints.own < worker_index new.hints.own) ⊎ (new.seat.seat.me.0.seen ≡ 2)
+
+-- of a turn for which events were drawn: if another worker came between each time, a hint was given
+abbrev pub IsLeftHinted : Run → Worker → Worker → Type 0
+IsLeftHinted run old new =
+    (s : Seat Tasked) × (d : Draw) × DrawsAgain told_tale IsLater (terms_of run) 64 run.quantum old.seat s d × (d ≡ Lost → IsHinted old new)

@@ -11,7 +11,7 @@ pub use Rattle.kahn_board.specs.Rule.{belongs, dealt, events_told, wired}
 pub use Rattle.kahn_board.specs.declared.{seat.Seat.Seat, rule.Terms.Terms, view.SeatView.SeatView}
 pub use Rattle.kahn_board.specs.inner.Turn.{BeginsTurn, EndsTurn, HoldsInTurn, IsBetween, IsBetweenTurns, IsDoneAt, IsLoneSeat, IsSeatOf, SetsStill, SitsAt, parts_of, raised_of}
 pub use Rattle.kahn_code.specs.{Standing.count, declared.progress.Pause.TheVariants.NoMemory}
-pub use Rattle.kahn_job.specs.declared.standing.TaskStanding.{TaskStanding, TheVariants.Going}
+pub use Rattle.kahn_job.specs.declared.task.TaskStanding.{TaskStanding, TheVariants.Going}
 pub use Rattle.kahn_job.specs.inner.{Berths.AreJoinedOn, Berths.end_at, Ends.TaskEnd, Idles.AreIdle, Idles.HaveSettled, Idles.rows_of, Tasks.Continues, Tasks.Tasked, Tasks.woken_task}
 pub use Rattle.kahn_job.specs.inner.Works.{IsDelivered, IsJob, Work, width_of}
 pub use Rattle.kahn_streams.specs.{Answers.is_output, Inputs.Lists, Inputs.inputs_of, declared.fault.RunFault.RunFault}

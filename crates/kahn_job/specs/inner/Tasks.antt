@@ -3,8 +3,8 @@ use Rattle.std.specs.Prelude.{◌≡◌, ◌≤◌}
 use Rattle.kahn_job.specs.inner.Words.{ℕ, List, length, Some, network_of, Lists, inputs_of, Store, ScriptOutcome, Dry as IsDryAt, ending, Pause, Paused, told_view}
 use Rattle.kahn_streams.specs.Solution as end
 use Rattle.kahn_code.specs.declared.progress.Pause.TheVariants as pause
-use Rattle.kahn_job.specs.{declared.standing.TaskStanding.TaskStanding, inner.Berths.HaveAdvanced, inner.Works.Work, inner.Works.IsJob, inner.Works.grown_work, inner.Works.width_of}
-use Rattle.kahn_job.specs.declared.standing.TaskStanding.TheVariants as standing
+use Rattle.kahn_job.specs.{declared.task.TaskStanding.TaskStanding, inner.Berths.HaveAdvanced, inner.Works.Work, inner.Works.IsJob, inner.Works.grown_work, inner.Works.width_of}
+use Rattle.kahn_job.specs.declared.task.TaskStanding.TheVariants as standing
 
 -- a job, where its process stood when it was last run, and by parameter how many of the tokens that it sent are published
 pub record Tasked : Type 0 where

@@ -3,7 +3,7 @@ use Rattle.std.specs.Prelude.{◌≡◌, ◌⊎◌, ℕ, ◌<◌, ◌^◌, List,
 use Rattle.kahn_pool.specs.inner.Below.{AreAll, Continues, Cut, Dry, End, IsJob, IsReady, IsWithinInput, Lists, Outcome, Paused, Program, Reads, TaskStanding, Store, Tasked, TellsOutcome, CellView, Work, actual_at, count, end_at, handed_to_task, inputs_of, instance_at, network_of, told_view}
 use Rattle.kahn_pool.specs.declared.plan.RunPart.{RunPart}
 use Rattle.kahn_streams.specs.Script as script
-use Rattle.kahn_job.specs.declared.standing.TaskStanding.TheVariants as standing
+use Rattle.kahn_job.specs.declared.task.TaskStanding.TheVariants as standing
 use Rattle.kahn_streams.specs.declared.answer.Outcome.TheVariants as outcome
 
 abbrev pub cell_of : Tasked → CellView

@@ -1,6 +1,6 @@
 use Rattle.kahn_crew.proofs.Common.{◌≡◌, sym, ◌∙◌, subst, ℕ, IsWellWired, wires, IsDue, HasStanding, IsTrueOf, terms_of}
 use Rattle.kahn_crew.proofs.{Resting.due_waits, Resting.dry_routed, Wirings.routed_as, Working.inside_code}
-use Rattle.kahn_job.specs.declared.standing.TaskStanding.TheVariants as standing
+use Rattle.kahn_job.specs.declared.task.TaskStanding.TheVariants as standing
 use Rattle.kahn_crew.specs.declared.turn.Due.TheVariants as due
 use Rattle.kahn_crew.proofs.turn.due_of.Goals as goal
 

@@ -4,7 +4,7 @@ use Rattle.kahn_code.specs.{declared.progress.Pause.Pause, Cells.exec_on}
 use Rattle.kahn_job.specs.inner.Ends.{IsDry, IsReady}
 use Rattle.kahn_crew.proofs.{Resting.sees_two, Working.in_hand, Working.is_lent, Working.went}
 use Rattle.kahn_code.specs.declared.progress.Pause.TheVariants as pause
-use Rattle.kahn_job.specs.declared.standing.TaskStanding.TheVariants as standing
+use Rattle.kahn_job.specs.declared.task.TaskStanding.TheVariants as standing
 use Rattle.kahn_crew.proofs.turn.run_task.Goals as goal
 
 either_of : {E : Type 0} (r : Result (Unit {0}) E) {P Q : Type 0} → OnOk r P → OnErr r Q → Q ⊎ P

@@ -1,5 +1,5 @@
 use Rattle.kahn_crew.proofs.Common.{HasTask, Heeds}
-use Rattle.kahn_crew.specs.inner.Begins.{MayBegin}
+use Rattle.kahn_crew.specs.inner.Turns.{MayBegin}
 use Rattle.kahn_crew.proofs.turn.spend_all.Given as goal
 
 abbrev pub invariant-loop-first : goal.invariant-loop-first

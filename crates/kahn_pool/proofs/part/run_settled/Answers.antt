@@ -1,5 +1,5 @@
-use Rattle.kahn_pool.proofs.Common.{false, true, arith, ◌≡◌, sym, ◌∙◌, subst, IsOk, Result, AreReadyTasks, CrewFault, HaveGone, Verdict, woken_ready, Work, at_mapped}
-use Rattle.kahn_pool.proofs.Held_jobs.{alone_still, cells_still, have_risen, refused_so, woken_events, ended_so}
+use Rattle.kahn_pool.proofs.Common.{arith, sym, ◌∙◌, subst, AreReadyTasks, HaveGone, NoMemory, woken_ready, Work, at_mapped}
+use Rattle.kahn_pool.proofs.Held_jobs.{alone_still, cells_still, have_risen, woken_events}
 use Rattle.kahn_pool.proofs.part.run_settled.Goals as goal
 
 pub wake_all-tasks-requires-clause-room : goal.wake_all-tasks-requires-clause-room
@@ -25,45 +25,29 @@ run_tasks-requires-clause-total g c =
 pub conclude-requires-clause-left : goal.conclude-requires-clause-left
 conclude-requires-clause-left g c =
     let t = c.args.part.now in
-    let left = c.in-Ok.left in
+    let left = c.run_tasks-outcome.result.1 in
     let all = woken_events c.requires.part.held c.wake_all-tasks.ensures in
     record {
       bounded = c.requires.part.few;
       first = c.wake_all-tasks.result.items;
-      gone = subst (λ b. HaveGone t.network.now t.input.now t.crew.watch b c.wake_all-tasks.result.items left.tasks.items left.budget) all c.in-Ok.ensures.gone;
+      gone = subst (λ b. HaveGone t.network.now t.input.now t.crew.watch b c.wake_all-tasks.result.items left.tasks.items left.budget) all c.run_tasks-outcome.ensures.gone;
     }
 
-pub give_up-requires-clause-left : goal.give_up-requires-clause-left
-give_up-requires-clause-left g c =
-    let t = c.args.part.now in
-    let left = c.in-Err.left in
-    let all = woken_events c.requires.part.held c.wake_all-tasks.ensures in
-    record {
-      bounded = c.requires.part.few;
-      first = c.wake_all-tasks.result.items;
-      gone = subst (λ b. HaveGone t.network.now t.input.now t.crew.watch b c.wake_all-tasks.result.items left.tasks.items left.budget) all c.in-Err.ensures.refused;
-    }
-
-pub returns-in-Ok-clause-stopped : goal.returns-in-Ok-clause-stopped
-returns-in-Ok-clause-stopped g c = ended_so c.args.part.now c.args.idles.items c.conclude.result c.conclude.ensures.held c.conclude.ensures.ended c.conclude.ensures.is_one
-    (have_risen c.requires.part.held c.wake_all-tasks.ensures c.in-Ok.ensures.gone c.conclude.result.idles.items c.conclude.ensures.cells)
-
-pub returns-in-Ok-clause-untouched : goal.returns-in-Ok-clause-untouched
-returns-in-Ok-clause-untouched g c e = absurd (let no : false ≡ true = subst (λ (o : Result Verdict CrewFault). IsOk o) e c.conclude.ensures.is_one in cc)
-
-pub returns-in-Err-clause-untouched : goal.returns-in-Err-clause-untouched
-returns-in-Err-clause-untouched g c e =
-    let up = c.give_up.ensures in
-    let f = c.in-Err.ensures in
-    let same = sym up.outcome.0 ∙ e in
-    cells_still c.requires.part.held c.wake_all-tasks.ensures f.refused c.give_up.result.idles.items up.cells (f.untouched (cc))
-
-pub returns-in-Err-clause-stopped : goal.returns-in-Err-clause-stopped
-returns-in-Err-clause-stopped g c =
-    let e = c.in-Err.ensures in
-    let up = c.give_up.ensures in
-    let us = c.give_up.result.idles.items in
+pub returns-clause-stopped : goal.returns-clause-stopped
+returns-clause-stopped g c =
     let held = c.requires.part.held in
-    refused_so c.args.part.now c.args.idles.items c.give_up.result up.held (have_risen held c.wake_all-tasks.ensures e.refused us up.cells) c.in-Err.fault e.wants up.outcome.0 (λ f.
-    let u = e.untouched f in
-    (up.outcome.1 ∙ u.unused, alone_still held c.wake_all-tasks.ensures e.refused us up.cells u))
+    let run = c.run_tasks-outcome.ensures in
+    let end = c.conclude.ensures in
+    let us = c.conclude.result.idles.items in
+    record {
+      held = end.held;
+      risen = have_risen held c.wake_all-tasks.ensures run.gone us end.cells;
+      outcome = end.ended;
+      untouched = λ e. let u = run.untouched ((end.refused NoMemory).0 e) in (end.budget ∙ u.unused, alone_still held c.wake_all-tasks.ensures run.gone us end.cells u);
+    }
+
+pub returns-clause-untouched : goal.returns-clause-untouched
+returns-clause-untouched g c e =
+    let run = c.run_tasks-outcome.ensures in
+    let end = c.conclude.ensures in
+    cells_still c.requires.part.held c.wake_all-tasks.ensures run.gone c.conclude.result.idles.items end.cells (run.untouched ((end.refused NoMemory).0 e))
