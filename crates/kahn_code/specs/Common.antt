@@ -8,7 +8,7 @@ pub use Rattle.kahn_streams.specs.Script.{Cut, Dry, ScriptOutcome, Parameter, Po
 pub use Rattle.kahn_streams.specs.Solution.{AreInputsExtended, Inputs, Stands, default_of, ending, goes_to, opening, opening_of, source, values_at}
 pub use Rattle.kahn_streams.specs.Steps.{Follows, Step, empty, sends_of, values_taken}
 pub use Rattle.kahn_streams.specs.Syntax.{Expr, Stmt}
-pub use Rattle.kahn_streams.specs.Tokens.{Follow, IsOf, IsOwn, token_value}
+pub use Rattle.kahn_streams.specs.Tokens.{Follow, IsOf, IsOwn, TokenList, token_value}
 pub use Rattle.kahn_streams.specs.declared.tree.Argument.{Argument}
 pub use Rattle.kahn_streams.specs.declared.tree.Declaration.{Declaration}
 pub use Rattle.kahn_streams.specs.declared.tree.Kind.{Kind}

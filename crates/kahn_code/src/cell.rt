@@ -7,7 +7,7 @@ use crate::code::{Code, CodeFault};
 use crate::ports::Ports;
 use crate::progress::{Called, Pause};
 use crate::tap::Tap;
-use kahn_streams::{Carried, Input, Steps};
+use kahn_streams::{Input, Steps, Tokens};
 use std::alloc::{Allocator, Global};
 use std::marker::Model;
 use std::sync::ledger::Ledger;
@@ -23,8 +23,8 @@ pub struct Cell<A: Allocator + Copy + Drop = Global> {
 /// What a cell kept: of each parameter what it sent there, where it is kept, and what it printed, in place order.
 #[derive(Drop)]
 pub struct Kept<A: Allocator + Drop = Global> {
-    pub kept: Vec<Vec<Carried, A>, A>,
-    pub printed: Vec<Carried, A>,
+    pub kept: Vec<Tokens<A>, A>,
+    pub printed: Tokens<A>,
 }
 
 impl<A: Allocator + Copy + Drop> Model for Cell<A> {
@@ -118,9 +118,9 @@ impl<A: Allocator + Copy + Drop> Cell<A> {
     }
 
     /// The tokens that it keeps of what it sent on a parameter.
-    pub fn kept(&self, parameter: usize) -> &[Carried]
+    pub fn kept(&self, parameter: usize) -> &Tokens<A>
         requires { parameter < length self.now.kept }
-        ensures { result.now ≡ slice_index_or self.now.kept parameter [] }
+        ensures { result.now.items ≡ slice_index_or self.now.kept parameter [] }
     {
         self.tap.fresh(parameter)
     }
@@ -145,8 +145,8 @@ impl<A: Allocator + Copy + Drop> Cell<A> {
     }
 
     /// The tokens of its print stream.
-    pub fn printed(&self) -> &[Carried]
-        ensures { result.now ≡ self.now.printed }
+    pub fn printed(&self) -> &Tokens<A>
+        ensures { result.now.items ≡ self.now.printed }
     {
         self.tap.fresh_prints()
     }

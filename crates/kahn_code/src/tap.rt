@@ -9,7 +9,7 @@ use crate::code::{Code, CodeFault};
 use crate::plain::Plain;
 use crate::ports::Ports;
 use crate::progress::{Pause, Progress};
-use kahn_streams::{About, Carried, Input, Network, Steps};
+use kahn_streams::{About, Input, Network, Steps, Tokens};
 use std::alloc::{Allocator, Global};
 use std::marker::Model;
 use std::sync::ledger::Ledger;
@@ -167,18 +167,18 @@ impl<A: Allocator + Copy + Drop> Tap<A> {
     }
 
     /// The tokens that it sent on a parameter, where they are kept, since it last let go.
-    pub fn fresh(&self, parameter: usize) -> &[Carried]
+    pub fn fresh(&self, parameter: usize) -> &Tokens<A>
         requires { parameter < length self.now.told.kept }
-        ensures { tokens self.now.told.kept parameter ≡ tokens self.now.gone.kept parameter ++ result.now }
+        ensures { tokens self.now.told.kept parameter ≡ tokens self.now.gone.kept parameter ++ result.now.items }
     {
-        self.progress.kept[parameter].as_slice()
+        &self.progress.kept[parameter]
     }
 
     /// The tokens that it printed since it last let go.
-    pub fn fresh_prints(&self) -> &[Carried]
-        ensures { self.now.told.printed ≡ self.now.gone.printed ++ result.now }
+    pub fn fresh_prints(&self) -> &Tokens<A>
+        ensures { self.now.told.printed ≡ self.now.gone.printed ++ result.now.items }
     {
-        self.progress.printed.as_slice()
+        &self.progress.printed
     }
 
     /// Lets go of the tokens that it keeps. Never allocates.

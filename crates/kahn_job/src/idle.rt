@@ -5,7 +5,7 @@ ghost use Rattle.kahn_job.specs.{inner.Berths.end_at, inner.Works.IsSamePlace, i
 
 use crate::port::TaskPort;
 use kahn_code::{Cell, Kept};
-use kahn_streams::{Carried, NoMemory};
+use kahn_streams::NoMemory;
 use std::alloc::Global;
 use std::marker::Model;
 use std::mem;
@@ -34,17 +34,6 @@ impl Model for Idle {
     ghost view = { λ j. record { cell = j.cell; ends = j.ports.items } };
 
     ghost invariant = { λ j. (j.instance ≡ j.cell.instance) × (length j.numbers.items ≡ width_of (record { cell = j.cell; ends = j.ports.items })) };
-}
-
-// Copies tokens.
-fn copied(alloc: Global, tokens: &[Carried]) -> Result<Vec<Carried>, NoMemory>
-    ensures { IfOk result (λ v. v.items ≡ tokens.now) }
-{
-    let mut copy = Vec::with_capacity(alloc, tokens.len())?;
-    for place in 0..tokens.len() {
-        copy.push_reserved(tokens[place].again());
-    }
-    Ok(copy)
 }
 
 impl Idle {
@@ -88,9 +77,9 @@ impl Idle {
         let parameters = self.cell.parameters();
         let mut kept = Vec::with_capacity(alloc, parameters)?;
         for parameter in 0..parameters {
-            kept.push_reserved(copied(alloc, self.cell.kept(parameter))?);
+            kept.push_reserved(self.cell.kept(parameter).copied(alloc)?);
         }
-        let printed = copied(alloc, self.cell.printed())?;
+        let printed = self.cell.printed().copied(alloc)?;
         Ok(Kept { kept, printed })
     }
 

@@ -7,7 +7,7 @@ ghost use Rattle.kahn_needs.specs.{Finding.IsNetworkLine, inner.Finding.HasCome,
 ghost use Rattle.kahn_needs.specs.inner.Bench.{AreCounted, AreUnmoved, HaveNotMoved, HasActed, HaveSeats, AreSeatsOf, events_in, events_seen, seats_of, taken_in};
 
 use kahn_code::{Cell, Code, CodeFault, Pause, Plain, Steps, compile};
-use kahn_streams::{About, Carried, Input, Line, Network, Value};
+use kahn_streams::{About, Input, Line, Network, Tokens, Value};
 use std::alloc::Global;
 use std::marker::Model;
 use std::sync::ledger::Ledger;
@@ -256,11 +256,11 @@ pub(crate) fn all_events(alloc: Global, bench: &Bench<'_>) -> Result<Vec<u64>, C
 }
 
 // The value of the token at a place, if there is one.
-fn value_at(tokens: &[Carried], place: u64) -> Value
-    ensures { (t : Token) → slice_get tokens.now place ≡ Some t → result ≡ t.value }
+fn value_at(tokens: &Tokens, place: u64) -> Value
+    ensures { (t : Token) → slice_get tokens.now.items place ≡ Some t → result ≡ t.value }
 {
-    match tokens.get(place as usize) {
-        Some(token) => token.value(),
+    match tokens.values().get(place as usize) {
+        Some(value) => value,
         None => Value::Integer(0),
     }
 }

@@ -1,8 +1,8 @@
 -- Two finished reports of the same texts are the same bytes.
 use Rattle.kahn_report.proofs.Common.{◌≡◌, ℕ, ◌+◌, List, [], ◌∷◌, ◌++◌, length, map, Option, Some, None, flat_map, refl, sym, ap, ◌∙◌, subst, codes, decimal, string_bytes, slice_index_or, Program, Scope, place_of, Schema, network_of, channel_names, program_tree, terminals, IsProgram, Spells, one_tree, same_lexemes, program_spelled, text_lines, line_head, stream_text, outcome_word, waited_name, end_words, end_text, ends_text, verdict_text, last_text, report_text}
-use Rattle.std.proofs.{lemmas.Bool.eqb-true, lemmas.List.Folds.flat_map-map}
+use Rattle.std.proofs.lemmas.Bool.{eqb-true}
 use Rattle.std.specs.{Io.KnownBytes.Appends, List.concat, declared.string.String.String, declared.alloc.Global.Global}
-use Rattle.kahn_streams.specs.{declared.value.Value.Value, declared.value.Line.Line, declared.config.Config.Config, Wiring.IsWellWired, Solution.Inputs, Inputs.inputs_of, declared.value.Line.TheVariants.Channel, declared.value.Line.TheVariants.Print, Tokens.token_value, declared.answer.Answer.Answer, declared.answer.End.End, declared.answer.Outcome.Outcome, declared.answer.Outcome.TheVariants.Ended, declared.answer.Outcome.TheVariants.Waits, declared.answer.Outcome.TheVariants.Faulted, declared.answer.Outcome.TheVariants.More, declared.answer.Stream.Stream, declared.answer.Verdict.TheVariants.Finished, Answers.AreOne, Answers.IsRight, Answers.stream_line, Answers.values_of, Answers.IsWatched, Written.line_feed, Written.spaced_text}
+use Rattle.kahn_streams.specs.{declared.value.Value.Value, declared.value.Line.Line, declared.config.Config.Config, Wiring.IsWellWired, Solution.Inputs, Inputs.inputs_of, declared.value.Line.TheVariants.Channel, declared.value.Line.TheVariants.Print, declared.answer.Answer.Answer, declared.answer.End.End, declared.answer.Outcome.Outcome, declared.answer.Outcome.TheVariants.Ended, declared.answer.Outcome.TheVariants.Waits, declared.answer.Outcome.TheVariants.Faulted, declared.answer.Outcome.TheVariants.More, declared.answer.Stream.Stream, declared.answer.Verdict.TheVariants.Finished, Answers.AreOne, Answers.IsRight, Answers.stream_line, Answers.values_of, Answers.IsWatched, Written.line_feed, Written.spaced_text}
 use Rattle.kahn_streams.proofs.{Handed.bytes_self, By_number.distinct_channels, By_number.number_test}
 use Rattle.kahn_syntax.specs.declared.lexeme.Lexeme.{Lexeme}
 use Rattle.kahn_sequential.proofs.Unique.{finished_is_one}
@@ -42,12 +42,6 @@ heads e = cc
 tails : {A : Type 0} {x y : A} {xs ys : List A} → x ∷ xs ≡ y ∷ ys → xs ≡ ys
 tails e = cc
 
--- a stream's line by its line and its values
-abbrev said : Program → Line → List Value → List ℕ
-said t line values = line_head t line ++ (flat_map spaced_text values ++ line_feed)
-
-stream_said : (t : Program) (s : Stream) → stream_text t s ≡ said t s.line (values_of s)
-stream_said t s = ap (λ l. line_head t s.line ++ (l ++ line_feed)) (sym (flat_map-map spaced_text token_value s.tokens.items))
 
 module _ (t u : Program) (channels : channel_names t ≡ channel_names u)
     (processes : map (λ i. string_bytes i.process.text) t.instances.items ≡ map (λ i. string_bytes i.process.text) u.instances.items) where
@@ -73,8 +67,8 @@ module _ (t u : Program) (channels : channel_names t ≡ channel_names u)
 
   same_stream : (s r : Stream) → s.line ≡ r.line → values_of s ≡ values_of r → stream_text t s ≡ stream_text u r
   same_stream s r line values =
-      stream_said t s ∙ ap (λ (h : List ℕ). h ++ (flat_map spaced_text (values_of s) ++ line_feed)) (same_head s.line)
-      ∙ ap (λ (l : Line). said u l (values_of s)) line ∙ ap (λ (v : List Value). said u r.line v) values ∙ sym (stream_said u r)
+      ap (λ (h : List ℕ). h ++ (flat_map spaced_text (values_of s) ++ line_feed)) (same_head s.line)
+      ∙ ap (λ (l : Line). name.values_line u l (values_of s)) line ∙ ap (λ (v : List Value). name.values_line u r.line v) values
 
   same_streams : (ss rs : List Stream) → map stream_line ss ≡ map stream_line rs → map values_of ss ≡ map values_of rs → flat_map (stream_text t) ss ≡ flat_map (stream_text u) rs
   same_streams [] [] e f = refl

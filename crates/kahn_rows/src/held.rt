@@ -7,7 +7,7 @@ use crate::programs::{
 use kahn_check::Network;
 use kahn_pool::{Answer, Config, Held, Open, Verdict, run};
 use kahn_report::{read_entries, read_input};
-use kahn_streams::{Carried, Input, Value};
+use kahn_streams::{Input, Tokens, Value};
 use std::alloc::{AllocError, Global};
 use std::sync::Wait;
 use std::test::Fail;
@@ -26,13 +26,14 @@ fn below(limit: u64, number: u64) -> u64 {
 }
 
 // Whether the values begin the whole.
-fn begin(whole: &[Carried], values: &[Carried]) -> bool {
-    for (all, value) in whole.iter().zip(values.iter()) {
-        if all.value() != value.value() {
+fn begin(whole: &Tokens, values: &Tokens) -> bool {
+    let (all, some) = (whole.values(), values.values());
+    for place in 0..some.len() {
+        if all.get(place) != some.get(place) {
             return false;
         }
     }
-    values.len() <= whole.len()
+    true
 }
 
 // Whether an answer has the streams of the whole one, each a beginning of it.

@@ -13,7 +13,7 @@ use crate::taps::{all_kept, all_sized, all_stood, forget_turned, named_taps};
 use crate::woken::{Woken, wake_by};
 use kahn_code::{Code, CodeFault, Kept, Pause, Plain, Steps, Tap, compile, regrow_taps};
 use kahn_streams::{
-    About, Carried, Input, MOST_BOUND, Network, NoMemory, Outcome, Side, Stream, Value,
+    About, Input, MOST_BOUND, Network, NoMemory, Outcome, Side, Stream, Tokens, Value,
 };
 use std::alloc::Global;
 use std::marker::Model;
@@ -341,10 +341,10 @@ impl<'n> Sequential<'n> {
     }
 
     /// What an instance sent on a parameter since that was last let go of, if it is kept.
-    pub fn fresh(&self, instance: usize, parameter: usize) -> &[Carried]
+    pub fn fresh(&self, instance: usize, parameter: usize) -> &Tokens
         requires here { instance < length (network_of self.now.network).instances }
         requires parameter { parameter < length (instance_at (network_of self.now.network) instance).actuals }
-        ensures { HasFresh self.now instance parameter result.now }
+        ensures { HasFresh self.now instance parameter result.now.items }
     {
         let tap = &self.taps[instance];
         let _count = tap.parameters();
@@ -352,9 +352,9 @@ impl<'n> Sequential<'n> {
     }
 
     /// What an instance printed since that was last let go of.
-    pub fn fresh_prints(&self, instance: usize) -> &[Carried]
+    pub fn fresh_prints(&self, instance: usize) -> &Tokens
         requires { instance < length (network_of self.now.network).instances }
-        ensures { HasFreshPrints self.now instance result.now }
+        ensures { HasFreshPrints self.now instance result.now.items }
     {
         self.taps[instance].fresh_prints()
     }

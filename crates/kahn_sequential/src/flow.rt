@@ -13,8 +13,8 @@ use crate::settling::run_on;
 use crate::streams::{give_watched, lines_of};
 use crate::woken::Woken;
 use kahn_streams::{
-    Carried, Config, End, FeedFault, Gate, Input, Line, MOST_BOUND, Network, NoMemory, Plan,
-    RunFault, Token, Value, Verdict, Word, channel_meant,
+    Config, End, FeedFault, Gate, Input, Line, MOST_BOUND, Network, NoMemory, Plan, RunFault,
+    Token, Tokens, Value, Verdict, Word, channel_meant,
 };
 use std::alloc::Global;
 use std::marker::{Brand, Model};
@@ -44,7 +44,7 @@ pub struct Flow<'n> {
     numbers: Vec<Vec<usize>>,
     verdict: Option<Verdict>,
     // Of a watched input channel, the tokens that weren't let go of.
-    given: Vec<Carried>,
+    given: Tokens,
 }
 
 impl<'n> Model for Flow<'n> {
@@ -81,9 +81,9 @@ fn lent_of(watch: Option<usize>, channel: usize, values: &[Value]) -> &[Value]
 }
 
 // Makes room for so many tokens more. Fails only if memory was refused, and then nothing changed.
-fn make_room(tokens: &mut Vec<Carried>, count: usize) -> Result<(), NoMemory>
+fn make_room(tokens: &mut Tokens, count: usize) -> Result<(), NoMemory>
     ensures items { tokens.new.items ≡ tokens.old.items }
-    ensures room { OnOk result (length tokens.new.items + count ≤ vec_capacity tokens.new) }
+    ensures room { OnOk result (count ≤ tokens.new.spare) }
 {
     tokens.reserve(count)?;
     Ok(())
@@ -108,22 +108,16 @@ fn input_token(bench: &Sequential<'_>, channel: usize, place: u64, value: Value)
 }
 
 // Adds the tokens of values that stand in the list of an input channel, from this place on. There is room for them.
-fn lend(
-    bench: &Sequential<'_>,
-    tokens: &mut Vec<Carried>,
-    channel: usize,
-    place: u64,
-    values: &[Value],
-)
+fn lend(bench: &Sequential<'_>, tokens: &mut Tokens, channel: usize, place: u64, values: &[Value])
     requires role { role_at (network_of bench.now.network) channel ≡ InputRole }
     requires here { (k : ℕ) (v : ValueOf) → slice_get values.now k ≡ Some v → slice_get (inputs_of bench.now.input channel) (place + k) ≡ Some v }
     requires few { place + length values.now < 2 ^ 64 }
-    requires room { length tokens.old.items + length values.now ≤ vec_capacity tokens.old }
+    requires room { length values.now ≤ tokens.old.spare }
     ensures { map token_value tokens.new.items ≡ map token_value tokens.old.items ++ values.now }
 {
     for number in 0..values.len() {
         let token = input_token(bench, channel, place + number as u64, values[number]);
-        tokens.push_reserved(Carried::of(token));
+        tokens.push_reserved(token);
     }
 }
 
@@ -148,7 +142,7 @@ impl<'n> Flow<'n> {
         let turned = Woken::new(alloc, MOST_TURNED)?;
         let lines = lines_of(alloc, network, plan.watch)?;
         let numbers = numbers_of(alloc, network, &lines)?;
-        let mut given = Vec::new(alloc);
+        let mut given = Tokens::new(alloc);
         give_watched(network, &input, plan.watch, &mut given)?;
         let bench = Sequential::new(alloc, network, &input, None, plan.watch)?;
         Ok(Flow {
@@ -227,9 +221,9 @@ impl<'n> Flow<'n> {
 
     /// What is new of the stream of a line since it was last let go of, in place order. May be called only for a line of `lines`.
     /// Never allocates.
-    pub fn fresh(&self, line: Line) -> &[Carried]
+    pub fn fresh(&self, line: Line) -> &Tokens
         requires { IsLineOf self.now.run line }
-        ensures { AreNew self.now line result.now }
+        ensures { AreNew self.now line result.now.items }
     {
         self.bench.stood();
         match line {

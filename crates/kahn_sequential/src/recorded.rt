@@ -15,8 +15,8 @@ use crate::rounds::{Driver, PartEnd, Round, verdict_of};
 use crate::streams::{opening_stream, room_for_answer};
 use kahn_code::{CodeFault, Kept, Plain, Steps};
 use kahn_streams::{
-    Answer, Carried, Config, End, Gate, Input, Line, Network, NoMemory, Open, Plan, Role, RunFault,
-    Stream,
+    Answer, Config, End, Gate, Input, Line, Network, NoMemory, Open, Plan, Role, RunFault, Stream,
+    Tokens,
 };
 use std::alloc::Global;
 use std::marker::Brand;
@@ -90,11 +90,7 @@ fn channel_streams(alloc: Global, network: &Network, input: &Input) -> Result<Ve
 }
 
 // Adds the tokens of a channel that came since.
-fn add_new(
-    queues: &Plain<Global>,
-    channel: usize,
-    tokens: &mut Vec<Carried>,
-) -> Result<(), NoMemory>
+fn add_new(queues: &Plain<Global>, channel: usize, tokens: &mut Tokens) -> Result<(), NoMemory>
     requires within { IsWithinQueue (slice_get queues.now.queues channel) (length tokens.old.items) }
     requires right { AreTokensOf queues.now.network queues.now.input channel tokens.old.items }
     ensures right { OnOk result (AreTokensOf queues.now.network queues.now.input channel tokens.new.items) }
@@ -103,7 +99,7 @@ fn add_new(
     let first = tokens.len() - queues.taken(channel) as usize;
     for number in first..queues.waiting(channel) {
         let token = queues.token(channel, number);
-        tokens.push(Carried::of(token))?;
+        tokens.push(token)?;
     }
     Ok(())
 }

@@ -6,7 +6,7 @@ ghost use Rattle.kahn_sequential.specs.inner.Workbench.{AreOpen, AreStreamsReady
 ghost use Rattle.kahn_sequential.specs.inner.Streams.{AreAllGiven, AreGiven, AreLists, AreNamed, HaveChanged, IsBegun, IsDeclared, IsFilledStream, IsOpenStream, KeepsOtherLines, kept_lists};
 
 use kahn_code::Kept;
-use kahn_streams::{Carried, Input, Line, Network, NoMemory, Role, Stream, declaration_prints};
+use kahn_streams::{Input, Line, Network, NoMemory, Role, Stream, Tokens, declaration_prints};
 use std::alloc::Global;
 use std::mem;
 
@@ -87,7 +87,7 @@ pub fn lines_of(
 }
 
 // Hands over what was kept on a parameter, for these tokens.
-fn exchange_kept(lists: &mut Kept, parameter: usize, tokens: &mut Vec<Carried>)
+fn exchange_kept(lists: &mut Kept, parameter: usize, tokens: &mut Tokens)
     requires { parameter < length lists.old.kept.items }
     ensures kept { kept_lists lists.new ≡ slice_set (kept_lists lists.old) parameter tokens.old.items }
     ensures tokens { tokens.new.items ≡ slice_index_or (kept_lists lists.old) parameter [] }
@@ -135,7 +135,7 @@ fn give_list(
     network: &Network,
     input: &Input,
     channel: usize,
-    tokens: &mut Vec<Carried>,
+    tokens: &mut Tokens,
 ) -> Result<(), NoMemory>
     requires begun { IsBegun (network_of network.now) (inputs_of input.now) channel (inputs_of input.now channel) tokens.old.items }
     ensures begun { IsBegun (network_of network.now) (inputs_of input.now) channel (inputs_of input.now channel) tokens.new.items }
@@ -143,7 +143,7 @@ fn give_list(
     ensures others { OnOk result ((role_at (network_of network.now) channel ≡ InputRole → ⊥) → tokens.new.items ≡ tokens.old.items) }
 {
     'tokens: while let Some(token) = input.token(network, channel, tokens.len() as u64) {
-        tokens.push(Carried::of(token))?;
+        tokens.push(token)?;
     }
     Ok(())
 }
@@ -153,7 +153,7 @@ pub fn give_watched(
     network: &Network,
     input: &Input,
     watch: Option<usize>,
-    tokens: &mut Vec<Carried>,
+    tokens: &mut Tokens,
 ) -> Result<(), NoMemory>
     requires begun { AreGiven (network_of network.now) (inputs_of input.now) watch tokens.old.items }
     ensures begun { AreGiven (network_of network.now) (inputs_of input.now) watch tokens.new.items }
@@ -179,7 +179,7 @@ pub fn opening_stream(
     ensures line { IfOk result (λ x. x.line ≡ line) }
     ensures given { IfOk result (IsOpenStream (network_of network.now) (inputs_of input.now)) }
 {
-    let mut tokens = Vec::new(alloc);
+    let mut tokens = Tokens::new(alloc);
     let Line::Channel(channel) = line else {
         return Ok(Stream { line, tokens });
     };

@@ -9,7 +9,7 @@ ghost use Rattle.kahn_session.specs.{Live.OutBegins, inner.Kept.AreStale, inner.
 
 use crate::pace::Paced;
 use itoa::Buffer;
-use kahn_streams::{Carried, Line, Network, NoMemory, Value};
+use kahn_streams::{Line, Network, NoMemory, Value, Values};
 use kahn_texts::{WriteFault, write_line, write_news, write_plain};
 use std::alloc::Global;
 use std::io::Write;
@@ -40,21 +40,21 @@ fn put_news<W: Write>(
     let mut from = 0;
     'streams: while let Some(number) = next_stream(run, from, lines.len()) {
         let line = lines[number];
-        write_news(writer, network, line, run.fresh(line))?;
+        write_news(writer, network, line, &run.fresh(line).values())?;
         from = number + 1;
     }
     Ok(())
 }
 
 /// What is new on the stream of that number, and nothing where there is none.
-fn fresh_of<'r>(run: &'r Paced<'_>, number: usize) -> &'r [Carried]
-    ensures { map token_value result.now ≡ news_on number (news_of run.now.flow) }
+fn fresh_of<'r>(run: &'r Paced<'_>, number: usize) -> Values<'r>
+    ensures { result ≡ news_on number (news_of run.now.flow) }
 {
     let lines = run.lines();
     if number >= lines.len() {
-        return &[];
+        return Values::none();
     }
-    run.fresh(lines[number])
+    run.fresh(lines[number]).values()
 }
 
 /// The text of a value.
@@ -95,12 +95,7 @@ fn next_at(run: &Paced<'_>, number: usize, place: usize) -> Option<Value>
     if place < kept.len() {
         return Some(kept[place]);
     }
-    let tokens = fresh_of(run, number);
-    let behind = place - kept.len();
-    if behind >= tokens.len() {
-        return None;
-    }
-    Some(tokens[behind].value())
+    fresh_of(run, number).get(place - kept.len())
 }
 
 /// What stands behind a value of a row before those of these streams.
@@ -184,7 +179,7 @@ pub(crate) fn show<W: Write>(
         return put_news(writer, network, run, run.lines());
     };
     if behind.is_empty() {
-        return write_plain(writer, fresh_of(run, *number));
+        return write_plain(writer, &fresh_of(run, *number));
     }
     put_rows(writer, run, columns, from, to)
 }

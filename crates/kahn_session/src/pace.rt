@@ -7,7 +7,7 @@ ghost use Rattle.kahn_session.specs.{Forms.let_go_but, Forms.news_on, inner.Kept
 
 use kahn_sequential::Flow;
 use kahn_streams::{
-    Carried, Config, End, FeedFault, Gate, Input, Line, MOST_BOUND, Network, RunFault, Value,
+    Config, End, FeedFault, Gate, Input, Line, MOST_BOUND, Network, RunFault, Tokens, Value,
     Verdict,
 };
 use std::alloc::Global;
@@ -117,9 +117,9 @@ impl<'n> Paced<'n> {
     }
 
     /// What is new on the stream of a line since it was last let go of.
-    pub(crate) fn fresh(&self, line: Line) -> &[Carried]
+    pub(crate) fn fresh(&self, line: Line) -> &Tokens
         requires { IsLineOf self.now.flow.run line }
-        ensures { AreNew self.now.flow line result.now }
+        ensures { AreNew self.now.flow line result.now.items }
     {
         self.flow.fresh(line)
     }

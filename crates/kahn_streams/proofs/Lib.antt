@@ -26,4 +26,5 @@ pub mod Entered
 pub mod Fed
 pub mod Few
 pub mod Words
+pub mod Stored
 pub mod Common

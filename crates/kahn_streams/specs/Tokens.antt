@@ -19,3 +19,8 @@ IsOf network input t = (t.network.value ≡ network) × (t.input.value ≡ input
 abbrev pub Follow : Line → ℕ → List Token → Type 0
 Follow line from [] = Unit {0}
 Follow line from (t ∷ ts) = (t.line ≡ line) × (t.place ≡ from) × Follow line (suc from) ts
+
+-- a list of tokens, and for how many more it has room
+pub record TokenList : Type 0 where
+  pub items : List Token
+  pub spare : ℕ

@@ -1,6 +1,6 @@
 //! Answers of a run.
 
-use crate::carried::Carried;
+use crate::tokens::Tokens;
 use crate::value::{Failure, Line};
 
 /// Why a run stopped.
@@ -27,11 +27,11 @@ pub struct End {
     pub events: u64,
 }
 
-/// What was sent on a line: its tokens in place order, from place 0 on, each kept as its value alone.
+/// What was sent on a line: its tokens in place order, from place 0 on.
 #[derive(Drop)]
 pub struct Stream {
     pub line: Line,
-    pub tokens: Vec<Carried>,
+    pub tokens: Tokens,
 }
 
 /// The answer of a run.

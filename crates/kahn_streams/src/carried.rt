@@ -1,14 +1,14 @@
 //! Tokens in transit.
 //!
-//! In segments and kept lists a token is stored as its value alone, in nine bytes: where it is stored gives its line and its
-//! place. Contracts see the token, so the one that comes out has the same fact as the one that went in.
+//! In segments a token is stored as its value alone, in nine bytes: where it is stored gives its line and its place. Contracts
+//! see the token, so the one that comes out has the same fact as the one that went in.
 
 ghost use Rattle.std.specs.Prelude.{◌≡◌, ◌<◌, ◌^◌};
 ghost use Rattle.kahn_streams.specs.{Inputs.Holds, Inputs.Names, declared.token.Token.Token};
 
 use crate::about::About;
 use crate::token::Token;
-use crate::value::{Line, Value};
+use crate::value::Line;
 use crate::word::{Packed, Word};
 use std::marker::Model;
 
@@ -66,13 +66,6 @@ impl Carried {
         carried_of(&token, value)
     }
 
-    /// Returns a copy. Never allocates.
-    pub fn again(&self) -> Carried
-        ensures { result ≡ self.now }
-    {
-        carried_of(self, self.value.word())
-    }
-
     /// Returns the token. The lane knows its line and its place.
     #[tactic(auto, using(crate::proofs::Token_lists::token_same))]
     pub fn token(&self, line: Line, place: u64) -> Token
@@ -87,12 +80,5 @@ impl Carried {
         ensures { self.now.place < 2 ^ 64 }
     {
         let _value = self.value.word();
-    }
-
-    /// Returns the value of the token.
-    pub fn value(&self) -> Value
-        ensures { result ≡ self.now.value }
-    {
-        self.value.word().value()
     }
 }

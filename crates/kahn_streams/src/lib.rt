@@ -23,8 +23,10 @@ mod sides;
 mod span;
 mod steps;
 mod token;
+mod tokens;
 mod tree;
 mod value;
+mod values;
 mod wires;
 mod word;
 
@@ -39,7 +41,9 @@ pub use laws::{
 };
 pub use memory::NoMemory;
 pub use token::Token;
+pub use tokens::Tokens;
 pub use value::{Failure, Line, Value};
+pub use values::Values;
 
 // For the crates above.
 pub use about::About;

@@ -2,7 +2,7 @@
 pub use Rattle.kahn_streams.specs.Inputs.{AreFit, Entry, FailsFirst, IsFirstRefused, IsInputOf, Lists, asked_of_entry, channel_of, entry_of, inputs_of, is_given, list_for}
 pub use Rattle.kahn_streams.specs.Network.{Node, channel_names, channels_of, network_of}
 pub use Rattle.kahn_streams.specs.Written.{AppendsFront, Writes, line_feed, plain_line, spaced_text}
-pub use Rattle.kahn_texts.specs.Formats.{AreBlanks, AreEntries, AreFirstEntries, AreValues, HasHead, HasItsLines, HasNoHead, HasNoValues, IsEntriesFault, IsEntry, IsGood, IsInputText, IsInputTextFault, IsLine, IsLineFault, IsName, IsValue, SpellsValues, StandsFor, channel_count, content, end_text, ends_text, instance_count, is_blank, is_word_byte, line_head, most_input_bytes, stream_text, text_lines, token_text, tokens_text, told_of_input}
+pub use Rattle.kahn_texts.specs.Formats.{AreBlanks, AreEntries, AreFirstEntries, AreValues, HasHead, HasItsLines, HasNoHead, HasNoValues, IsEntriesFault, IsEntry, IsGood, IsInputText, IsInputTextFault, IsLine, IsLineFault, IsName, IsValue, SpellsValues, StandsFor, channel_count, content, end_text, ends_text, instance_count, is_blank, is_word_byte, line_head, most_input_bytes, stream_text, text_lines, values_line, told_of_input}
 pub use Rattle.kahn_texts.specs.inner.Pieces.{AreAdded, AreAllMadeTexts, AreMadeTexts, AreNoTexts, ArePieceTexts, ArePieces, IsMadeText, IsMovedOn, IsPiece, IsPieceText, piece_text}
 pub use Rattle.std.proofs.Common.{All, Bool, Bor, Err, IsErr, List, MatchOption, None, Ok, OnOk, Option, Result, Some, [], add-one, ap, append-nil, append_assoc, arith, codes, cond, decimal, drop, drop-cons, drop_of_length-le, eqb-true, false, flat_map, get_or, get_or-set_other, get_or-set_same, if◌then◌else◌, inl, inr, le_antisymm, length, length-append, length-set, length-take, length-take-le, map, nat_le, nat_lt, not, refl, replicate, rules, set, slice_get, slice_index, subst, suc, sym, take, take-append-drop, tests, true, vec_len, zero, ℕ, ℤ, ⊎_elim, ◌&&◌, ◌*◌, ◌++◌, ◌+◌, ◌-◌, ◌<◌, ◌==◌, ◌^◌, ◌||◌, ◌∙◌, ◌∷◌, ◌≡◌, ◌≢◌, ◌≤◌, ◌⊎◌}
 pub use Rattle.std.proofs.KnownBytes.{Appends-kept, Appends-nil, Appends-trans, Consumes-trans}

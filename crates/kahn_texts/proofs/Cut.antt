@@ -1,5 +1,6 @@
 -- Lines that are cut into pieces.
-use Rattle.kahn_texts.proofs.Common.{◌≡◌, ℕ, ◌<◌, List, [], ◌∷◌, ◌++◌, length, drop, flat_map, All, Result, Ok, Err, OnOk, ap, sym, subst, ◌∙◌, append_assoc, append-nil, arith, length-append, flat_map-append, flat_map_more, drop-append_seam, All-nil, All-push, All-rest, All-same, All-drop, Stream, Token, Program, line_feed, IsLine, stream_text, token_text, Piece, AreAdded, ArePieces, IsMovedOn, IsPiece, piece_text}
+use Rattle.std.proofs.lemmas.{List.take_at, Option.same_Some}
+use Rattle.kahn_texts.proofs.Common.{◌≡◌, ℕ, zero, suc, ◌+◌, ◌<◌, ◌≤◌, Some, slice_get, take, take-append-drop, length-take-le, List, [], ◌∷◌, ◌++◌, length, drop, flat_map, All, Result, Ok, Err, OnOk, ap, sym, subst, ◌∙◌, append_assoc, append-nil, arith, length-append, flat_map-append, flat_map_more, drop-append_seam, All-nil, All-push, All-rest, All-same, All-drop, Stream, Value, Program, line_feed, IsLine, stream_text, spaced_text, Piece, AreAdded, ArePieces, IsMovedOn, IsPiece, piece_text}
 
 -- one piece more
 pub one_added : (t : Program) (old new : List Piece) (piece : Piece) → new ≡ old ++ piece ∷ [] → IsPiece t piece → AreAdded t old new (piece_text t piece)
@@ -13,12 +14,12 @@ pub then_added : (t : Program) (old mid new : List Piece) (first more : List ℕ
 then_added t old mid new first more a b = λ before h. subst (ArePieces t new) (append_assoc before first more) (b (before ++ first) (a before h))
 
 -- the values of a part, and what is left of the line
-pub part_on : (added all : List ℕ) (rest part after : List Token) → rest ≡ part ++ after → added ++ (flat_map token_text rest ++ line_feed) ≡ all
-    → (added ++ flat_map token_text part) ++ (flat_map token_text after ++ line_feed) ≡ all
+pub part_on : (added all : List ℕ) (rest part after : List Value) → rest ≡ part ++ after → added ++ (flat_map spaced_text rest ++ line_feed) ≡ all
+    → (added ++ flat_map spaced_text part) ++ (flat_map spaced_text after ++ line_feed) ≡ all
 part_on added all rest part after split whole =
-    let p = flat_map token_text part in
-    let a = flat_map token_text after in
-    let joined : flat_map token_text rest ≡ p ++ a = ap (flat_map token_text) split ∙ flat_map-append token_text part after in
+    let p = flat_map spaced_text part in
+    let a = flat_map spaced_text after in
+    let joined : flat_map spaced_text rest ≡ p ++ a = ap (flat_map spaced_text) split ∙ flat_map-append spaced_text part after in
     append_assoc added p (a ++ line_feed) ∙ ap (λ l. added ++ l) (sym (append_assoc p a line_feed) ∙ ap (λ l. l ++ line_feed) (sym joined)) ∙ whole
 
 -- some lines were added, and the others are left
@@ -61,3 +62,16 @@ pub closed : {X E : Type 0} (t : Program) (old mid new : List Piece) (first more
     → OnOk r (AreAdded t mid new more) → OnOk r (AreAdded t old new all)
 closed t old mid new first more all (Ok x) a whole b = subst (AreAdded t old new) whole (then_added t old mid new first more a b)
 closed t old mid new first more all (Err e) a whole b = b
+
+-- the first of a list, and some more
+pub taken_on : {X : Type 0} (xs first rest : List X) (k : ℕ) → k ≤ length xs → drop k xs ≡ first ++ rest → take (k + length first) xs ≡ take k xs ++ first
+taken_on xs first rest k le e =
+    let whole : xs ≡ (take k xs ++ first) ++ rest = sym (take-append-drop k xs) ∙ ap (λ l. take k xs ++ l) e ∙ sym (append_assoc (take k xs) first rest) in
+    let long : length (take k xs ++ first) ≡ k + length first = omega (arith, length-append (take k xs) first, length-take-le k xs le) in
+    ap (take (k + length first)) whole ∙ take_at (take k xs ++ first) rest (k + length first) long
+
+-- one of a list and those behind it
+pub drop_on : {X : Type 0} (xs : List X) (k : ℕ) (x : X) → slice_get xs k ≡ Some x → drop k xs ≡ x ∷ drop (suc k) xs
+drop_on [] k x e = absurd cc
+drop_on (y ∷ xs) zero x e = ap (λ z. z ∷ xs) (same_Some y x e)
+drop_on (y ∷ xs) (suc k) x e = drop_on xs k x e

@@ -3,7 +3,7 @@
 -- with a line feed and has no blank at its end.
 use Rattle.std.specs.Prelude.{◌≡◌, ◌≢◌, ℕ, ◌+◌, ◌-◌, ◌≤◌, ◌<◌, List, [], ◌∷◌, ◌++◌, length, slice_index, Bool, true, false, ◌==◌, ◌||◌, codes, All, take, if◌then◌else◌, ◌⊎◌, MatchOption, Option, map, slice_index_or, decimal, flat_map}
 use Rattle.std.specs.{List.slice_split, List.concat, Char.is_ascii_alphabetic, Char.is_ascii_alphanumeric, Str.str_eq_ignore_ascii_case, Str.Parse.IsNumeral, Str.Parse.without_leading_sign, Str.Parse.signed_digits_value, declared.alloc.Global.Global, declared.string.String.String, declared.vec.Vec.Vec}
-use Rattle.kahn_streams.specs.{declared.value.Value.Value, declared.tree.Program.Program, declared.entries.InputFault.InputFault, declared.value.Value.TheVariants.Integer, declared.value.Value.TheVariants.Logical, Inputs.Entry, Inputs.entry_of, Inputs.IsFirstRefused, Inputs.IsInputOf, Inputs.Lists, declared.value.Line.Line, View.bytes_of, Network.channel_names, Network.channels_of, Written.line_feed, Written.spaced_text, declared.value.Line.TheVariants.Channel, declared.value.Line.TheVariants.Print, declared.value.Failure.TheVariants.Overflow, declared.value.Failure.TheVariants.Division, declared.token.Token.Token, declared.answer.Stream.Stream, declared.answer.Outcome.Outcome, declared.answer.Outcome.TheVariants.Ended, declared.answer.Outcome.TheVariants.Waits, declared.answer.Outcome.TheVariants.Faulted, declared.answer.Outcome.TheVariants.More, declared.answer.End.End, declared.answer.Verdict.Verdict, declared.answer.Verdict.TheVariants.Finished, declared.answer.Verdict.TheVariants.Bound, declared.answer.Verdict.TheVariants.Memory, declared.answer.Answer.Answer}
+use Rattle.kahn_streams.specs.{declared.value.Value.Value, declared.tree.Program.Program, declared.entries.InputFault.InputFault, declared.value.Value.TheVariants.Integer, declared.value.Value.TheVariants.Logical, Inputs.Entry, Inputs.entry_of, Inputs.IsFirstRefused, Inputs.IsInputOf, Inputs.Lists, declared.value.Line.Line, View.bytes_of, Network.channel_names, Network.channels_of, Written.line_feed, Written.spaced_text, declared.value.Line.TheVariants.Channel, declared.value.Line.TheVariants.Print, declared.value.Failure.TheVariants.Overflow, declared.value.Failure.TheVariants.Division, Answers.values_of, declared.answer.Stream.Stream, declared.answer.Outcome.Outcome, declared.answer.Outcome.TheVariants.Ended, declared.answer.Outcome.TheVariants.Waits, declared.answer.Outcome.TheVariants.Faulted, declared.answer.Outcome.TheVariants.More, declared.answer.End.End, declared.answer.Verdict.Verdict, declared.answer.Verdict.TheVariants.Finished, declared.answer.Verdict.TheVariants.Bound, declared.answer.Verdict.TheVariants.Memory, declared.answer.Answer.Answer}
 use Rattle.kahn_texts.specs.{declared.entries.EntryFault.EntryFault, declared.entries.EntryFault.TheVariants.NoHead, declared.entries.EntryFault.TheVariants.NoValues, declared.input.TextFault.TextFault, declared.input.TextFault.TheVariants.BadLine, declared.input.TextFault.TheVariants.BadValue, declared.input.TextFault.TheVariants.Input, declared.input.TextFault.TheVariants.TooLong, declared.input.TextFault.TheVariants.NoMemory}
 use Rattle.kahn_texts.specs.declared.entries.EntryFault.TheVariants as line_fault
 use Rattle.kahn_texts.specs.declared.input.TextFault.TheVariants as text_fault
@@ -167,22 +167,18 @@ channel_name program channel = slice_index_or (channel_names program) channel []
 abbrev pub process_name : Program → ℕ → List ℕ
 process_name program instance = slice_index_or (map (λ i. bytes_of i.process) program.instances.items) instance []
 
--- a space and the value
-abbrev pub token_text : Token → List ℕ
-token_text token = spaced_text token.value
-
 -- what a stream's line begins with: the name of its channel, or the number from 1 and the name of its process
 abbrev pub line_head : Program → Line → List ℕ
 line_head program (Channel channel) = concat (channel_name program channel ∷ codes ":" ∷ [])
 line_head program (Print instance) = concat (codes "print " ∷ decimal (instance + 1) ∷ codes " " ∷ process_name program instance ∷ codes ":" ∷ [])
 
--- the line of a stream with these tokens: a space and the value for each
-abbrev pub tokens_text : Program → Line → List Token → List ℕ
-tokens_text program line tokens = line_head program line ++ (flat_map token_text tokens ++ line_feed)
+-- the line of a stream with these values: a space and the value for each
+abbrev pub values_line : Program → Line → List Value → List ℕ
+values_line program line values = line_head program line ++ (flat_map spaced_text values ++ line_feed)
 
 -- a stream's line
 abbrev pub stream_text : Program → Stream → List ℕ
-stream_text program stream = tokens_text program stream.line stream.tokens.items
+stream_text program stream = values_line program stream.line (values_of stream)
 
 -- the state of an instance
 abbrev pub outcome_word : Outcome → List ℕ

@@ -7,7 +7,7 @@ ghost use Rattle.kahn_streams.specs.{declared.value.Value.Value as ValueView, Wr
 use crate::bytes::{WriteFault, put};
 use crate::counts::CallCount;
 use itoa::write_digits;
-use kahn_streams::{Carried, Value};
+use kahn_streams::{Value, Values};
 use std::io::Write;
 
 /// How many values one write has.
@@ -100,30 +100,40 @@ impl Layout for Lined {
     }
 }
 
-/// Places the values of tokens at the end of `room`, the last one first, as digits are made, and returns their text.
-fn place_values<'a, F: Layout>(tokens: &[Carried], room: &'a mut [u8]) -> &'a [u8]
-    requires { 21 * length tokens.now ≤ length room.old }
-    ensures { result.now ≡ flat_map (λ token. F.text token.value) tokens.now }
+/// Places values at the end of `room`, the last one first, as digits are made, and returns their text.
+#[tactic(auto, using(crate::proofs::Cut::drop_on))]
+fn place_values<'a, F: Layout>(values: &Values<'_>, room: &'a mut [u8]) -> &'a [u8]
+    requires { 21 * length values.now ≤ length room.old }
+    ensures { result.now ≡ flat_map F.text values.now }
 {
     let mut start = room.len();
-    for token in tokens.iter().rev() {
-        start = F::place(token.value(), room, start);
+    let mut left = values.len();
+    while left > 0 {
+        left -= 1;
+        let Some(value) = values.get(left) else {
+            unreachable!()
+        };
+        start = F::place(value, room, start);
     }
     &room[start..]
 }
 
-/// Writes the values of tokens, `TOGETHER` by one write.
+/// Writes values, `TOGETHER` by one write.
 pub fn put_values<F: Layout, W: Write, C: CallCount>(
     writer: &mut W,
-    tokens: &[Carried],
+    values: &Values<'_>,
     writes: &mut C,
 ) -> Result<(), WriteFault>
-    ensures text { Writes (W.contents writer.old) (W.contents writer.new) result (flat_map (λ token. F.text token.value) tokens.now) }
-    ensures few { C.count writes.new ≤ C.count writes.old + length (flat_map (λ token. F.text token.value) tokens.now) }
+    ensures text { Writes (W.contents writer.old) (W.contents writer.new) result (flat_map F.text values.now) }
+    ensures few { C.count writes.new ≤ C.count writes.old + length (flat_map F.text values.now) }
 {
     let mut room = [0; ROOM];
-    for chunk in tokens.chunks(TOGETHER) {
-        put(writer, place_values::<F>(chunk, &mut room), writes)?;
+    let mut from = 0;
+    while from < values.len() {
+        let (_, left) = values.split_at(from);
+        let (first, _) = left.split_at(TOGETHER.min(left.len()));
+        put(writer, place_values::<F>(&first, &mut room), writes)?;
+        from += first.len();
     }
     Ok(())
 }

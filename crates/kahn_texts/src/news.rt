@@ -1,14 +1,14 @@
 //! What goes out while a run goes on: what is new on a stream, and at its end how it ended.
 
-ghost use Rattle.std.specs.Prelude.{◌≡◌, map};
-ghost use Rattle.kahn_streams.specs.{Tokens.token_value, Written.Writes};
+ghost use Rattle.std.specs.Prelude.{◌≡◌};
+ghost use Rattle.kahn_streams.specs.Written.{Writes};
 ghost use Rattle.kahn_texts.specs.{Formats.IsLine, News.more_text, News.closing_text, News.plain_text};
 
 use crate::bytes::WriteFault;
 use crate::counts::uncounted;
 use crate::digits::{Lined, put_values};
-use crate::write::{closing_counted, put_tokens};
-use kahn_streams::{Carried, End, Line, Network, Verdict};
+use crate::write::{closing_counted, put_line_values};
+use kahn_streams::{End, Line, Network, Values, Verdict};
 use std::io::Write;
 
 /// Writes what is new on a stream: a line with its heading, as in a report, and these values, or nothing if there are
@@ -17,23 +17,23 @@ pub fn write_news<W: Write>(
     writer: &mut W,
     network: &Network,
     line: Line,
-    tokens: &[Carried],
+    values: &Values<'_>,
 ) -> Result<(), WriteFault>
     requires { IsLine network.now line }
-    ensures { Writes (W.contents writer.old) (W.contents writer.new) result (more_text network.now line (map token_value tokens.now)) }
+    ensures { Writes (W.contents writer.old) (W.contents writer.new) result (more_text network.now line values.now) }
 {
-    if tokens.is_empty() {
+    if values.is_empty() {
         return Ok(());
     }
-    put_tokens(writer, network, line, tokens, &mut uncounted())
+    put_line_values(writer, network, line, values, &mut uncounted())
 }
 
-/// Writes the values of tokens, each on a line of its own, and nothing if there are none. It doesn't flush. After a fault a
+/// Writes values, each on a line of its own, and nothing if there are none. It doesn't flush. After a fault a
 /// prefix of the text went out. Never allocates.
-pub fn write_plain<W: Write>(writer: &mut W, tokens: &[Carried]) -> Result<(), WriteFault>
-    ensures { Writes (W.contents writer.old) (W.contents writer.new) result (plain_text (map token_value tokens.now)) }
+pub fn write_plain<W: Write>(writer: &mut W, values: &Values<'_>) -> Result<(), WriteFault>
+    ensures { Writes (W.contents writer.old) (W.contents writer.new) result (plain_text values.now) }
 {
-    put_values::<Lined, _, _>(writer, tokens, &mut uncounted())
+    put_values::<Lined, _, _>(writer, values, &mut uncounted())
 }
 
 /// Writes the last lines of a report, those of the ends and of the verdict with the sum of the events, and flushes. After a

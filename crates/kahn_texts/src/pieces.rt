@@ -1,28 +1,28 @@
 //! The lines of streams, cut into pieces of about the same length.
 
 ghost use Rattle.std.specs.Prelude.{◌≡◌, ◌<◌, ◌≤◌, ◌∷◌, ◌++◌, length, flat_map, All, IfOk, OnOk};
-ghost use Rattle.kahn_streams.specs.Written.{Writes};
-ghost use Rattle.kahn_texts.specs.{Formats.IsLine, Formats.line_head, Formats.stream_text, Formats.token_text, inner.Pieces.AreAdded, inner.Pieces.ArePieces, inner.Pieces.IsMovedOn, inner.Pieces.IsPiece, inner.Pieces.piece_text};
+ghost use Rattle.kahn_streams.specs.Written.{Writes, spaced_text};
+ghost use Rattle.kahn_texts.specs.{Formats.IsLine, Formats.line_head, Formats.stream_text, inner.Pieces.AreAdded, inner.Pieces.ArePieces, inner.Pieces.IsMovedOn, inner.Pieces.IsPiece, inner.Pieces.piece_text};
 
 use crate::bytes::WriteFault;
 use crate::counts::uncounted;
 use crate::digits::{Spaced, put_values};
 use crate::write::{put_closing, put_head, put_streams};
-use kahn_streams::{Carried, Line, Network, Stream};
+use kahn_streams::{Line, Network, Stream, Values};
 use std::alloc::{AllocError, Global};
 use std::io::Write;
 
 /// A piece of the lines of streams.
-#[derive(Clone, Copy)]
+#[derive(Drop)]
 pub(crate) enum Piece<'a> {
     /// Whole lines.
     Lines(&'a [Stream]),
     /// What a line begins with, and its first values.
-    Opening(Line, &'a [Carried]),
+    Opening(Line, Values<'a>),
     /// Some values of a line.
-    Middle(&'a [Carried]),
+    Middle(Values<'a>),
     /// The last values of a line, and its end.
-    Closing(&'a [Carried]),
+    Closing(Values<'a>),
 }
 
 /// Writes what a line begins with, and its first values.
@@ -31,30 +31,30 @@ fn put_opening<W: Write>(
     writer: &mut W,
     network: &Network,
     line: Line,
-    tokens: &[Carried],
+    values: &Values<'_>,
 ) -> Result<(), WriteFault>
     requires { IsLine network.now line }
-    ensures { Writes (W.contents writer.old) (W.contents writer.new) result (line_head network.now line ++ flat_map token_text tokens.now) }
+    ensures { Writes (W.contents writer.old) (W.contents writer.new) result (line_head network.now line ++ flat_map spaced_text values.now) }
 {
     put_head(writer, network, line, &mut uncounted())?;
-    put_values::<Spaced, _, _>(writer, tokens, &mut uncounted())
+    put_values::<Spaced, _, _>(writer, values, &mut uncounted())
 }
 
 /// Writes a piece.
 pub(crate) fn put_piece<W: Write>(
     writer: &mut W,
     network: &Network,
-    piece: Piece<'_>,
+    piece: &Piece<'_>,
 ) -> Result<(), WriteFault>
-    requires { IsPiece network.now piece }
-    ensures { Writes (W.contents writer.old) (W.contents writer.new) result (piece_text network.now piece.entry) }
+    requires { IsPiece network.now piece.now }
+    ensures { Writes (W.contents writer.old) (W.contents writer.new) result (piece_text network.now piece.now) }
 {
     let writes = &mut uncounted();
     match piece {
         Piece::Lines(streams) => put_streams(writer, network, streams, writes),
-        Piece::Opening(line, tokens) => put_opening(writer, network, line, tokens),
-        Piece::Middle(tokens) => put_values::<Spaced, _, _>(writer, tokens, writes),
-        Piece::Closing(tokens) => put_closing(writer, tokens, writes),
+        Piece::Opening(line, values) => put_opening(writer, network, *line, values),
+        Piece::Middle(values) => put_values::<Spaced, _, _>(writer, values, writes),
+        Piece::Closing(values) => put_closing(writer, values, writes),
     }
 }
 
@@ -118,9 +118,9 @@ fn add_parts<'a>(
     requires line { IsLine network.now stream.now.line }
     ensures { OnOk result (AreAdded network.now pieces.old.items pieces.new.items (stream_text network.now stream.now)) }
 {
-    let tokens = stream.tokens.as_slice();
-    let size = part_size(tokens.len(), most);
-    let (first, mut rest) = tokens.split_at(size.min(tokens.len()));
+    let values = stream.tokens.values();
+    let size = part_size(values.len(), most);
+    let (first, mut rest) = values.split_at(size.min(values.len()));
     add(network, pieces, Piece::Opening(stream.line, first))?;
     while rest.len() > size {
         let (part, after) = rest.split_at(size);

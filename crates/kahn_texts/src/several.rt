@@ -104,9 +104,9 @@ fn with_one(
 }
 
 /// Formats a piece; None if memory was refused.
-fn text_of(alloc: Global, network: &Network, piece: Piece<'_>) -> Option<Vec<u8>>
-    requires { IsPiece network.now piece }
-    ensures { IsPieceText network.now piece.entry result }
+fn text_of(alloc: Global, network: &Network, piece: &Piece<'_>) -> Option<Vec<u8>>
+    requires { IsPiece network.now piece.now }
+    ensures { IsPieceText network.now piece.now result }
 {
     let Ok(mut text) = Vec::with_capacity(alloc, ROOM) else {
         return None;
@@ -131,7 +131,7 @@ fn next_made(
     if number >= pieces.len() {
         return None;
     }
-    let text = text_of(alloc, network, pieces[number]);
+    let text = text_of(alloc, network, &pieces[number]);
     Some(Made { number, text })
 }
 
@@ -218,12 +218,12 @@ fn texts_of<R: Threads + Sync>(
 fn put_text<W: Write>(
     writer: &mut W,
     network: &Network,
-    piece: Piece<'_>,
+    piece: &Piece<'_>,
     text: Option<&Option<Vec<u8>>>,
 ) -> Result<(), WriteFault>
-    requires piece { IsPiece network.now piece }
-    requires text { IfSome text (λ it. IsPieceText network.now piece it.now) }
-    ensures { Writes (W.contents writer.old) (W.contents writer.new) result (piece_text network.now piece.entry) }
+    requires piece { IsPiece network.now piece.now }
+    requires text { IfSome text (λ it. IsPieceText network.now piece.now it.now) }
+    ensures { Writes (W.contents writer.old) (W.contents writer.new) result (piece_text network.now piece.now) }
 {
     match text {
         Some(Some(bytes)) => put(writer, bytes, &mut uncounted()),
@@ -243,7 +243,7 @@ fn put_texts<W: Write>(
     ensures { Writes (W.contents writer.old) (W.contents writer.new) result (flat_map (piece_text network.now) pieces.now) }
 {
     for (number, piece) in pieces.iter().enumerate() {
-        put_text(writer, network, *piece, texts.get(number))?;
+        put_text(writer, network, piece, texts.get(number))?;
     }
     Ok(())
 }

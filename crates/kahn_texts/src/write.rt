@@ -1,16 +1,16 @@
 //! The report text, written piece by piece.
 
 ghost use Rattle.std.specs.Prelude.{◌≡◌, ◌+◌, ◌<◌, ◌≤◌, ◌++◌, length, flat_map, All};
-ghost use Rattle.kahn_streams.specs.Written.{Writes, line_feed};
+ghost use Rattle.kahn_streams.specs.Written.{Writes, line_feed, spaced_text};
 ghost use Rattle.kahn_texts.specs.{Flushes.FlushesOnce, News.closing_text};
-ghost use Rattle.kahn_texts.specs.Formats.{report_text, line_head, token_text, tokens_text, stream_text, outcome_word, waited_name, end_words, end_text, ends_text, last_line, IsLine, HasItsLines};
+ghost use Rattle.kahn_texts.specs.Formats.{report_text, line_head, values_line, stream_text, outcome_word, waited_name, end_words, end_text, ends_text, last_line, IsLine, HasItsLines};
 
 use crate::bytes::{WriteFault, flush, put, put_all, put_line};
 use crate::counts::{CallCount, uncounted};
 use crate::digits::{Spaced, put_values};
 use crate::names::{channel_name, process_name};
 use itoa::Buffer;
-use kahn_streams::{Answer, Carried, End, Failure, Line, Network, Outcome, Stream, Verdict};
+use kahn_streams::{Answer, End, Failure, Line, Network, Outcome, Stream, Values, Verdict};
 use std::io::Write;
 
 /// Writes what a stream's line begins with.
@@ -42,31 +42,31 @@ pub(crate) fn put_head<W: Write, C: CallCount>(
 #[tactic(auto, using(crate::proofs::Writing::fails, crate::proofs::Writing::stops, crate::proofs::Writing::goes_on))]
 pub(crate) fn put_closing<W: Write, C: CallCount>(
     writer: &mut W,
-    tokens: &[Carried],
+    values: &Values<'_>,
     writes: &mut C,
 ) -> Result<(), WriteFault>
-    ensures text { Writes (W.contents writer.old) (W.contents writer.new) result (flat_map token_text tokens.now ++ line_feed) }
-    ensures few { C.count writes.new ≤ C.count writes.old + length (flat_map token_text tokens.now ++ line_feed) }
+    ensures text { Writes (W.contents writer.old) (W.contents writer.new) result (flat_map spaced_text values.now ++ line_feed) }
+    ensures few { C.count writes.new ≤ C.count writes.old + length (flat_map spaced_text values.now ++ line_feed) }
 {
-    put_values::<Spaced, _, _>(writer, tokens, writes)?;
+    put_values::<Spaced, _, _>(writer, values, writes)?;
     put(writer, b"\n", writes)
 }
 
-/// Writes the line of a stream with these tokens.
+/// Writes the line of a stream with these values.
 #[tactic(auto, using(crate::proofs::Writing::fails, crate::proofs::Writing::stops, crate::proofs::Writing::goes_on))]
-pub(crate) fn put_tokens<W: Write, C: CallCount>(
+pub(crate) fn put_line_values<W: Write, C: CallCount>(
     writer: &mut W,
     network: &Network,
     line: Line,
-    tokens: &[Carried],
+    values: &Values<'_>,
     writes: &mut C,
 ) -> Result<(), WriteFault>
     requires { IsLine network.now line }
-    ensures text { Writes (W.contents writer.old) (W.contents writer.new) result (tokens_text network.now line tokens.now) }
-    ensures few { C.count writes.new ≤ C.count writes.old + length (tokens_text network.now line tokens.now) }
+    ensures text { Writes (W.contents writer.old) (W.contents writer.new) result (values_line network.now line values.now) }
+    ensures few { C.count writes.new ≤ C.count writes.old + length (values_line network.now line values.now) }
 {
     put_head(writer, network, line, writes)?;
-    put_closing(writer, tokens, writes)
+    put_closing(writer, values, writes)
 }
 
 /// Writes a stream's line.
@@ -80,7 +80,13 @@ fn put_stream<W: Write, C: CallCount>(
     ensures text { Writes (W.contents writer.old) (W.contents writer.new) result (stream_text network.now stream.now) }
     ensures few { C.count writes.new ≤ C.count writes.old + length (stream_text network.now stream.now) }
 {
-    put_tokens(writer, network, stream.line, &stream.tokens, writes)
+    put_line_values(
+        writer,
+        network,
+        stream.line,
+        &stream.tokens.values(),
+        writes,
+    )
 }
 
 /// Returns the word for an instance's state.

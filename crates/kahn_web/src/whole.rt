@@ -42,7 +42,12 @@ fn put_history(
     ensures { Writes (Some written.old.items) (Some written.new.items) result (history_text network.now channel (slice_get run.now.channels.items channel)) }
 {
     match run.channels.get(channel) {
-        Some(stream) => write_news(written, network, Line::Channel(channel), &stream.tokens),
+        Some(stream) => write_news(
+            written,
+            network,
+            Line::Channel(channel),
+            &stream.tokens.values(),
+        ),
         None => Ok(()),
     }
 }

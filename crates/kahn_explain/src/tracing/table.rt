@@ -61,8 +61,8 @@ pub fn trace_text(alloc: Global, network: &Network, columns: &[&Stream]) -> Tabl
         text.push_str(digits.format(place as u128 + 1))?;
         for column in columns {
             text.push_str(",")?;
-            if let Some(token) = column.tokens.get(place) {
-                add_value(&mut text, token.value())?;
+            if let Some(value) = column.tokens.values().get(place) {
+                add_value(&mut text, value)?;
             }
         }
         text.push_str("\n")?;

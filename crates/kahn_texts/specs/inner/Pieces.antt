@@ -1,22 +1,22 @@
 -- Inner. The lines of streams, cut into pieces.
 use Rattle.std.specs.Prelude.{◌≡◌, ℕ, ◌<◌, List, ◌++◌, length, flat_map, replicate, All, Option, None, IfSome, slice_index_or}
 use Rattle.std.specs.{declared.alloc.Global.Global, declared.vec.Vec.Vec}
-use Rattle.kahn_streams.specs.{declared.answer.Stream.Stream, declared.tree.Program.Program, Written.line_feed}
-use Rattle.kahn_texts.specs.{Formats.IsLine, Formats.line_head, Formats.stream_text, Formats.token_text, declared.several.Made.Made, declared.pieces.Piece.Piece, declared.pieces.Piece.TheVariants.Lines, declared.pieces.Piece.TheVariants.Opening, declared.pieces.Piece.TheVariants.Middle, declared.pieces.Piece.TheVariants.Closing}
+use Rattle.kahn_streams.specs.{declared.answer.Stream.Stream, declared.tree.Program.Program, Written.line_feed, Written.spaced_text}
+use Rattle.kahn_texts.specs.{Formats.IsLine, Formats.line_head, Formats.stream_text, declared.several.Made.Made, declared.pieces.Piece.Piece, declared.pieces.Piece.TheVariants.Lines, declared.pieces.Piece.TheVariants.Opening, declared.pieces.Piece.TheVariants.Middle, declared.pieces.Piece.TheVariants.Closing}
 
 -- what a piece is of the lines' text
 abbrev pub piece_text : Program → Piece → List ℕ
 piece_text program (Lines streams) = flat_map (stream_text program) streams.now
-piece_text program (Opening line tokens) = line_head program line ++ flat_map token_text tokens.now
-piece_text program (Middle tokens) = flat_map token_text tokens.now
-piece_text program (Closing tokens) = flat_map token_text tokens.now ++ line_feed
+piece_text program (Opening line values) = line_head program line ++ flat_map spaced_text values
+piece_text program (Middle values) = flat_map spaced_text values
+piece_text program (Closing values) = flat_map spaced_text values ++ line_feed
 
 -- its lines are the network's
 abbrev pub IsPiece : Program → Piece → Type 0
 IsPiece program (Lines streams) = All (λ stream. IsLine program stream.line) streams.now
-IsPiece program (Opening line tokens) = IsLine program line
-IsPiece program (Middle tokens) = Unit {0}
-IsPiece program (Closing tokens) = Unit {0}
+IsPiece program (Opening line values) = IsLine program line
+IsPiece program (Middle values) = Unit {0}
+IsPiece program (Closing values) = Unit {0}
 
 -- the pieces one after another are the text
 abbrev pub ArePieces : Program → List Piece → List ℕ → Type 0

@@ -18,9 +18,9 @@ loop-number-preserved c =
     let place = t.here.1 in
     let long = i.long in
     let P : ℕ → Token → Type 0 = λ k x. IsOf c.args.queues.now.network c.args.queues.now.input x × (x.line ≡ Channel c.args.channel) × (x.place ≡ k) in
-    let last : P (length c.loop-number.tokens.items) c.of.result = subst (P (length c.loop-number.tokens.items)) (sym c.of.ensures) (t.names, t.here.0, omega (arith, place, long)) in
+    let last : P (length c.loop-number.tokens.items) c.token-token.result = (t.names, t.here.0, omega (arith, place, long)) in
     let grown = c.in_ok-push.ensures.items in
     record {
-      right = subst (λ ts. AreTokensOf c.args.queues.now.network c.args.queues.now.input c.args.channel ts) (sym grown) (each_push P c.loop-number.tokens.items c.of.result i.right last);
-      long = omega (arith, ap length grown ∙ length-append c.loop-number.tokens.items (c.of.result ∷ []), long);
+      right = subst (λ ts. AreTokensOf c.args.queues.now.network c.args.queues.now.input c.args.channel ts) (sym grown) (each_push P c.loop-number.tokens.items c.token-token.result i.right last);
+      long = omega (arith, ap length grown ∙ length-append c.loop-number.tokens.items (c.token-token.result ∷ []), long);
     }

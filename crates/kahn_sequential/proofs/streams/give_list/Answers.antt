@@ -14,17 +14,16 @@ tokens-smaller c =
     let token = c.in-Some.token in
     let e : c.len.result ≡ length old = search rules in
     let l = slice_get_within vs c.len.result token.value c.in-Some.ensures.token.2 in
-    let m : length c.push.new.self.items ≡ length old + 1 = ap length c.in_ok-push.ensures.items ∙ length-append old (c.of.result ∷ []) in
+    let m : length c.push.new.self.items ≡ length old + 1 = ap length c.in_ok-push.ensures.items ∙ length-append old (token ∷ []) in
     falls (length vs) (length old) (length c.push.new.self.items) (omega (arith, e, l)) (omega (arith, m))
 
 pub tokens-preserved : goal.tokens-preserved
 tokens-preserved c =
     let old = c.tokens.tokens.items in
     let e : c.len.result ≡ length old = search rules in
-    let pushed = rw c.of.ensures at c.in_ok-push.ensures.items in
     record {
       begun = begun_more (network_of c.args.network.now) (inputs_of c.args.input.now) c.args.channel (inputs_of c.args.input.now c.args.channel) old c.push.new.self.items c.in-Some.token c.len.result
-          c.tokens.invariant.begun pushed e c.in-Some.ensures.token.0 c.in-Some.ensures.token.1 c.in-Some.ensures.token.2
+          c.tokens.invariant.begun c.in_ok-push.ensures.items e c.in-Some.ensures.token.0 c.in-Some.ensures.token.1 c.in-Some.ensures.token.2
           (own_of c.args.network.now c.args.input.now c.in-Some.token c.in-Some.ensures.names);
       given = inr c.in-Some.ensures.given;
     }

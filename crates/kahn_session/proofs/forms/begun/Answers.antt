@@ -8,7 +8,7 @@ loop-line-preserved c =
     let i = c.loop-line.line-index in
     let below : i < length lines = omega (arith, c.loop-line-test.true, c.loop-line.auto.line-index-end) in
     record {
-      each = begun_next c.args.run.now.flow lines i (slice_index_or lines i (Channel 0)) c.fresh-fresh.result.now c.requires (slice_get-get_or lines i (Channel 0) below) c.fresh-fresh.ensures c.loop-line.invariant.each;
+      each = begun_next c.args.run.now.flow lines i (slice_index_or lines i (Channel 0)) c.fresh-fresh.result.now.items c.requires (slice_get-get_or lines i (Channel 0) below) c.fresh-fresh.ensures c.loop-line.invariant.each;
     }
 
 pub returns : goal.returns

@@ -23,6 +23,6 @@ returns c =
     let below = subst (λ (l : List Line). n < length l) c.lines-lines.ensures within in
     let line = slice_index_or c.lines-lines.result.now n (Channel 0) in
     let at = subst (λ (l : List Line). slice_get l n ≡ Some line) c.lines-lines.ensures (slice_get-get_or c.lines-lines.result.now n (Channel 0) within) in
-    values_new f n line c.fresh.result.now at c.fresh.ensures
+    c.values.ensures ∙ values_new f n line c.fresh.result.now.items at c.fresh.ensures
     ∙ ap (λ (l : List Line). drop (slice_index_or (map length f.out) n 0) (so_far f.run (slice_index_or l n (Channel 0)))) c.lines-lines.ensures
     ∙ sym (news_at f.run (flow_lines f.run) (map length f.out) n (Channel 0) below)

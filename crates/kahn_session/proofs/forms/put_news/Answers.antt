@@ -20,18 +20,18 @@ write_news-requires g c =
 pub returns-in_err-write_news : goal.returns-in_err-write_news
 returns-in_err-write_news g c =
     let (done, split, gone, few) = c.streams.invariant in
-    let up = moved_up c.args.network.now c.args.run.now.flow c.args.lines.now (Channel 0) c.streams.from c.in-Some.number c.fresh.result.now _ done c.requires.lines c.in-Some.ensures.0 c.in-Some.ensures.1
+    let up = moved_up c.args.network.now c.args.run.now.flow c.args.lines.now (Channel 0) c.streams.from c.in-Some.number c.fresh.result.now.items _ done c.requires.lines c.in-Some.ensures.0 c.in-Some.ensures.1
     c.in-Some.ensures.2 c.fresh.ensures split in
-    fails _ _ _ _ c.from_residual.ensures.0 (subst (AppendsFront _ _) (sym up) (goes_on_front _ _ _ done _ gone (stops _ _ _ _ c.in_err-write_news.ensures)))
+    fails _ _ _ _ c.from_residual.ensures.0 (subst (AppendsFront _ _) (sym up) (goes_on_front _ _ _ done _ gone (stops _ _ _ _ (rw c.values.ensures at c.in_err-write_news.ensures))))
 
 pub streams-preserved : goal.streams-preserved
 streams-preserved g c =
     let (done, split, gone, few) = c.streams.invariant in
-    let up = moved_up c.args.network.now c.args.run.now.flow c.args.lines.now (Channel 0) c.streams.from c.in-Some.number c.fresh.result.now _ done c.requires.lines c.in-Some.ensures.0 c.in-Some.ensures.1
+    let up = moved_up c.args.network.now c.args.run.now.flow c.args.lines.now (Channel 0) c.streams.from c.in-Some.number c.fresh.result.now.items _ done c.requires.lines c.in-Some.ensures.0 c.in-Some.ensures.1
     c.in-Some.ensures.2 c.fresh.ensures split in
     let below : c.in-Some.number < length c.args.lines.now = c.in-Some.ensures.1 in
-    let new = more_text c.args.network.now (slice_index_or c.args.lines.now c.in-Some.number (Channel 0)) (map token_value c.fresh.result.now) in
-    (done ++ new, up ∙ sym (append_assoc done new _), Appends-trans _ _ _ done new gone c.in_ok-write_news.ensures, omega (arith, below))
+    let new = more_text c.args.network.now (slice_index_or c.args.lines.now c.in-Some.number (Channel 0)) (map token_value c.fresh.result.now.items) in
+    (done ++ new, up ∙ sym (append_assoc done new _), Appends-trans _ _ _ done new gone (rw c.values.ensures at c.in_ok-write_news.ensures), omega (arith, below))
 
 pub returns : goal.returns
 returns g c =

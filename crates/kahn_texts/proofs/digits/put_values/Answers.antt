@@ -1,36 +1,39 @@
-use Rattle.kahn_texts.proofs.Common.{◌++◌, flat_map, sym, ap, subst, ◌∙◌, append_assoc, rules, flat_map-append, Appends-trans, chunks_rest, Token, AppendsFront}
-use Rattle.kahn_texts.proofs.Writing.{fails, few_on, goes_on_front, stops}
+use Rattle.kahn_texts.proofs.Common.{◌≡◌, ◌+◌, ◌≤◌, ◌++◌, length, take, drop, flat_map, sym, ap, subst, ◌∙◌, arith, flat_map-append, length-append, Appends, Appends-trans, AppendsFront, take-append-drop}
+use Rattle.kahn_texts.proofs.{Cut.taken_on, Writing.fails, Writing.few_on, Writing.goes_on_front, Writing.stops}
 use Rattle.kahn_texts.proofs.digits.put_values.Goals as goal
 
-pub loop-chunk-preserved : goal.loop-chunk-preserved
-loop-chunk-preserved g c =
-    let text_of = λ (t : Token). g.F.Layout.text t.value in
-    let (done, split, gone, few) = c.loop-chunk.invariant.4 in
-    let (size, (front, _, _)) = c.in-Some.ensures.steps in
-    let chunk = c.in-Some.chunk.now in
-    let rest = chunks_rest c.next.new.self in
-    let parts = ap (flat_map text_of) front ∙ flat_map-append text_of chunk rest in
-    let text = flat_map text_of chunk in (
-      search rules,
-      tt,
-      size ∙ c.loop-chunk.invariant.2,
-      search rules,
-      (
-        done ++ text,
-        split ∙ ap (λ l. done ++ l) parts ∙ sym (append_assoc done text (flat_map text_of rest)),
-        Appends-trans _ _ _ done text gone (rw c.place_values.ensures at c.in_ok-put.ensures.text),
-        few_on _ _ _ done text few (rw c.place_values.ensures at c.put.ensures.few),
-      ),
-    )
+pub loop-from-preserved : goal.loop-from-preserved
+loop-from-preserved g c =
+    let text_of = g.F.Layout.text in
+    let i = c.loop-from.invariant in
+    let xs = c.args.values.now in
+    let k = c.loop-from.from in
+    let first = c.split_at-2.result.0 in
+    let whole : drop k xs ≡ first ++ c.split_at-2.result.1 = sym c.split_at.ensures.back ∙ c.split_at-2.ensures.whole in
+    let taken : take (k + length first) xs ≡ take k xs ++ first = taken_on xs first c.split_at-2.result.1 k i.within whole in
+    let text : flat_map text_of (take (k + length first) xs) ≡ flat_map text_of (take k xs) ++ flat_map text_of first = ap (flat_map text_of) taken ∙ flat_map-append text_of (take k xs) first in
+    let gone = Appends-trans _ _ _ (flat_map text_of (take k xs)) (flat_map text_of first) i.gone (rw c.place_values.ensures at c.in_ok-put.ensures.text) in
+    let few = few_on _ _ _ (flat_map text_of (take k xs)) (flat_map text_of first) i.few (rw c.place_values.ensures at c.put.ensures.few) in
+    let long = ap length (sym (take-append-drop k xs)) ∙ length-append (take k xs) (drop k xs) in
+    let shorter = ap length whole ∙ length-append first c.split_at-2.result.1 in
+    record {
+      within = search rules;
+      room = search rules;
+      gone = subst (Appends _ _) (sym text) gone;
+      few = rw text few;
+    }
 
 pub returns-in_err-put-clause-text : goal.returns-in_err-put-clause-text
 returns-in_err-put-clause-text g c =
-    let text_of = λ (t : Token). g.F.Layout.text t.value in
-    let (done, split, gone, few) = c.loop-chunk.invariant.4 in
-    let (size, (front, _, _)) = c.in-Some.ensures.steps in
-    let chunk = c.in-Some.chunk.now in
-    let rest = chunks_rest c.next.new.self in
-    let parts = ap (flat_map text_of) front ∙ flat_map-append text_of chunk rest in
+    let text_of = g.F.Layout.text in
+    let i = c.loop-from.invariant in
+    let xs = c.args.values.now in
+    let k = c.loop-from.from in
+    let first = c.split_at-2.result.0 in
+    let rest = c.split_at-2.result.1 in
+    let whole : drop k xs ≡ first ++ rest = sym c.split_at.ensures.back ∙ c.split_at-2.ensures.whole in
+    let split = ap (flat_map text_of) (sym (take-append-drop k xs) ∙ ap (λ l. take k xs ++ l) whole) ∙ flat_map-append text_of (take k xs) (first ++ rest) in
+    let parts = flat_map-append text_of first rest in
     fails _ _ _ _ c.from_residual.ensures.0
-    (subst (AppendsFront _ _) (sym split) (goes_on_front _ _ _ done _ gone
+    (subst (AppendsFront _ _) (sym split) (goes_on_front _ _ _ (flat_map text_of (take k xs)) _ i.gone
     (subst (AppendsFront _ _) (sym parts) (stops _ _ _ _ (rw c.place_values.ensures at c.in_err-put.ensures.text)))))

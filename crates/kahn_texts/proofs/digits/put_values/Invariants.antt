@@ -1,14 +1,14 @@
--- What isn't of the tokens that are left went out, by at most as many writes.
-use Rattle.kahn_texts.proofs.Common.{◌≡◌, ℕ, ◌+◌, ◌≤◌, List, length, ◌++◌, flat_map, Appends, chunks_rest, chunks_size, Token}
+-- The values before this place went out, by at most as many writes as they have bytes.
+use Rattle.kahn_texts.proofs.Common.{◌≡◌, ◌+◌, ◌-◌, ◌≤◌, length, take, flat_map, Appends}
 use Rattle.kahn_texts.proofs.digits.put_values.Given as goal
 
-abbrev pub invariant-loop-chunk : goal.invariant-loop-chunk
-invariant-loop-chunk g l =
-    let text_of = λ (t : Token). g.F.Layout.text t.value in
-    (goal.iterator-loop-chunk g).can_next l.chunk-iterator
-    × (goal.iterator-loop-chunk g).is_finite l.chunk-iterator
-    × (chunks_size l.chunk-iterator ≡ 32)
-    × (length l.room ≡ 672)
-    × ((done : List ℕ) × (flat_map text_of l.tokens ≡ done ++ flat_map text_of (chunks_rest l.chunk-iterator))
-    × Appends (g.W.Write.contents l.initial.writer) (g.W.Write.contents l.writer) done
-    × (g.C.CallCount.count l.writes ≤ g.C.CallCount.count l.initial.writes + length done))
+abbrev pub invariant-loop-from : goal.invariant-loop-from
+invariant-loop-from g l = record {
+  within : l.from ≤ length l.values;
+  room : length l.room ≡ 672;
+  gone : Appends (g.W.Write.contents l.initial.writer) (g.W.Write.contents l.writer) (flat_map g.F.Layout.text (take l.from l.values));
+  few : g.C.CallCount.count l.writes ≤ g.C.CallCount.count l.initial.writes + length (flat_map g.F.Layout.text (take l.from l.values));
+}
+
+abbrev pub decreases-loop-from : goal.decreases-loop-from
+decreases-loop-from g l = length l.values - l.from

@@ -1,4 +1,4 @@
-use Rattle.kahn_code.proofs.Common.{arith, ◌≡◌, ◌<◌, ◌++◌, length, sym, ap, ◌∙◌, subst, tokens}
+use Rattle.kahn_code.proofs.Common.{arith, ◌≡◌, ◌<◌, ◌++◌, length, sym, subst, tokens}
 use Rattle.kahn_code.proofs.Behind.{fresh_of, within_behind}
 use Rattle.kahn_code.proofs.tap.Tap.fresh.Goals as goal
 
@@ -13,5 +13,5 @@ returns g c =
     let own = c.self.inside.progress in
     let gone = own.gone.value.kept in
     let lt = subst (λ v. c.args.parameter < length v.told.kept) (sym c.self.view_is) c.requires in
-    subst (λ v. tokens v.told.kept c.args.parameter ≡ tokens v.gone.kept c.args.parameter ++ c.as_slice.result.now) c.self.view_is
-    (fresh_of (λ v. v.items) gone own.kept.items c.args.parameter c.index.result.now lt c.index.ensures ∙ ap (λ l. tokens gone c.args.parameter ++ l) (sym c.as_slice.ensures.value))
+    subst (λ v. tokens v.told.kept c.args.parameter ≡ tokens v.gone.kept c.args.parameter ++ c.index.result.now.items) c.self.view_is
+    (fresh_of (λ v. v.items) gone own.kept.items c.args.parameter c.index.result.now lt c.index.ensures)

@@ -29,7 +29,7 @@ returns-in-Some c =
     let p = c.in-Some.side.instance in
     let q = c.in-Some.side.parameter in
     let d = c.in-Channel.channel in
-    let ts = c.fresh.result.now in
+    let ts = c.fresh.result.now.items in
     subst (λ (f : Flowing). AreNew f c.args.line ts) c.self.view_is
     (new_kept i.bench i.plan i.verdict (length i.given.items) c.stood.ensures.laid c.args.line d p q ts c.in-Channel.is
     (subst (λ x. channel_source (network_of x) d ≡ Written p) t c.in-Some.ensures.source)
@@ -41,14 +41,13 @@ returns-in-None c =
     let b = i.bench in
     let d = c.in-Channel.channel in
     let here = line_here b i.plan i.verdict c.args.line (subst (λ (f : Flowing). IsLineOf f.run c.args.line) (sym c.self.view_is) c.requires) in
-    rw c.deref.ensures.value
-    (subst (λ (f : Flowing). AreNew f c.args.line i.given.items) c.self.view_is
+    subst (λ (f : Flowing). AreNew f c.args.line i.given.items) c.self.view_is
     (new_given b i.plan i.verdict c.args.line d i.given.items c.in-Channel.is
-    (subst (λ x. channel_source (network_of x) d ≡ Given) (sym c.self.invariant.network) c.in-None.ensures.source) here c.self.invariant.lent))
+    (subst (λ x. channel_source (network_of x) d ≡ Given) (sym c.self.invariant.network) c.in-None.ensures.source) here c.self.invariant.lent)
 
 pub returns-in-Print : goal.returns-in-Print
 returns-in-Print c =
     let i = c.self.inside in
-    let ts = c.fresh_prints.result.now in
+    let ts = c.fresh_prints.result.now.items in
     subst (λ (f : Flowing). AreNew f c.args.line ts) c.self.view_is
     (new_printed i.bench i.plan i.verdict (length i.given.items) c.args.line c.in-Print.instance ts c.in-Print.is c.fresh_prints.ensures)
