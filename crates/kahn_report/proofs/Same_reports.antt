@@ -42,7 +42,6 @@ heads e = cc
 tails : {A : Type 0} {x y : A} {xs ys : List A} → x ∷ xs ≡ y ∷ ys → xs ≡ ys
 tails e = cc
 
-
 module _ (t u : Program) (channels : channel_names t ≡ channel_names u)
     (processes : map (λ i. string_bytes i.process.text) t.instances.items ≡ map (λ i. string_bytes i.process.text) u.instances.items) where
   same_head : (line : Line) → line_head t line ≡ line_head u line

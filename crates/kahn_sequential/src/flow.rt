@@ -117,7 +117,7 @@ fn lend(bench: &Sequential<'_>, tokens: &mut Tokens, channel: usize, place: u64,
 {
     for number in 0..values.len() {
         let token = input_token(bench, channel, place + number as u64, values[number]);
-        tokens.push_reserved(token);
+        let _pushed = tokens.push(token);
     }
 }
 

@@ -3,22 +3,20 @@
 //! In a list that is kept a token is stored as its value alone: where it stands gives its line and its place. Contracts see the
 //! tokens, so each has the same fact as the one that was put there.
 
-ghost use Rattle.std.specs.Prelude.{◌≡◌, ◌+◌, ◌<◌, ◌≤◌, ◌++◌, ◌∷◌, ◌↔◌, ◌==◌, [], if◌then◌else◌, is_ok, length, map, pos, List, vec_capacity, vec_len, IfOk, IsTrue, OnErr, OnOk};
-ghost use Rattle.kahn_streams.specs.{Arithmetic.number, Tokens.token_value, declared.token.Token.Token, declared.value.Value.TheVariants.Logical, inner.Stored.IsOneMore};
+ghost use Rattle.std.specs.Prelude.{◌≡◌, ◌+◌, ◌<◌, ◌≤◌, ◌++◌, ◌∷◌, ◌↔◌, ◌==◌, [], if◌then◌else◌, is_ok, length, map, vec_capacity, vec_len, List, IfOk, IsTrue, OnErr, OnOk};
+ghost use Rattle.kahn_streams.specs.{Tokens.token_value, declared.token.Token.Token};
 
 use crate::about::About;
 use crate::memory::NoMemory;
 use crate::token::Token;
 use crate::value::Value;
 use crate::values::Values;
-use crate::word::Word;
+use crate::word::Packed;
 use std::alloc::{Allocator, Global};
 use std::marker::Model;
 
 // A list grows by little while it is short, and then by so much that it has pages of its own: the allocator copies no short list
 // again and again, while other threads wait for it.
-const LEAST: usize = 4;
-
 const SHORT: usize = 1_024;
 
 const LONG: usize = 16_384;
@@ -41,13 +39,14 @@ impl Model for Series {
 }
 
 /// A list of tokens, stored as their values: in eight bytes while they are integers, and in nine from the first logical value
-/// on. Contracts see the tokens, and for how many more there is room.
+/// on. Contracts see the tokens, for how many more there is room, whatever they are, and for how many integers without a look.
 #[derive(Drop)]
 pub struct Tokens<A: Allocator = Global> {
+    /// The first ones, as long as all are integers.
     numbers: Vec<i64, A>,
-    /// 0 for an integer, 1 for false, 2 for true. Behind the last one all are integers. There is room for as many as numbers, and
-    /// of what isn't written no page is taken.
-    marks: Vec<u8, A>,
+    rest: Vec<Packed, A>,
+    /// While there are fewer integers than these, there is room for any token, and no rest.
+    limit: usize,
     series: About<Series>,
 }
 
@@ -55,53 +54,40 @@ impl<A: Allocator> Model for Tokens<A> {
     ghost use Rattle.kahn_streams.specs.contracts.tree.Action as action;
     ghost use Rattle.kahn_streams.specs.contracts.tree.Form as form;
     ghost use Rattle.std.specs.Coded.{codes};
-    ghost use Rattle.std.specs.Prelude.{◌-◌, vec_capacity, vec_len};
+    ghost use Rattle.std.specs.Prelude.{◌-◌, vec_len};
     ghost use Rattle.kahn_streams.specs.Tokens.{TokenList};
 
     ghost Value = { TokenList };
 
     ghost coded = { Prim.hlevel (codes, action.the_row.coded, form.the_row.coded) };
 
-    ghost use Rattle.kahn_streams.specs.inner.Stored.{AreStored};
+    ghost use Rattle.kahn_streams.specs.inner.Stored.{AreStored, IsLimit, least_room};
 
-    ghost view = { λ t. record { items = t.series.value; spare = vec_capacity t.numbers - vec_len t.numbers } };
+    ghost view = { λ t. record { items = t.series.value; spare = least_room t.numbers t.rest; ready = t.limit - vec_len t.numbers } };
 
-    ghost invariant = { λ t. AreStored t.series.value t.numbers.items t.marks.items (vec_capacity t.numbers) (vec_capacity t.marks) };
+    ghost invariant = { λ t. AreStored t.series.value t.numbers.items t.rest.items × IsLimit t.limit t.numbers t.rest };
 }
 
-// How many more items a full list of so many gets room for.
+// For how many more items at least a full list of so many gets room.
 fn growth(items: usize) -> usize
     ensures { 0 < result }
 {
-    items.max(if items < SHORT { LEAST } else { LONG })
+    if items < SHORT { 1 } else { LONG }
 }
 
-// Marks the one behind so many as this logical value, and those before it that have no mark as integers.
-#[inline(never)]
-fn mark_logical<A: Allocator>(marks: &mut Vec<u8, A>, count: usize, truth: bool)
-    requires few { vec_len marks.old ≤ count }
-    requires room { count < vec_capacity marks.old }
-    ensures few { vec_len marks.new ≡ count + 1 }
-    ensures room { vec_capacity marks.old ≤ vec_capacity marks.new }
-    ensures one { IsOneMore count (Logical truth) (pos 0) marks.old.items marks.new.items }
+// Makes room in a list. Fails only if it is full, and leaves it so.
+fn make_room<X, A: Allocator>(list: &mut Vec<X, A>) -> Result<(), NoMemory>
+    ensures items { list.new.items ≡ list.old.items }
+    ensures len { vec_len list.new ≡ vec_len list.old }
+    ensures more { vec_capacity list.old ≤ vec_capacity list.new }
+    ensures room { OnOk result (vec_len list.new < vec_capacity list.new) }
+    ensures full { OnErr result ((vec_capacity list.new ≡ vec_capacity list.old) × (vec_capacity list.old ≤ vec_len list.old)) }
 {
-    let _filled = marks.resize(count, 0);
-    marks.push_reserved(u8::from(truth) + 1);
-}
-
-// Marks the one behind so many, if it is a logical value.
-#[inline(always)]
-fn mark_word<A: Allocator>(marks: &mut Vec<u8, A>, count: usize, word: Word)
-    requires few { vec_len marks.old ≤ count }
-    requires room { count < vec_capacity marks.old }
-    ensures few { vec_len marks.new ≤ count + 1 }
-    ensures room { vec_capacity marks.old ≤ vec_capacity marks.new }
-    ensures one { IsOneMore count word (number word) marks.old.items marks.new.items }
-{
-    match word.value() {
-        Value::Integer(_) => {}
-        Value::Logical(truth) => mark_logical(marks, count, truth),
+    if list.len() < list.capacity() {
+        return Ok(());
     }
+    list.reserve(growth(list.len()))?;
+    Ok(())
 }
 
 // Tokens that the caller names. What is at hand is what the names are taken from.
@@ -115,11 +101,12 @@ fn series_of<X, Y>(_x: &X, _y: &Y) -> About<Series>
 impl<A: Allocator + Copy> Tokens<A> {
     /// An empty list. Never allocates.
     pub fn new(alloc: A) -> Tokens<A>
-        ensures { result ≡ record { items = []; spare = 0 } }
+        ensures { result ≡ record { items = []; spare = 0; ready = 0 } }
     {
         Tokens {
             numbers: Vec::new(alloc),
-            marks: Vec::new(alloc),
+            rest: Vec::new(alloc),
+            limit: 0,
             series: About::named(),
         }
     }
@@ -130,7 +117,7 @@ impl<A: Allocator> Tokens<A> {
     pub fn len(&self) -> usize
         ensures { result ≡ length self.now.items }
     {
-        self.numbers.len()
+        self.values().len()
     }
 
     /// Whether there are none.
@@ -140,12 +127,12 @@ impl<A: Allocator> Tokens<A> {
         self.len() == 0
     }
 
-    /// Whether there is room for one more.
+    /// Whether a token can be put there at once.
     #[inline(always)]
-    pub fn has_room(&self) -> bool
-        ensures { IsTrue result ↔ (0 < self.now.spare) }
+    pub fn is_ready(&self) -> bool
+        ensures { IsTrue result ↔ (0 < self.now.ready) }
     {
-        self.numbers.len() < self.numbers.capacity()
+        self.numbers.len() < self.limit
     }
 
     /// Makes room for so many more. Fails only if there wasn't, and leaves the room as it was.
@@ -153,51 +140,53 @@ impl<A: Allocator> Tokens<A> {
         ensures items { self.new.items ≡ self.old.items }
         ensures ok { OnOk result (more ≤ self.new.spare) }
         ensures full { OnErr result (self.old.spare < more) }
-        ensures room { OnErr result (self.new.spare ≡ self.old.spare) }
     {
-        let unmarked = self.numbers.len() - self.marks.len();
-        self.marks.reserve_exact(unmarked.saturating_add(more))?;
         self.numbers.reserve_exact(more)?;
+        self.rest.reserve_exact(more)?;
         Ok(())
     }
 
-    // Makes room in a full list. Fails only if the list stays full.
-    #[inline(never)]
-    fn widen(&mut self) -> Result<(), NoMemory>
-        requires { self.old.spare ≡ 0 }
-        ensures items { self.new.items ≡ self.old.items }
-        ensures ok { OnOk result (0 < self.new.spare) }
-        ensures full { OnErr result ((self.new.spare ≡ 0) × (self.new.spare ≡ self.old.spare)) }
-    {
-        let count = self.numbers.len();
-        self.reserve(growth(count))
-    }
-
-    // Makes room for one more. Fails only if the list is full, and leaves it so.
+    /// Puts a token there at once. Never allocates.
     #[inline(always)]
-    fn make_room(&mut self) -> Result<(), NoMemory>
-        ensures items { self.new.items ≡ self.old.items }
-        ensures ok { OnOk result (0 < self.new.spare) }
-        ensures full { OnErr result ((self.new.spare ≡ 0) × (self.new.spare ≡ self.old.spare)) }
-    {
-        if self.has_room() {
-            return Ok(());
-        }
-        self.widen()
-    }
-
-    /// Adds a token for which there is room. Never allocates.
-    #[inline(always)]
-    pub fn push_reserved(&mut self, token: Token)
-        requires { 0 < self.old.spare }
+    #[tactic(auto, using(crate::proofs::Stored::integer_more, crate::proofs::Stored::rest_more))]
+    pub fn put(&mut self, token: Token)
+        requires { 0 < self.old.ready }
         ensures items { self.new.items ≡ self.old.items ++ token ∷ [] }
-        ensures spare { self.old.spare ≡ self.new.spare + 1 }
+        ensures spare { self.old.spare ≤ self.new.spare + 1 }
     {
         let word = token.word();
-        let count = self.numbers.len();
-        mark_word(&mut self.marks, count, word);
-        self.numbers.push_reserved(word.number());
         self.series = series_of(&self.series, &token);
+        if let Value::Integer(number) = word.value() {
+            self.numbers.push_reserved(number);
+            return;
+        }
+        self.limit = 0;
+        self.rest.push_reserved(Packed::of(word));
+    }
+
+    // Adds a token to any list.
+    #[inline(never)]
+    #[tactic(auto, using(crate::proofs::Stored::integer_more, crate::proofs::Stored::rest_more))]
+    fn add(&mut self, token: Token) -> Result<(), NoMemory>
+        ensures items { self.new.items ≡ (if is_ok result then self.old.items ++ token ∷ [] else self.old.items) }
+        ensures full { OnErr result (self.new.spare ≡ 0) }
+        ensures room { OnErr result (self.new.spare ≡ self.old.spare) }
+        ensures spare { OnOk result (self.old.spare ≤ self.new.spare + 1) }
+    {
+        make_room(&mut self.rest)?;
+        make_room(&mut self.numbers)?;
+        let word = token.word();
+        self.series = series_of(&self.series, &token);
+        if self.rest.is_empty() {
+            if let Value::Integer(number) = word.value() {
+                self.limit = self.numbers.capacity();
+                self.numbers.push_reserved(number);
+                return Ok(());
+            }
+        }
+        self.limit = 0;
+        self.rest.push_reserved(Packed::of(word));
+        Ok(())
     }
 
     /// Adds a token. Fails only if the list is full, and leaves it so.
@@ -206,10 +195,13 @@ impl<A: Allocator> Tokens<A> {
         ensures items { self.new.items ≡ (if is_ok result then self.old.items ++ token ∷ [] else self.old.items) }
         ensures full { OnErr result (self.new.spare ≡ 0) }
         ensures room { OnErr result (self.new.spare ≡ self.old.spare) }
+        ensures spare { OnOk result (self.old.spare ≤ self.new.spare + 1) }
     {
-        self.make_room()?;
-        self.push_reserved(token);
-        Ok(())
+        if self.is_ready() {
+            self.put(token);
+            return Ok(());
+        }
+        self.add(token)
     }
 
     /// Removes all. The room stays.
@@ -217,7 +209,8 @@ impl<A: Allocator> Tokens<A> {
         ensures { self.new.items ≡ [] }
     {
         self.numbers.clear();
-        self.marks.clear();
+        self.rest.clear();
+        self.limit = 0;
         self.series = About::named();
     }
 
@@ -225,7 +218,7 @@ impl<A: Allocator> Tokens<A> {
     pub fn values(&self) -> Values<'_>
         ensures { result ≡ map token_value self.now.items }
     {
-        Values::of(&self.numbers, &self.marks)
+        Values::of(&self.numbers, &self.rest)
     }
 
     /// Copies the list. Fails only if memory was refused.
@@ -234,11 +227,14 @@ impl<A: Allocator> Tokens<A> {
     {
         let mut numbers = Vec::with_capacity(alloc, self.numbers.len())?;
         numbers.extend_from_slice(&self.numbers)?;
-        let mut marks = Vec::with_capacity(alloc, numbers.capacity())?;
-        marks.extend_from_slice(&self.marks)?;
+        let mut rest = Vec::with_capacity(alloc, self.rest.len())?;
+        for packed in self.rest.iter() {
+            rest.push(Packed::of(packed.word()))?;
+        }
         Ok(Tokens {
             numbers,
-            marks,
+            rest,
+            limit: 0,
             series: series_of(&self.series, &self.series),
         })
     }

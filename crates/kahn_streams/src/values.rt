@@ -1,40 +1,17 @@
 //! The values of tokens in a list.
 
-ghost use Rattle.std.specs.Prelude.{◌≡◌, ◌==◌, ◌≤◌, ◌++◌, length, take, drop, slice_get, slice_index_or, []};
-ghost use Rattle.kahn_streams.specs.inner.Stored.{value_by, values_in};
+ghost use Rattle.std.specs.Prelude.{◌≡◌, ◌==◌, ◌≤◌, ◌++◌, length, take, drop, slice_get, []};
+ghost use Rattle.kahn_streams.specs.{inner.Stored.values_in};
 
 use crate::value::Value;
+use crate::word::Packed;
 use std::marker::Model;
-
-/// The value of a number and its mark: 0 for an integer, 1 for false, 2 for true.
-#[inline(always)]
-fn value_by(number: &i64, mark: u8) -> Value
-    ensures { result ≡ value_by number.now mark }
-{
-    if mark == 0 {
-        Value::Integer(*number)
-    } else {
-        Value::Logical(mark == 2)
-    }
-}
-
-/// The mark at a place; that of an integer behind the last one.
-#[inline(always)]
-fn mark_at(marks: &[u8], place: usize) -> u8
-    ensures { result ≡ slice_index_or marks.now place 0 }
-{
-    match marks.get(place) {
-        Some(mark) => *mark,
-        None => 0,
-    }
-}
 
 /// Values of tokens that follow one another in a list. Contracts see the values.
 #[derive(Drop)]
 pub struct Values<'a> {
     numbers: &'a [i64],
-    /// Of the first numbers; all behind are of integers.
-    marks: &'a [u8],
+    rest: &'a [Packed],
 }
 
 impl<'a> Model for Values<'a> {
@@ -45,25 +22,22 @@ impl<'a> Model for Values<'a> {
 
     ghost use Rattle.kahn_streams.specs.inner.Stored.{values_in};
 
-    ghost view = { λ v. values_in v.numbers.now v.marks.now };
+    ghost view = { λ v. values_in v.numbers.now v.rest.now };
 }
 
 impl<'a> Values<'a> {
-    /// The values of these numbers and marks.
-    pub(crate) fn of(numbers: &'a [i64], marks: &'a [u8]) -> Values<'a>
-        ensures { result ≡ values_in numbers.now marks.now }
+    /// These integers, and then the rest.
+    pub(crate) fn of(numbers: &'a [i64], rest: &'a [Packed]) -> Values<'a>
+        ensures { result ≡ values_in numbers.now rest.now }
     {
-        Values { numbers, marks }
+        Values { numbers, rest }
     }
 
     /// No values.
     pub fn none() -> Values<'a>
         ensures { result ≡ [] }
     {
-        Values {
-            numbers: &[],
-            marks: &[],
-        }
+        Values::of(&[], &[])
     }
 
     /// Returns how many there are.
@@ -72,44 +46,45 @@ impl<'a> Values<'a> {
     pub fn len(&self) -> usize
         ensures { result ≡ length self.now }
     {
-        self.numbers.len()
+        self.numbers.len() + self.rest.len()
     }
 
     /// Whether there are none.
-    #[tactic(auto, using(crate::proofs::Stored::values_length))]
     pub fn is_empty(&self) -> bool
         ensures { result ≡ (length self.now == 0) }
     {
-        self.numbers.is_empty()
+        self.len() == 0
     }
 
     /// Returns the value at a place, if there is one.
     #[inline(always)]
-    #[tactic(auto, using(crate::proofs::Stored::value_at, crate::proofs::Stored::value_past))]
+    #[tactic(auto, using(crate::proofs::Stored::value_at, crate::proofs::Stored::value_behind))]
     pub fn get(&self, place: usize) -> Option<Value>
         ensures { result ≡ slice_get self.now place }
     {
-        match self.numbers.get(place) {
-            Some(number) => Some(value_by(number, mark_at(self.marks, place))),
+        if place < self.numbers.len() {
+            return Some(Value::Integer(self.numbers[place]));
+        }
+        match self.rest.get(place - self.numbers.len()) {
+            Some(packed) => Some(packed.word().value()),
             None => None,
         }
     }
 
     /// Returns the first `count` values and those behind them.
+    #[tactic(auto, using(crate::proofs::Stored::values_length, crate::proofs::Stored::values_taken, crate::proofs::Stored::values_dropped))]
     pub fn split_at(&self, count: usize) -> (Values<'a>, Values<'a>)
         requires { count ≤ length self.now }
         ensures front { result.0 ≡ take count self.now }
         ensures back { result.1 ≡ drop count self.now }
         ensures whole { self.now ≡ result.0 ++ result.1 }
     {
-        let (numbers, later_numbers) = self.numbers.split_at(count);
-        let (marks, later_marks) = self.marks.split_at(count.min(self.marks.len()));
+        let integers = count.min(self.numbers.len());
+        let (numbers, later_numbers) = self.numbers.split_at(integers);
+        let (rest, later_rest) = self.rest.split_at(count - integers);
         (
-            Values { numbers, marks },
-            Values {
-                numbers: later_numbers,
-                marks: later_marks,
-            },
+            Values::of(numbers, rest),
+            Values::of(later_numbers, later_rest),
         )
     }
 }

@@ -1,5 +1,5 @@
 use Rattle.kahn_sequential.proofs.Common.{arith}
 use Rattle.kahn_sequential.proofs.flow.lend.Goals as goal
 
-pub push_reserved-requires : goal.push_reserved-requires
-push_reserved-requires c = omega (arith, c.loop-number-test.true, c.loop-number.invariant.room, c.requires.room)
+pub push-requires : goal.push-requires
+push-requires c = omega (arith, c.loop-number-test.true, c.loop-number.invariant.room, c.requires.room)

@@ -1,5 +1,5 @@
 use Rattle.kahn_streams.proofs.Common.{◌++◌, ◌∷◌, []}
-use Rattle.kahn_streams.proofs.tokens.Tokens.push_reserved.Given as goal
+use Rattle.kahn_streams.proofs.tokens.Tokens.put.Given as goal
 
 abbrev pub ghost-series_of : goal.ghost-series_of
 ghost-series_of g a = a._x.now.value ++ a._y.now ∷ []
