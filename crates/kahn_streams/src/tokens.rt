@@ -11,12 +11,14 @@ use crate::memory::NoMemory;
 use crate::token::Token;
 use crate::value::Value;
 use crate::values::Values;
-use crate::word::Packed;
+use crate::word::{Packed, Word};
 use std::alloc::{Allocator, Global};
 use std::marker::Model;
 
 // A list grows by little while it is short, and then by so much that it has pages of its own: the allocator copies no short list
 // again and again, while other threads wait for it.
+const LEAST: usize = 16;
+
 const SHORT: usize = 1_024;
 
 const LONG: usize = 16_384;
@@ -72,7 +74,7 @@ impl<A: Allocator> Model for Tokens<A> {
 fn growth(items: usize) -> usize
     ensures { 0 < result }
 {
-    if items < SHORT { 1 } else { LONG }
+    if items < SHORT { LEAST } else { LONG }
 }
 
 // Makes room in a list. Fails only if it is full, and leaves it so.
@@ -88,6 +90,17 @@ fn make_room<X, A: Allocator>(list: &mut Vec<X, A>) -> Result<(), NoMemory>
     }
     list.reserve(growth(list.len()))?;
     Ok(())
+}
+
+// Adds a value to the rest, where there is room.
+#[inline(never)]
+fn put_behind<A: Allocator>(rest: &mut Vec<Packed, A>, word: Word)
+    requires { vec_len rest.old < vec_capacity rest.old }
+    ensures items { rest.new.items ≡ rest.old.items ++ word ∷ [] }
+    ensures len { vec_len rest.new ≡ vec_len rest.old + 1 }
+    ensures room { vec_capacity rest.new ≡ vec_capacity rest.old }
+{
+    rest.push_reserved(Packed::of(word));
 }
 
 // Tokens that the caller names. What is at hand is what the names are taken from.
@@ -161,7 +174,7 @@ impl<A: Allocator> Tokens<A> {
             return;
         }
         self.limit = 0;
-        self.rest.push_reserved(Packed::of(word));
+        put_behind(&mut self.rest, word);
     }
 
     // Adds a token to any list.
@@ -185,7 +198,7 @@ impl<A: Allocator> Tokens<A> {
             }
         }
         self.limit = 0;
-        self.rest.push_reserved(Packed::of(word));
+        put_behind(&mut self.rest, word);
         Ok(())
     }
 
