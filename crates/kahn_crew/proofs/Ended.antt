@@ -1,5 +1,5 @@
 -- What a closed board says of a run.
-use Rattle.kahn_crew.proofs.Common.{none-some, same_Some, append-nil, ◌++◌, reverse, arith, ◌≡◌, ◌⊎◌, inl, inr, ⊎_elim, ℕ, zero, suc, ◌+◌, ◌<◌, ◌≤◌, true, false, List, [], ◌∷◌, length, sum_by, refl, sym, ap, ◌∙◌, subst, Ok, Err, OnOk, Option, Result, Some, slice_get, some, get_elem?, sum_by-cons, slice_get_within, Program, Schema, Reads, Writes, Given, channel_source, network_of, instance_at, actual_at, role_at, IsWellWired, Lists, is_output, count, end_at, Work, belongs, dealt, wired, events_told, wires, Terms, SeatView, AreReadyTasks, HasBegun, IsTaskOf, Tasked, Continues, IsLater, count_on, handed_to_task, read_by, reads_at, told_tale, waits_on, writes_at, wrote_by, no_writer, ClosesBoard, below}
+use Rattle.kahn_crew.proofs.Common.{none-some, same_Some, append-nil, ◌++◌, reverse, arith, ◌≡◌, ◌⊎◌, inl, inr, ⊎_elim, ℕ, zero, suc, ◌+◌, ◌<◌, ◌≤◌, true, false, List, [], ◌∷◌, length, sum_by, refl, sym, ap, ◌∙◌, subst, Ok, Err, Option, Result, Some, slice_get, some, get_elem?, sum_by-cons, slice_get_within, Program, Schema, Reads, Writes, Given, channel_source, network_of, instance_at, actual_at, role_at, IsWellWired, Lists, is_output, count, end_at, Work, belongs, dealt, wired, events_told, wires, Terms, SeatView, AreReadyTasks, HasBegun, IsTaskOf, Tasked, Continues, IsLater, count_on, handed_to_task, read_by, reads_at, told_tale, waits_on, writes_at, wrote_by, no_writer, ClosesBoard, below}
 use Rattle.kahn_streams.specs.declared.tree.Role.{Role}
 use Rattle.kahn_board.specs.declared.closing.Closed.{Closed}
 use Rattle.std.specs.Prelude.{IfErr}
@@ -227,12 +227,6 @@ untouched_here same left = record {
   unused = left;
   cells = λ p x y e f. ap (λ (z : Tasked). z.work.cell) (sym (same_Some _ _ (sym e ∙ subst (λ (l : List Tasked). slice_get l p ≡ Some y) same f)));
 }
-
--- ---- of a run that was done, or that was given up
-
-pub on_ok : {A E P Q : Type 0} (r : Result A E) → (P → Q) → OnOk r P → OnOk r Q
-on_ok (Ok v) f h = f h
-on_ok (Err e) f h = h
 
 -- a lack of fewer workers is one of more
 pub lack_of : {A : Type 0} (r : Result A CrewFault) {few many : ℕ} → few ≤ many → IfErr r (IsLack few) → IfErr r (IsLack many)

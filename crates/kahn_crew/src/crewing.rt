@@ -1,6 +1,6 @@
 //! Who works on a run, and for how long.
 
-ghost use Rattle.std.specs.Prelude.{◌≡◌, ◌⊎◌, ◌<◌, ◌≤◌, max, min};
+ghost use Rattle.std.specs.Prelude.{◌≡◌, ◌⊎◌, ◌<◌, max, min};
 ghost use Rattle.kahn_crew.specs.inner.Planned.{IsCrew, crew_of, plan_of_crew};
 
 use kahn_streams::{Config, Gate, Plan};

@@ -83,14 +83,8 @@ impl Hints {
     }
 }
 
-/// The hints of all workers, which name each instance once, each with room for all. Neighbours, which often send to one another, begin with one worker. Fails only
-/// if memory was refused.
-pub(crate) fn first_hints(
-    alloc: Global,
-    workers: usize,
-    instances: usize,
-) -> Result<Vec<Hints>, NoMemory>
-    requires { 0 < workers }
+// Hints for each worker, each with room for a hint of every instance.
+fn bare_hints(alloc: Global, workers: usize, instances: usize) -> Result<Vec<Hints>, NoMemory>
     ensures { IfOk result (λ v. length v.items ≡ workers) }
 {
     let mut all = Vec::with_capacity(alloc, workers)?;
@@ -103,6 +97,20 @@ pub(crate) fn first_hints(
             wanted: false,
         });
     }
+    Ok(all)
+}
+
+/// The hints of all workers, which name each instance once. Neighbours, which often send to one another, begin with one worker. Fails only
+/// if memory was refused.
+pub(crate) fn first_hints(
+    alloc: Global,
+    workers: usize,
+    instances: usize,
+) -> Result<Vec<Hints>, NoMemory>
+    requires { 0 < workers }
+    ensures { IfOk result (λ v. length v.items ≡ workers) }
+{
+    let mut all = bare_hints(alloc, workers, instances)?;
     for worker in 0..workers {
         for other in 0..workers {
             if other != worker {

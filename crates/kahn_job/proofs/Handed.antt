@@ -1,6 +1,7 @@
 -- The ends of a channel come to the parameters that it is handed to.
 use Rattle.kahn_job.proofs.Common.{arith, ◌≡◌, ◌⊎◌, inl, inr, ℕ, ◌+◌, ◌<◌, List, [], length, refl, sym, ap, ◌∙◌, subst, Option, Some, None, IfSome, slice_set, slice_index_or, cases_eq, length-set, get_or-set_same, get_or-set_other, none-some, same_Some, Program, Role, Side, Inner, Input, Output, Schema, Actual, Reads, Writes, Hands, network_of, instance_at, actual_at, role_at, IsWriter, IsReader, IsOnly, IsWithin, IsWellWired, side_at, IsFed, handed_within, reads, writes, Joins, TaskEnd, ShareLane, end_at, AreJoinedOn, HasPlace, end_in, AreEndsSo, no_end, placed}
 use Rattle.kahn_job.proofs.Settles.{is_inner}
+use Rattle.kahn_job.specs.inner.Words.{Waiting, given_of, taken_of, waiting_of}
 
 -- a row for each instance, in which the parameters have the ends of the first k channels, and what is so of those and of all
 pub record AreHanded (t : Program) (so : Actual → TaskEnd → Type 0) (whole : TaskEnd → Type 0) (k : ℕ) (rows : List (List TaskEnd)) : Type 0 where
@@ -78,6 +79,11 @@ only_passes P (Some u) s one e = subst P (same_Some _ _ e) one.0
 
 pub inner_is_not_input : {r : Role} → r ≡ Inner → r ≡ Input → ⊥
 inner_is_not_input a b = let e : Inner ≡ Input = sym a ∙ b in absurd cc
+
+-- what was given to a queue was taken or waits
+pub given_is : (o : Option Waiting) → given_of o ≡ taken_of o + waiting_of o
+given_is None = refl
+given_is (Some w) = refl
 
 module _ (t : Program) (wired : IsWellWired t) (so : Actual → TaskEnd → Type 0) (whole : TaskEnd → Type 0) (c : ℕ) (x y : TaskEnd) (e : AreEndsSo t so whole c x y) where
   abbrev N : Schema

@@ -1,6 +1,6 @@
 -- Inner. How the tasks of a run stand once all workers have left, and why they leave nothing (this project's profile).
 use Rattle.std.specs.Prelude.{◌≡◌, ◌⊎◌, ◌+◌, ◌<◌}
-use Rattle.kahn_crew.specs.inner.Words.{ℕ, Bool, true, List, length, sum_by, Option, Some, slice_get, Program, Input, Reads, Writes, network_of, role_at, Lists, inputs_of, count, events_told, Terms, Tasked, Continues, RunFault}
+use Rattle.kahn_crew.specs.inner.Words.{ℕ, Bool, true, List, length, sum_by, Option, Some, slice_get, Program, Input, Reads, Writes, network_of, role_at, Lists, inputs_of, count, events_told, Tasked, Continues, RunFault}
 use Rattle.kahn_crew.specs.{declared.opening.CrewFault.CrewFault, declared.opening.Left.Left, inner.Tasks.AreReadyTasks, inner.Tasks.handed_to_task, inner.Tasks.is_over, inner.Tasks.told_tale}
 use Rattle.kahn_crew.specs.declared.opening.CrewFault.TheVariants as fault
 use Rattle.kahn_streams.specs.declared.fault.RunFault.TheVariants as run

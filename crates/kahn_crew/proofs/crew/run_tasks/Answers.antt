@@ -1,5 +1,6 @@
-use Rattle.kahn_crew.proofs.Common.{arith, length, refl, ap, ◌∙◌, ◌≡◌, Sat, Tasked}
-use Rattle.kahn_crew.proofs.{Ended.have_gone, Ended.instances_of, Ended.is_over, Ended.lack_of, Ended.on_ok, Ended.unboxed, Ended.untouched, Ended.untouched_gone, Ended.untouched_here, Started.fits_of}
+use Rattle.std.proofs.lemmas.Result.{on_ok_weaker}
+use Rattle.kahn_crew.proofs.Common.{arith, length, refl, ap, ◌∙◌, Sat, Tasked}
+use Rattle.kahn_crew.proofs.{Ended.have_gone, Ended.instances_of, Ended.is_over, Ended.lack_of, Ended.unboxed, Ended.untouched, Ended.untouched_gone, Ended.untouched_here, Started.fits_of}
 use Rattle.kahn_streams.specs.declared.plan.Plan.{Plan}
 use Rattle.kahn_crew.proofs.crew.run_tasks.Goals as goal
 
@@ -31,13 +32,13 @@ returns-clause-gone g c =
 pub returns-clause-over : goal.returns-clause-over
 returns-clause-over g c =
     let o = c.in-Ok.ensures in
-    on_ok c.run_workers-outcome.result.0 (is_over c.program-program.ensures.wired o.begun c.close-closed.ensures (unboxed _ _ _ o.room.0 c.unbox_all.ensures) o.key)
+    on_ok_weaker c.run_workers-outcome.result.0 (is_over c.program-program.ensures.wired o.begun c.close-closed.ensures (unboxed _ _ _ o.room.0 c.unbox_all.ensures) o.key)
     c.run_workers-outcome.ensures.left
 
 pub returns-clause-cause : goal.returns-clause-cause
 returns-clause-cause g c =
     let r = c.close-closed.ensures.halt_raised in
-    on_ok c.run_workers-outcome.result.0 (λ h. ((λ yes. h.0 (r.1 yes)), λ yes. r.0 (h.1 yes))) c.run_workers-outcome.ensures.cause
+    on_ok_weaker c.run_workers-outcome.result.0 (λ h. ((λ yes. h.0 (r.1 yes)), λ yes. r.0 (h.1 yes))) c.run_workers-outcome.ensures.cause
 
 pub returns-clause-wants : goal.returns-clause-wants
 returns-clause-wants g c = lack_of c.run_workers-outcome.result.0 (omega (arith, c.in-Ok.ensures.hints, c.requires.crew.1)) c.run_workers-outcome.ensures.lack

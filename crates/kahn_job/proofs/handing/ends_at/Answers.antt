@@ -1,20 +1,23 @@
-use Rattle.kahn_job.proofs.Common.{arith, rules, ◌≡◌, false, true, refl, sym, ap, subst, Some, receiver_lane, AreEndsAt, putting}
-use Rattle.kahn_job.proofs.Handed.{inner_is_not_input}
+use Rattle.kahn_job.proofs.Common.{arith, rules, ◌≡◌, ◌∙◌, false, true, refl, ap, sym, slice_get, Some, receiver_lane, sent}
+use Rattle.kahn_job.proofs.Handed.{given_is, inner_is_not_input}
+use Rattle.kahn_job.specs.inner.Words.{given_of}
 use Rattle.kahn_job.proofs.handing.ends_at.Goals as goal
 
-pub returns-in_ok-sender-in-Inner : goal.returns-in_ok-sender-in-Inner
-returns-in_ok-sender-in-Inner c =
-    let s = c.in_ok-sender-in-Inner.sender in
-    let r = c.in_ok-sender-in-Inner.receiver in
-    let h = c.in_ok-sender-in-Inner.ensures in
-    subst (λ x. AreEndsAt c.args.network.now c.args.input.now c.args.queues.now.queues c.args.channel x c.takes.result) (sym c.puts.ensures)
-    (subst (λ y. AreEndsAt c.args.network.now c.args.input.now c.args.queues.now.queues c.args.channel (putting s) y) (sym c.takes.ensures)
-    (record {
-      puts = λ n. (λ o. (refl, h.sender), λ o. h.given.0);
-      takes = λ n. ((refl, h.receiver, λ i. absurd (inner_is_not_input (search rules) i)), h.taken);
-      lane = λ i. (receiver_lane r, ap Some h.lane, refl);
+pub returns-in_ok-_flushed-in-Inner : goal.returns-in_ok-_flushed-in-Inner
+returns-in_ok-_flushed-in-Inner c =
+    let opened = c.in-Ok.ensures in
+    let i = c.loop-number.invariant in
+    let f = c.flush.ensures in
+    let all = c.in_ok-_flushed-in-Inner.ensures.flushed.1 in
+    let queue = slice_get c.args.queues.now.queues c.args.channel in
+    let given : sent c.loop-number.sender ≡ given_of queue =
+    omega (arith, given_is queue, i.sent, c.taken-taken.ensures, c.waiting-number-end.ensures, c.loop-number.auto.number-end, c.loop-number-test.false) in
+    rw (c.puts.ensures, c.takes.ensures) (record {
+      puts = λ n. (λ o. (refl, f.same.0.1 ∙ i.name), λ o. f.same.1 ∙ given);
+      takes = λ n. ((refl, opened.name.1, λ e. absurd (inner_is_not_input (search rules) e)), opened.start.2 ∙ c.taken-taken.ensures);
+      lane = λ e. (receiver_lane c.in-Ok.receiver, ap Some (f.same.0.0 ∙ i.lane), refl);
       every = (
-        (let e = h.given.1 in omega (arith, e), λ w. h.given.1),
+        (omega (arith, all, f.same.1), λ w. all ∙ sym f.same.1),
         (omega arith, λ w. let never : false ≡ true = w in absurd cc),
       );
-    }))
+    })

@@ -1,4 +1,4 @@
-use Rattle.kahn_job.proofs.Common.{arith, ◌≡◌, ◌∙◌, ap, subst, sym, Actual, Reads, Writes, Side, actual_at, instance_at, network_of, IsBehind, rows_of}
+use Rattle.kahn_job.proofs.Common.{arith, end_of_side, ◌≡◌, ◌∙◌, ap, subst, sym, Actual, Reads, Writes, Side, actual_at, instance_at, network_of, IsBehind, rows_of}
 use Rattle.kahn_job.specs.inner.Ends.{MayMeet}
 use Rattle.kahn_job.proofs.{Exchanged.stayed, Settles.can_settle, Settles.none_reads, Settles.none_writes, Settles.on_only}
 use Rattle.kahn_job.proofs.settling.meet_on.Goals as goal
@@ -21,17 +21,17 @@ returns-in-Some-reader-clause-met c =
     let here : Side → Actual = λ s. actual_at (instance_at (network_of c.args.network.now) s.instance) s.parameter in
     record {
       cells = gave.ensures.cells ∙ took.ensures.cells;
-      rows = stayed (rows_of c.args.idles.now.items) (rows_of took.new.idles.items) (rows_of gave.new.idles.items) c.in-Some.writer c.in-Some-reader.reader ((omega (arith, w.0, rest.count), omega (arith, w.0, rest.sizes c.in-Some.writer.instance)), omega (arith, r.0, rest.count), omega (arith, r.0, rest.sizes c.in-Some-reader.reader.instance))
+      rows = stayed (rows_of c.args.idles.now.items) (rows_of took.new.idles.items) (rows_of gave.new.idles.items) c.in-Some.writer c.in-Some-reader.reader ((omega (arith, w.0, rest.count), omega (arith, w.0, rest.sizes c.in-Some.writer.instance)), (omega (arith, r.0, rest.count), omega (arith, r.0, rest.sizes c.in-Some-reader.reader.instance)))
           (λ e. let no : Writes c.args.channel ≡ Reads c.args.channel = sym w.1 ∙ ap here e ∙ r.1 in absurd cc)
-          c.nothing.result c.nothing-2.result took.result.0 took.result.1 c.meet-sender.result.0 c.meet-sender.result.1 took.ensures.rows took.ensures.ends
+          c.nothing.result c.nothing-in-Some-reader.result took.result.0 took.result.1 c.meet-sender.result.0 c.meet-sender.result.1 took.ensures.rows took.ensures.ends
           gave.ensures.rows c.meet-sender.ensures.stayed;
     }
 
 pub returns-in-Some-reader-clause-behind : goal.returns-in-Some-reader-clause-behind
 returns-in-Some-reader-clause-behind c =
-    let ends = c.exchange_two-sender.ensures.ends in
+    let took = c.exchange_two-sender in
     on_only IsBehind (network_of c.args.network.now) c.args.channel (rows_of c.args.idles.now.items) c.in-Some.writer c.in-Some-reader.reader c.in-Some.ensures.only
-    c.in-Some-reader.ensures.only (subst (λ x. IsBehind x _) ends.0 (subst (IsBehind _) ends.1 c.meet-sender.ensures.behind))
+    c.in-Some-reader.ensures.only (subst (λ x. IsBehind x (end_of_side (rows_of c.args.idles.now.items) c.in-Some-reader.reader)) took.ensures.ends.0 (subst (IsBehind took.result.0) took.ensures.ends.1 c.meet-sender.ensures.behind))
 
 pub returns-in_default-reader-clause-behind : goal.returns-in_default-reader-clause-behind
 returns-in_default-reader-clause-behind c =

@@ -1,5 +1,5 @@
 use Rattle.std.proofs.Common.{arith, rules}
-use Rattle.kahn_lane.proofs.Common.{subst, sym, ◌∙◌, IsGrown, LaneName, StandFrom}
+use Rattle.kahn_lane.proofs.Common.{subst, sym, ◌∙◌, IsGrown, LaneName, Some, StandFrom, moved_to, tag_name}
 use Rattle.kahn_lane.proofs.Places.{same_name}
 use Rattle.kahn_lane.proofs.settling.settle.Goals as goal
 
@@ -21,7 +21,7 @@ pub invariant_of-behind-clause-placed : goal.invariant_of-behind-clause-placed
 invariant_of-behind-clause-placed g c =
     let tokens = c.gather-tokens in
     subst (λ n. StandFrom n c.taken-taken.result tokens.result.items) (sym c.in-Ok.ensures.name.1)
-    (subst (λ k. StandFrom _ k tokens.result.items) (sym c.taken-taken.ensures) tokens.ensures.placed)
+    (subst (λ k. StandFrom (Some (moved_to c.args.input.now (tag_name c.args.sender.tag))) k tokens.result.items) (sym c.taken-taken.ensures) tokens.ensures.placed)
 
 pub invariant_of-behind-clause-within : goal.invariant_of-behind-clause-within
 invariant_of-behind-clause-within g c = omega (arith, c.in-Ok.behind.within, c.in-Ok.ensures.dry)
