@@ -27,3 +27,4 @@ pub mod Flowed
 pub mod Poured_in
 pub mod Watching
 pub mod Recording
+pub mod Added

@@ -1,6 +1,6 @@
 //! Runs on one thread that are fed as they go, and let go of what they kept.
 
-ghost use Rattle.std.specs.Prelude.{◌≡◌, ◌↔◌, ℕ, ◌+◌, ◌++◌, ◌<◌, ◌≤◌, ◌^◌, [], Some, length, map, slice_get, sum_by, false, true, vec_capacity, IfOk, IsTrue, MatchResult, OnOk};
+ghost use Rattle.std.specs.Prelude.{◌≡◌, ◌↔◌, ℕ, ◌+◌, ◌++◌, ◌∷◌, ◌<◌, ◌≤◌, ◌^◌, [], Some, length, map, slice_get, sum_by, false, true, vec_capacity, IfOk, IsTrue, MatchResult, OnOk};
 ghost use Rattle.kahn_sequential.specs.inner.Below.{Holds, Input as InputRole, Names, Value as ValueOf, Verdict as VerdictOf, inputs_of, is_watched, network_of, role_at, stream_lines, token_value};
 ghost use Rattle.kahn_sequential.specs.HeldRuns.{IsLineOf, IsRightSoFar, IsUnstarted, seen_events};
 ghost use Rattle.kahn_sequential.specs.Flows.{AreNew, HasFlowed, HasLetGo, HasPouredIn, IsNotRun, IsRunOn, IsStale, IsUnpoured};
@@ -89,6 +89,16 @@ fn make_room(tokens: &mut Tokens, count: usize) -> Result<(), NoMemory>
     Ok(())
 }
 
+// Adds a token for which there is room.
+#[tactic(auto, using(crate::proofs::Added::added, crate::proofs::Added::room_after))]
+fn add_one(tokens: &mut Tokens, token: Token)
+    requires { 0 < tokens.old.spare }
+    ensures items { tokens.new.items ≡ tokens.old.items ++ token ∷ [] }
+    ensures room { tokens.old.spare ≤ tokens.new.spare + 1 }
+{
+    let _pushed = tokens.push(token);
+}
+
 // The token of a value that stands there, for the names of what is at hand.
 fn token_for(_bench: &Sequential<'_>, channel: usize, place: u64, value: Word) -> Token
     ghost names: { Names }
@@ -117,7 +127,7 @@ fn lend(bench: &Sequential<'_>, tokens: &mut Tokens, channel: usize, place: u64,
 {
     for number in 0..values.len() {
         let token = input_token(bench, channel, place + number as u64, values[number]);
-        let _pushed = tokens.push(token);
+        add_one(tokens, token);
     }
 }
 
