@@ -8,7 +8,7 @@ loop-rest-init c =
     let head = line_head c.args.network.now c.args.stream.now.line in
     let first = c.split_at-first.result.0 in
     let rest = c.split_at-first.result.1 in
-    let split : values_of c.args.stream.now ≡ first ++ rest = sym c.values.ensures ∙ c.split_at-first.ensures.whole in
+    let split : values_of c.args.stream.now ≡ first ++ rest = sym c.values-values.ensures ∙ c.split_at-first.ensures.whole in
     (head ++ flat_map spaced_text first, c.in_ok-add.ensures, part_on head _ (values_of c.args.stream.now) first rest split refl)
 
 pub loop-rest-preserved : goal.loop-rest-preserved
