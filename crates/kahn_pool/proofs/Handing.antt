@@ -87,14 +87,18 @@ pub few_first : (s : RunState) → all_events s ≡ 0 → (p : ℕ) → events_a
 few_first s none p = let most = one_of_sum view_events s.cells p no_view refl in omega (arith, most, none)
 
 -- the cells of this input for this input
-pub same_input : (lists : Lists) (cells : List CellView) → ((p : ℕ) (c : CellView) → slice_get cells p ≡ Some c → c.input ≡ lists) → map (cell_for lists) cells ≡ cells
+same_input : (lists : Lists) (cells : List CellView) → ((p : ℕ) (c : CellView) → slice_get cells p ≡ Some c → c.input ≡ lists) → map (cell_for lists) cells ≡ cells
 same_input lists [] h = refl
 same_input lists (c ∷ cells) h =
     ap (λ (d : CellView). d ∷ map (cell_for lists) cells) (λ i. record c { input = sym (h zero c refl) i }) ∙ ap (λ l. c ∷ l) (same_input lists cells (λ p d e. h (suc p) d e))
 
--- a bench whose cells came back as they were
-pub seated_again : (b : Table) → IsLaid b → AreWhole (length (network_of b.network).instances) b.gone → (cells : List CellView) → cells ≡ b.cells → seated_with (vacant_of b) cells ≡ b
-seated_again b laid whole cells same = λ i. record b { cells = same i; gone = gone i }
+-- a bench whose cells came back as they were, for its input
+pub seated_again : (b : Table) → IsLaid b → AreWhole (length (network_of b.network).instances) b.gone → (lists : Lists) → b.input ≡ lists → (v : Table) → v ≡ vacant_of b →
+    (cells : List CellView) → cells ≡ map (cell_for lists) b.cells → seated_with v cells ≡ b
+seated_again b laid whole lists to v is cells came = ap (λ (v : Table). seated_with v cells) is ∙ λ i. record b { cells = same i; gone = gone i }
   where
+    same : cells ≡ b.cells
+    same = came ∙ same_input lists b.cells (λ p d e. (laid.each p d e).input ∙ to)
+
     gone : replicate (length cells) nothing_gone ≡ b.gone
     gone = ap (λ n. replicate n nothing_gone) (ap (λ (l : List CellView). length l) same ∙ laid.count) ∙ sym whole

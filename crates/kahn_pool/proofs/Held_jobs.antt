@@ -1,7 +1,8 @@
 -- The jobs of a held run: how they become tasks, and how tasks come to rest.
-use Rattle.std.specs.Prelude.{◌↔◌}
+use Rattle.std.specs.Result.{result_and}
+use Rattle.std.specs.Prelude.{◌↔◌, IfErr, MatchResult, Ok, OnOk}
 use Rattle.kahn_streams.specs.declared.answer.Verdict.TheVariants as verdict
-use Rattle.kahn_pool.proofs.Common.{false, true, arith, IsVerdict, ◌≡◌, ℕ, ◌+◌, List, length, map, sum_by, sym, ap, ◌∙◌, subst, Some, slice_get, Bool, Option, Result, Err, length-map, Program, network_of, AreInputsExtended, Lists, inputs_of, StoodBy, CellView, told_view, AreIdle, AreJoinedJobs, HaveMet, cells_of, rows_of, AreJoinedOn, IsJob, Work, all_idle, idle_grown, idle_met, events_told, woken_task, Tasked, AreUntouched, HaveGone, task_events, told_tale, work_of, all_told, at_mapped, mapped_at, IsConcluded, seen_of, AreEnded, AreHeld, AreHeldBy, HasEnded, HasRisen, HasStoppedPart, HaveRisen, cell_alone, cell_for, held_state, cell_of, RunState, Verdict, RunPart, Stopped, IsLack, CrewFault, NoMemory, IsWellWired, HaveChanged, SettlesTo, view_events, seen_events, same_Some, prefix_refl, AllStandBy, End as RunEnd, events_seen, map_map, sum_over, map_changed}
+use Rattle.kahn_pool.proofs.Common.{false, true, arith, refl, IsVerdict, ◌≡◌, ℕ, ◌+◌, List, length, map, sum_by, sym, ap, ◌∙◌, subst, Some, slice_get, Bool, Option, Result, Err, length-map, Program, network_of, AreInputsExtended, Lists, inputs_of, StoodBy, CellView, told_view, AreIdle, AreJoinedJobs, HaveMet, cells_of, rows_of, AreJoinedOn, IsJob, Work, all_idle, idle_grown, idle_met, events_told, woken_task, Tasked, AreUntouched, HaveGone, task_events, told_tale, work_of, all_told, at_mapped, mapped_at, IsConcluded, seen_of, AreEnded, AreHeld, AreHeldBy, HasRisen, HasStoppedPart, HaveRisen, cell_alone, cell_for, held_state, cell_of, RunState, Verdict, RunPart, Stopped, IsLack, CrewFault, NoMemory, IsWellWired, HaveChanged, SettlesTo, view_events, seen_events, same_Some, prefix_refl, AllStandBy, End as RunEnd, events_seen, map_map, sum_over, map_changed}
 use Rattle.kahn_pool.proofs.Over as over
 use Rattle.kahn_pool.proofs.Rests as rests
 use Rattle.kahn_pool.proofs.Rests.{state_of_tasks}
@@ -135,6 +136,19 @@ pub memory_is : (halted : Bool) (ends : List RunEnd) (v : Verdict) → IsVerdict
 memory_is halted ends verdict.Memory r = ((λ e. r), λ h. refl)
 memory_is halted ends verdict.Finished r = ((λ e. absurd cc), λ h. let no : false ≡ true = sym r.0 ∙ h in absurd cc)
 memory_is halted ends verdict.Bound r = ((λ e. absurd cc), λ h. let no : false ≡ true = sym r.0 ∙ h in absurd cc)
+
+-- a verdict stands for a run that was done, and the fault of another one stays
+pub so_ended : {A V E : Type 0} (P : V → Type 0) (Q : E → Type 0) (o : Result A E) (v : V) → OnOk o (P v) → IfErr o Q → MatchResult (result_and o (Ok v)) P Q
+so_ended P Q (Ok x) v p q = p
+so_ended P Q (Err e) v p q = q
+
+pub so_told : {A E H : Type 0} (o : Result A E) (v : Verdict) → (v ≡ verdict.Memory ↔ H) → OnOk o (result_and o (Ok v) ≡ Ok verdict.Memory ↔ H)
+so_told (Ok x) v m = ((λ e. m.0 (cc)), λ h. ap Ok (m.1 h))
+so_told (Err e) v m = tt
+
+pub so_refused : {A V E : Type 0} (o : Result A E) (v : V) (f : E) → (result_and o (Ok v) ≡ Err f ↔ o ≡ Err f)
+so_refused (Ok x) v f = ((λ e. absurd cc), λ e. absurd cc)
+so_refused (Err e) v f = ((λ i. cc), λ i. cc)
 
 -- it was refused, with the jobs as they are
 pub refused_so : (part : RunPart) (old : List Work) (r : Stopped) → AreHeldBy part r.idles.items r.budget → HaveRisen (cells_of old) (cells_of r.idles.items) → (fault : CrewFault) →

@@ -1,11 +1,10 @@
 //! A run on one thread is handed over to several workers, or taken back from them.
 
 ghost use Rattle.kahn_pool.specs.{inner.Below.AreJobsAt, inner.Below.HaveSettled, inner.Below.cells_of, inner.Below.rows_of, inner.Below.network_of, inner.Holding.AreHeld};
-ghost use Rattle.kahn_sequential.specs.{inner.Bench.all_events, inner.Bench.events_at, inner.Workbench.AreWhole, inner.Workbench.IsLaid, inner.Workbench.seated_with, inner.Workbench.sight_of, inner.Workbench.vacant_of};
-ghost use Rattle.std.specs.Prelude.{◌≡◌, ◌<◌, ◌≤◌, ◌+◌, ◌^◌, ℕ, [], length, vec_capacity, IfOk};
+ghost use Rattle.kahn_sequential.specs.{inner.Bench.all_events, inner.Bench.events_at, inner.Workbench.AreWhole, inner.Workbench.IsLaid, inner.Workbench.sight_of, inner.Workbench.vacant_of};
+ghost use Rattle.std.specs.Prelude.{◌≡◌, ◌<◌, ◌+◌, ◌^◌, ℕ, length, IfOk};
 
-use kahn_code::Tap;
-use kahn_job::{Idle, jobs_at, seat, unseat};
+use kahn_job::{Idle, jobs_at, seat};
 use kahn_sequential::{Sequential, Vacant};
 use kahn_streams::{Input, Network, NoMemory};
 use std::alloc::Global;
@@ -65,14 +64,4 @@ pub(crate) fn first_jobs<'n>(
     };
     let idles = lanes(&bench, alloc, input)?;
     Ok(hand_over(bench, idles))
-}
-
-/// The bench with the cells of jobs that stand where its queues stand. The list that is given has room for all. Never allocates.
-pub(crate) fn taken_back<'n>(vacant: Vacant<'n>, idles: Vec<Idle>, taps: Vec<Tap>) -> Sequential<'n>
-    requires laid { IsLaid (seated_with vacant (cells_of idles.items)) }
-    requires room { (taps.items ≡ []) × (length idles.items ≤ vec_capacity taps) }
-    ensures { result ≡ seated_with vacant.entry (cells_of idles.items) }
-{
-    let taps = unseat(idles, taps);
-    vacant.with_taps(taps)
 }

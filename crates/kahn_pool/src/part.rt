@@ -72,21 +72,11 @@ fn conclude(
     settle_all(&mut left.tasks, part);
     let ends = ends_of(part, &left.tasks, ends);
     let verdict = verdict_of(left.halted, &ends);
-    let budget = left.budget;
-    let idles = meet(part.network, rest_all(left.tasks, idles));
-    match outcome {
-        Ok(()) => Stopped {
-            idles,
-            budget,
-            ends,
-            outcome: Ok(verdict),
-        },
-        Err(fault) => Stopped {
-            idles,
-            budget,
-            ends,
-            outcome: Err(fault),
-        },
+    Stopped {
+        idles: meet(part.network, rest_all(left.tasks, idles)),
+        budget: left.budget,
+        ends,
+        outcome: outcome.and(Ok(verdict)),
     }
 }
 

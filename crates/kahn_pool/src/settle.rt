@@ -1,7 +1,7 @@
 //! Each task that may go on is asked again what comes next.
 
 ghost use Rattle.std.specs.Prelude.{◌≡◌, ◌<◌, ℕ, Some, slice_get};
-ghost use Rattle.kahn_pool.specs.{inner.Below.IsWithinInput, inner.Below.Tasked, inner.Below.end_at, inner.Rested.IsLentTo, inner.Rested.SettlesTo};
+ghost use Rattle.kahn_pool.specs.{inner.Below.IsWithinInput, inner.Below.Tasked, inner.Below.end_at, inner.Rested.IsLentTo, inner.Rested.IsSettledTask, inner.Rested.SettlesTo};
 ghost use Rattle.kahn_sequential.specs.inner.Streams.{HaveChanged};
 ghost use Rattle.kahn_job.specs.declared.task.TaskStanding.TheVariants as standing;
 
@@ -20,6 +20,16 @@ fn fed(task: &Task)
     }
 }
 
+// Says what is known of a task that may not go on. For the prover only.
+fn keep(task: &Task)
+    requires { task.now.standing ≡ standing.Going → ⊥ }
+    ensures { IsSettledTask task.now }
+{
+    let _standing = task.standing();
+    let _parameters = task.parameters();
+    fed(task);
+}
+
 // Asks a task that may go on what comes next. No event is done, and it never allocates.
 fn ask<L: Ledger>(blank: Blank, task: &mut Task, part: &RunPart<'_>)
     requires blank { (blank.name ≡ L.name) × (blank.parts ≡ L.parts) × (0 < blank.parts) }
@@ -34,7 +44,6 @@ fn ask<L: Ledger>(blank: Blank, task: &mut Task, part: &RunPart<'_>)
 }
 
 // Asks a task what comes next, if it may go on.
-#[tactic(auto, using(crate::proofs::Settled::says_still))]
 fn settle(task: &mut Task, part: &RunPart<'_>)
     requires { IsLentTo part.now task.old }
     ensures { SettlesTo task.old task.new }
@@ -42,8 +51,7 @@ fn settle(task: &mut Task, part: &RunPart<'_>)
     if task.standing() == TaskStanding::Going {
         ask::<Brand>(Blank::new(1), task, part);
     } else {
-        let _parameters = task.parameters();
-        fed(task);
+        keep(task);
     }
 }
 

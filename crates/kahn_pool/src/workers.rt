@@ -4,12 +4,12 @@ ghost use Rattle.std.specs.Prelude.{◌≡◌, ◌<◌, ◌≤◌, ◌^◌, [], 
 ghost use Rattle.kahn_pool.specs.{inner.Below.IsAsConfigured, inner.Below.IsCrew, inner.Below.IsRight, inner.Below.cells_of, inner.Below.inputs_of, inner.Below.network_of, inner.Holding.AreHeldBy, inner.Holding.IsWholeAnswer, inner.Holding.HasEnded, inner.Holding.IsHandRoomFor, inner.Holding.IsHeldPart, inner.Holding.IsRoomFor};
 ghost use Rattle.kahn_sequential.specs.{HeldRuns.IsWant, inner.Workbench.AreKeptOf, inner.Workbench.AreStreamsReady, inner.Workbench.IsBenchOf, inner.Workbench.IsWide};
 
-use crate::handover::{first_jobs, hand_over, taken_back};
+use crate::handover::{first_jobs, hand_over};
 use crate::part::{PartRoom, Stopped, run_part, run_settled};
 use crate::plan::RunPart;
 use kahn_code::{Kept, Tap};
 use kahn_crew::{CrewFault, Crewing};
-use kahn_job::Idle;
+use kahn_job::{Idle, unseat};
 use kahn_sequential::{Round, Sequential, fill, room_for_answer, run_on_alone};
 use kahn_streams::{Answer, Gate, Input, Network, RunFault, Stream};
 use std::alloc::Global;
@@ -150,7 +150,8 @@ pub(crate) fn run_on_workers<R: Threads + Wait + Sync, G: Gate + Sync>(
     };
     let stopped = run_settled(rt, alloc, &part, idles, room.part, gate);
     if let Err(CrewFault::NoMemory) = stopped.outcome {
-        let bench = taken_back(vacant, stopped.idles, room.taps);
+        let taps = unseat(stopped.idles, room.taps);
+        let bench = vacant.with_taps(taps);
         let plan = crew.plan(bound);
         return Ok(run_on_alone(gate, bench, round, streams, kept, plan));
     }

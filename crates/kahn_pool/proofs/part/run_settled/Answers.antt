@@ -8,16 +8,16 @@ wake_all-tasks-requires-clause-room g c =
     let r = c.requires.room.tasks.1 in
     (c.requires.room.tasks.0, omega (arith, n, r))
 
-pub run_tasks-requires-clause-ready : goal.run_tasks-requires-clause-ready
-run_tasks-requires-clause-ready g c κs within =
+pub run_tasks-outcome-requires-clause-ready : goal.run_tasks-outcome-requires-clause-ready
+run_tasks-outcome-requires-clause-ready g c κs within =
     let t = c.args.part.now in
     let held = c.requires.part.held in
     let ws = c.args.idles.items in
     subst (AreReadyTasks t.network.now t.input.now t.crew.watch) (sym c.wake_all-tasks.ensures)
     (woken_ready t.network.now t.input.now ws held.idle c.requires.settled t.crew.watch (λ p w e. held.watched p w.cell (at_mapped (λ (z : Work). z.cell) ws p w e)))
 
-pub run_tasks-requires-clause-total : goal.run_tasks-requires-clause-total
-run_tasks-requires-clause-total g c =
+pub run_tasks-outcome-requires-clause-total : goal.run_tasks-outcome-requires-clause-total
+run_tasks-outcome-requires-clause-total g c =
     let all = woken_events c.requires.part.held c.wake_all-tasks.ensures in
     let b = c.requires.part.few in
     omega (arith, all, b)

@@ -1,5 +1,5 @@
-use Rattle.kahn_pool.proofs.Common.{arith, rules, ◌≡◌, ℕ, ◌+◌, ◌∙◌, Option, Err, ap, length, map, sym, subst, AreHeld, IsLaid, IsWide, Lists, NoMemory, Plan, Program, Table, all_events, cell_for, cells_of, network_of, seated_with, sight_of, IsRoomFor}
-use Rattle.kahn_pool.proofs.Handing.{same_input, seated_again}
+use Rattle.kahn_pool.proofs.Common.{arith, rules, ◌≡◌, ℕ, List, ◌+◌, ◌∙◌, Option, Err, ap, length, length-map, map, replicate, sym, subst, AreHeld, CellView, IsLaid, IsWide, Lists, NoMemory, Plan, Program, Table, Work, all_events, cell_for, network_of, nothing_gone, sight_of, told_in, IsRoomFor}
+use Rattle.kahn_pool.proofs.Handing.{seated_again}
 use Rattle.kahn_pool.proofs.workers.run_on_workers.Goals as goal
 
 pub invariant_of-part : goal.invariant_of-part
@@ -26,26 +26,25 @@ pub run_settled-stopped-requires-clause-room : goal.run_settled-stopped-requires
 run_settled-stopped-requires-clause-room g c κs within =
     subst (λ (t : Program). IsRoomFor (length (network_of t).instances) c.args.room.part) c.requires.names.0 c.requires.room.part
 
-pub taken_back-bench-requires-clause-laid : goal.taken_back-bench-requires-clause-laid
-taken_back-bench-requires-clause-laid g c =
-    let b = c.args.bench in
+pub with_taps-bench-requires-clause-laid : goal.with_taps-bench-requires-clause-laid
+with_taps-bench-requires-clause-laid g c =
     let h = c.hand_over-vacant.ensures in
-    let us = c.run_settled-stopped.result.idles.items in
-    let lists = c.args.input.now in
     let refused : c.run_settled-stopped.result.outcome ≡ Err NoMemory = search rules in
-    let cells : cells_of us ≡ b.cells = c.run_settled-stopped.ensures.untouched refused ∙ ap (map (cell_for lists)) h.cells
-    ∙ same_input lists b.cells (λ p d e. (h.laid.each p d e).input ∙ c.requires.names.1) in
-    subst IsLaid (sym (ap (λ v. seated_with v (cells_of us)) h.vacant ∙ seated_again b h.laid c.requires.wide.whole (cells_of us) cells)) h.laid
+    subst IsLaid (sym (seated_again c.args.bench h.laid c.requires.wide.whole c.args.input.now c.requires.names.1 c.hand_over-vacant.result.0 h.vacant (map told_in c.unseat-taps.result.items)
+    (c.unseat-taps.ensures.tolds ∙ c.run_settled-stopped.ensures.untouched refused ∙ ap (map (cell_for c.args.input.now)) h.cells))) h.laid
+
+pub with_taps-bench-requires-clause-whole : goal.with_taps-bench-requires-clause-whole
+with_taps-bench-requires-clause-whole g c =
+    let u = c.unseat-taps in
+    let many = sym (length-map c.run_settled-stopped.result.idles.items (λ (w : Work). w.cell)) ∙ sym (ap (λ (cs : List CellView). length cs) u.ensures.tolds)
+    ∙ length-map u.result.items told_in in
+    u.ensures.whole ∙ ap (λ n. replicate n nothing_gone) many
 
 pub run_on_alone-requires-clause-wide : goal.run_on_alone-requires-clause-wide
 run_on_alone-requires-clause-wide g c =
-    let b = c.args.bench in
     let h = c.hand_over-vacant.ensures in
-    let us = c.run_settled-stopped.result.idles.items in
-    let lists = c.args.input.now in
     let refused : c.run_settled-stopped.result.outcome ≡ Err NoMemory = search rules in
-    let cells : cells_of us ≡ b.cells = c.run_settled-stopped.ensures.untouched refused ∙ ap (map (cell_for lists)) h.cells
-    ∙ same_input lists b.cells (λ p d e. (h.laid.each p d e).input ∙ c.requires.names.1) in
-    subst (λ k. IsWide c.taken_back-bench.result k c.args.round) (sym (ap (λ (p : Plan). p.bound) c.plan-plan.ensures))
+    subst (λ k. IsWide c.with_taps-bench.result k c.args.round) (sym (ap (λ (p : Plan). p.bound) c.plan-plan.ensures))
     (subst (λ x. IsWide x c.args.bound c.args.round)
-    (sym (c.taken_back-bench.ensures ∙ ap (λ v. seated_with v (cells_of us)) h.vacant ∙ seated_again b h.laid c.requires.wide.whole (cells_of us) cells)) c.requires.wide)
+    (sym (c.with_taps-bench.ensures ∙ seated_again c.args.bench h.laid c.requires.wide.whole c.args.input.now c.requires.names.1 c.hand_over-vacant.result.0 h.vacant (map told_in c.unseat-taps.result.items)
+    (c.unseat-taps.ensures.tolds ∙ c.run_settled-stopped.ensures.untouched refused ∙ ap (map (cell_for c.args.input.now)) h.cells))) c.requires.wide)
