@@ -1,14 +1,14 @@
 -- The names of the crates below and of this crate's definitions that proofs cite, passed on from one place.
-pub use Rattle.kahn_live.specs.Course.{HasMissed, HasSent, HasWaited, IsAloneMet, IsAnswerTold, IsBrokenOff, IsComplaint, IsFaultPut, IsLineMet, IsNewFault, IsPartTold, IsRefused, IsToldBy, IsVerdictTold, LiveTelling, Point, WasAnswered, WasFed, WasMet, WasSaid, WasTold, first_line, is_verdict_new, no_memory, point_of, telling_of}
+pub use Rattle.kahn_live.specs.Course.{AreLikeTold, HasMissed, HasSent, HasWaited, IsAloneMet, IsAnswerTold, IsBrokenOff, IsComplaint, IsFaultPut, IsLineMet, IsNewFault, IsPartTold, IsRefused, IsToldBy, IsVerdictTold, LiveTelling, Point, WasAnswered, WasFed, WasMet, WasSaid, WasTold, first_line, is_verdict_new, no_memory, point_of, telling_of}
 pub use Rattle.kahn_live.specs.Histories.{HasHistories, IsShown}
 pub use Rattle.kahn_live.specs.InputMet.{AreAllMet, AreEachMet, AreFed, AreLastTried, AreRead, AreTaken, IsAloneTold, IsAnyMet, IsCome, IsCutOff, IsFirstPart, IsFirstUnmeant, IsLastRefused, IsNextCome, IsNextMet, IsNoneCome, IsReadBy, IsReadIn, IsReadMet, IsSource, IsStep, IsStoppedAt, IsTornOff, is_idle}
 pub use Rattle.kahn_live.specs.Lines.{CutsLine, IsNextLine, fed_text, most_kept, unmarked}
-pub use Rattle.kahn_live.specs.Rows.{AreCells, AreMeant, AreNumbered, AreRowCells, HaveStreams, IsBadRow, IsRowFront, behind_word, bytes_in, first_word, from_word, is_row_gap, is_wordless, row_line, row_names}
+pub use Rattle.kahn_live.specs.Rows.{AreCells, AreMeant, AreNumbered, AreRowCells, HaveStreams, IsBadRow, IsRowFront, bare_of, behind_word, bytes_in, first_word, from_word, is_row_gap, is_wordless, row_line, row_names}
 pub use Rattle.kahn_live.specs.Running.{HasRunText, HasServed, HasServedAll, IsEndWanted, IsInForm, IsLeftTold, IsSetUp, Watches, input_of, reached_status}
 pub use Rattle.kahn_sequential.specs.HeldRuns.{HeldRun, IsRightSoFar, so_far}
 pub use Rattle.kahn_session.specs.Forms.{HasLetGoAt, are_rows, next_of, row_count}
 pub use Rattle.kahn_session.specs.Live.{HasOpened, HasTaken, HasVerdict, IsFaulty, IsFirstInput, IsHearing, IsMeantLine, IsRinged, IsTakenLine, IsUnfedBy, Live, breaks, pace_after, pace_of, stream_of}
-pub use Rattle.kahn_session.specs.Refusals.{SaysPieces, at_end_number, refused_pieces, sentence_pieces}
+pub use Rattle.kahn_session.specs.Refusals.{at_end_number, origin, refused_origin, said_text, take_words}
 pub use Rattle.kahn_streams.specs.Written.{AppendsFront, Writes}
 pub use Rattle.kahn_texts.proofs.Scanned.{stop_of}
 pub use Rattle.std.proofs.Common.{All, Bool, Err, IfOk, IfSome, IsErr, List, MatchResult, None, Ok, Option, Result, Some, [], ap, append-nil, append_assoc, ap₂, arith, cond, drop, eq-eqb, eqb, eqb-true, false, get_or, if◌then◌else◌, inl, inr, is_err, is_ok, length, length-append, length-take, map, min, not, refl, rules, slice_get, slice_index_or, subst, suc, sym, take, take_all, true, true≢false, vec_items, zero, ℕ, ⊎_elim, ◌++◌, ◌+◌, ◌-◌, ◌<◌, ◌∙◌, ◌∷◌, ◌≡◌, ◌≢◌, ◌≤◌}
@@ -20,7 +20,7 @@ pub use Rattle.std.proofs.lemmas.Result.{err_from_is_err_and}
 pub use Rattle.std.specs.Io.BufRead.{DropsThrough, FillKeeps, drop_through}
 pub use Rattle.std.specs.Io.Buffered.{reader_buffer, reader_capacity, reader_inner, reader_remaining}
 pub use Rattle.std.specs.Io.KnownBytes.{Appends, Consumes, IsAtEnd, Keeps, ReadConsumes, WriteAppends, prepend_known}
-pub use Rattle.std.specs.List.{concat, list_any, position_or_len}
+pub use Rattle.std.specs.List.{list_any, position_or_len}
 pub use Rattle.std.specs.Option.{unwrap_or}
 pub use Rattle.std.specs.Prelude.{codes, is_some, nat_lt, option_copied, string_bytes, ◌&&◌, ◌==◌, ◌||◌}
 pub use Rattle.kahn_fault.specs.declared.{fault.Fault.Fault}

@@ -1,5 +1,5 @@
 -- What went out stays right, line by line.
-use Rattle.kahn_live.proofs.Common.{[], arith, ◌≡◌, ◌∙◌, ◌<◌, inl, inr, ℕ, zero, suc, Bool, true, false, true≢false, List, ◌∷◌, length, map, string_bytes, Global, String, take, Option, None, Some, Result, Ok, Err, sym, ap, subst, Verdict, Fault, list_any, ◌&&◌, nat_lt, HasLetGoAt, are_rows, next_of, row_count, HasTaken, IsTakenLine, Live, pace_after, pace_of, TakeFault, at_end_number, HasMissed, IsToldBy, LiveTelling, Point, WasAnswered, WasMet, AreFed, AreRead, AreTaken, IsAnyMet, IsReadBy, IsReadIn, is_idle, fed_text, most_kept, unmarked, row_names, AreEachMet, IsShown}
+use Rattle.kahn_live.proofs.Common.{[], arith, ◌≡◌, ◌∙◌, ◌<◌, inl, inr, ℕ, zero, suc, Bool, true, false, true≢false, List, ◌∷◌, length, map, string_bytes, Global, String, take, Option, None, Some, Result, Ok, Err, sym, ap, subst, Verdict, Fault, list_any, ◌&&◌, nat_lt, HasLetGoAt, are_rows, next_of, row_count, HasTaken, IsTakenLine, Live, pace_after, pace_of, TakeFault, at_end_number, HasMissed, IsToldBy, LiveTelling, Point, WasAnswered, WasMet, AreFed, AreRead, AreTaken, IsAnyMet, IsReadBy, IsReadIn, is_idle, fed_text, most_kept, unmarked, bare_of, row_names, AreEachMet, IsAloneTold, IsShown}
 use Rattle.kahn_session.specs.{Pace.Pace, declared.fault.TakeFault.TheVariants.Write}
 
 -- ---- what went out is right after each line
@@ -85,8 +85,12 @@ fed : (lines : List (List ℕ)) (old new : Point) → AreFed lines old new → I
 fed [] old new same was = stays old.session new.session (ap (λ (p : Point). p.session) same) was
 fed (line ∷ lines) old new (next, a, rest) was = fed lines next new rest (answered at_end_number line old next a was)
 
+alone : (input : Option (List ℕ)) (old new : Point) → IsAloneTold input old new → new.session ≡ old.session
+alone None old new same = ap (λ (p : Point). p.session) same
+alone (Some input) old new told = told.0
+
 -- where all lines were met
 pub all_shown : (input : Option (List ℕ)) (at_end : List (String Global)) (text : Option (List ℕ)) (old new : Point) → AreEachMet input at_end (Ok true) text old new → IsShown new.session
-all_shown input at_end text old new (begun, first, (ready, last, (unchanged, quiet_out, said), (n, rest, ended, are, (quiet, (same, still)), out), behind)) =
+all_shown input at_end text old new (begun, first, (ready, last, told, (n, rest, ended, are, (quiet, (same, still)), out), behind)) =
     fed (map string_bytes at_end) last new behind
-    (stays ended.session last.session same (read input n text rest ready ended are (stays begun.session ready.session unchanged (first_in (row_names input) input [] old begun first))))
+    (stays ended.session last.session same (read input n text rest ready ended are (stays begun.session ready.session (alone (bare_of input) begun ready told) (first_in (row_names input) input [] old begun first))))

@@ -1,6 +1,8 @@
 -- What lines make, one after the other.
-use Rattle.kahn_live.proofs.Common.{[], ◌≡◌, ◌∙◌, inl, inr, ℕ, zero, suc, take, Bool, true, false, true≢false, List, None, Some, Option, Result, Ok, Err, IfOk, is_err, MatchResult, append-nil, refl, sym, ap, Keeps-refl, ◌||◌, Appends, Verdict, AppendsFront, Writes, Fault, HasVerdict, IsTakenLine, Live, breaks, TakeFault, WasAnswered, WasFed, HasSent, HasWaited, IsAnswerTold, IsLineMet, IsNewFault, IsPartTold, Point, LiveTelling, is_verdict_new, IsCome, IsSource, IsNextLine, Next, Line, End, Failed, NoMemory}
+use Rattle.kahn_live.proofs.Common.{[], ◌≡◌, ◌∙◌, inl, inr, ℕ, zero, suc, take, Bool, true, false, true≢false, List, None, Some, Option, Result, Ok, Err, IfOk, is_err, MatchResult, append-nil, refl, sym, ap, Keeps-refl, ◌||◌, Appends, Verdict, AppendsFront, Writes, Fault, HasVerdict, IsTakenLine, Live, breaks, TakeFault, WasAnswered, WasFed, HasSent, HasWaited, IsAnswerTold, IsLineMet, IsNewFault, IsPartTold, Point, LiveTelling, AreLikeTold, WasSaid, is_verdict_new, IsCome, IsSource, IsNextLine, Next, Line, End, Failed, NoMemory}
 use Rattle.kahn_streams.specs.declared.value.Failure.{Failure}
+use Rattle.kahn_session.specs.{Refusals.like_words, declared.refusal.Origin.TheVariants.File}
+use Rattle.std.specs.Prelude.{codes, decimal, ◌==◌, ◌∷◌}
 
 -- what the session made of a line, where no byte more went out since
 fed_since : (line : List ℕ) (answer : Result Verdict TakeFault) (old mid new : Point) → IsTakenLine line old.session mid.session old.out mid.out answer → HasWaited mid new
@@ -53,6 +55,11 @@ unmoved p = (refl, (refl, Keeps-refl p.out))
 pub none_told : (s : Live) (number : ℕ) (line : List ℕ) (v : Verdict) (told : LiveTelling) (first : Option (ℕ × Failure)) (wanted : Bool)
     → IsNewFault told.faulted s.flow.run first → wanted ≡ is_verdict_new told line v → wanted ≡ false → first ≡ None → IsPartTold s number line v told told
 none_told s number line v told first wanted new is not none = (first, told, told, new, rw (sym is ∙ not) refl, rw none refl, inl refl)
+
+-- so many lines more were told of, where there are some
+pub like_some : (count : ℕ) (old new : LiveTelling) → (count == 0) ≡ false → WasSaid File (codes "and ") [] (decimal count ∷ like_words count ∷ []) old new → AreLikeTold count old new
+like_some zero old new some said = absurd cc
+like_some (suc n) old new some said = said
 
 -- ---- what was written is told
 

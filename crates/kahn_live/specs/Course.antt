@@ -1,12 +1,12 @@
 -- Believed. What lines make, one after the other, of a session, of what goes out and of what is told (this project's profile).
-use Rattle.std.specs.Prelude.{◌≡◌, ◌⊎◌, ◌++◌, ℕ, ◌-◌, Bool, true, false, not, ◌||◌, ◌&&◌, ◌==◌, List, [], Option, None, Some, codes, decimal, length, string_bytes, Result, Ok, Err}
-use Rattle.std.specs.{Io.KnownBytes.Appends, Io.KnownBytes.Keeps, Str.bytes_eq, List.before_first, List.concat, IoError.error_kind, declared.io.Error.Error, declared.io.ErrorKind.TheVariants.BrokenPipe, Io.Buffered.reader_remaining, declared.io.buffered.BufReader.BufReader}
+use Rattle.std.specs.Prelude.{◌≡◌, ◌⊎◌, ℕ, zero, suc, ◌-◌, Bool, true, false, not, ◌||◌, ◌&&◌, ◌==◌, List, [], ◌∷◌, Option, None, Some, codes, decimal, length, slice_index, string_bytes, Result, Ok, Err}
+use Rattle.std.specs.{Char.is_ascii_digit, Io.KnownBytes.Appends, Io.KnownBytes.Keeps, Str.bytes_eq, List.before_first, IoError.error_kind, declared.io.Error.Error, declared.io.ErrorKind.TheVariants.BrokenPipe, Io.Buffered.reader_remaining, declared.io.buffered.BufReader.BufReader}
 use Rattle.kahn_streams.specs.{declared.answer.End.End, declared.answer.Verdict.Verdict, declared.answer.Verdict.TheVariants.Finished, declared.answer.Verdict.TheVariants.Bound, declared.answer.Verdict.TheVariants.Memory, declared.fault.RunFault.TheVariants.NoMemory as NoMemoryRun, Written.AppendsFront, declared.tree.Program.Program as Tree, declared.value.Failure.Failure}
-use Rattle.kahn_texts.specs.{declared.bytes.WriteFault.WriteFault, Formats.content, declared.read.ReadFault.TheVariants.Failed as FailedRead}
+use Rattle.kahn_texts.specs.{declared.bytes.WriteFault.WriteFault, Formats.content, Formats.process_name, declared.read.ReadFault.TheVariants.Failed as FailedRead}
 use Rattle.kahn_sequential.specs.HeldRuns.{HeldRun, IsRightSoFar}
-use Rattle.kahn_inputs.specs.{Fitting.line_name, Refused.IsHeadPart, Refused.IsKindPart, Refused.IsValuePart}
+use Rattle.kahn_inputs.specs.{declared.refused.RefusedPart.RefusedPart, Fitting.line_name, Refused.IsHeadPart, Refused.IsKindPart, Refused.IsValuePart}
 use Rattle.kahn_fault.specs.{declared.work.WorkFault.TheVariants.Run as RunWork, declared.work.WorkFault.TheVariants.Write as WriteWork, declared.fault.Fault.Fault, declared.fault.Fault.TheVariants.Program, declared.fault.Fault.TheVariants.Work}
-use Rattle.kahn_session.specs.{Live.IsFirstFault, Live.IsRinged, Live.IsTakenLine, Live.Live, Live.breaks, Refusals.is_want, Refusals.line_pieces, Refusals.refused_pieces, Refusals.take_words, declared.fault.TakeFault.TakeFault, declared.fault.TakeFault.TheVariants.BadLine, declared.fault.TakeFault.TheVariants.BadValue, declared.fault.TakeFault.TheVariants.Feed, declared.fault.TakeFault.TheVariants.NoMemory}
+use Rattle.kahn_session.specs.{Live.IsFirstFault, Live.IsFirstInput, Live.IsRinged, Live.IsTakenLine, Live.Live, Live.breaks, Refusals.failure_words, Refusals.is_want, Refusals.like_words, Refusals.origin, Refusals.refused_origin, Refusals.said_text, Refusals.take_words, declared.refusal.Origin.Origin, declared.refusal.Origin.TheVariants.File, declared.refusal.Origin.TheVariants.Line, declared.fault.TakeFault.TakeFault, declared.fault.TakeFault.TheVariants.BadLine, declared.fault.TakeFault.TheVariants.BadValue, declared.fault.TakeFault.TheVariants.Feed, declared.fault.TakeFault.TheVariants.NoMemory}
 use Rattle.kahn_why.specs.Why.{AreCauses}
 use Rattle.kahn_live.specs.{declared.taking.LiveStage.LiveStage, declared.telling.Teller.Teller}
 use Rattle.kahn_streams.specs.declared.feeds.FeedFault.TheVariants as feed
@@ -81,14 +81,18 @@ pub record WasTold (text : List ℕ) (old new : LiveTelling) : Type 0 where
   pub whole : new.failed ≡ false → (old.failed ≡ false) × Appends old.bytes new.bytes text
   pub rest : new ≡ record old { bytes = new.bytes; failed = new.failed }
 
--- a text was told that begins with these pieces
-pub record WasSaid (pieces : List (List ℕ)) (old new : LiveTelling) : Type 0 where
-  pub rest : List (List ℕ)
-  pub told : WasTold (concat (pieces ++ rest)) old new
+-- this was told behind the program's file: where it comes from, words, a part of a line, and more words
+abbrev pub WasSaid : Origin → List ℕ → List ℕ → List (List ℕ) → LiveTelling → LiveTelling → Type 0
+WasSaid from words part more old new = WasTold (said_text old.path (origin from) words part more) old new
 
--- how many lines more were refused was told
+-- that so many lines more were refused was told, where there are any
+abbrev pub AreLikeTold : ℕ → LiveTelling → LiveTelling → Type 0
+AreLikeTold zero old new = new ≡ old
+AreLikeTold (suc n) old new = WasSaid File (codes "and ") [] (decimal (suc n) ∷ like_words (suc n) ∷ []) old new
+
+-- how many were refused behind the one that was told of was told
 abbrev pub IsMoreTold : LiveTelling → LiveTelling → Type 0
-IsMoreTold old new = WasSaid [] (record old { first = old.number }) new
+IsMoreTold old new = AreLikeTold (old.number - old.first) (record old { first = old.number }) new
 
 -- ---- a line that is refused
 
@@ -118,30 +122,48 @@ IsTallied number f old new = new ≡ tallied number f old
 -- how bare numbers are taken was told, where an input channel is named
 abbrev pub IsHintTold : Option (List ℕ) → LiveTelling → LiveTelling → Type 0
 IsHintTold None old new = new ≡ old
-IsHintTold (Some input) old new = WasSaid [] (record old { hinted = true }) new
+IsHintTold (Some input) old new = WasSaid File (codes "bare numbers are taken with --plain ") [] (input ∷ []) (record old { hinted = true }) new
 
--- why the line was refused was told, with a part of it, behind how many lines more were refused as the one before it
-abbrev pub IsNextTold : ℕ → TakeFault → List ℕ → Option (List ℕ) → LiveTelling → LiveTelling → Type 0
+-- why the line was refused was told, with a part of it and more words, behind how many lines more were refused as the one before it
+abbrev pub IsNextTold : ℕ → TakeFault → RefusedPart → Option (List ℕ) → LiveTelling → LiveTelling → Type 0
 IsNextTold number f part hint old new = (mid : LiveTelling) × (last : LiveTelling) × IsMoreTold old mid
-    × WasSaid (refused_pieces mid.path number f part) (record (tallied number f mid) { last = Some f; first = number }) last × IsHintTold hint last new
+    × WasSaid (refused_origin number f) (take_words f) part.word.now (part.words.now ∷ []) (record (tallied number f mid) { last = Some f; first = number }) last
+    × IsHintTold hint last new
 
--- the part of the line that is at fault
-abbrev pub IsRefusedPart : Tree → List ℕ → TakeFault → List ℕ → Type 0
-IsRefusedPart t line BadLine part = IsHeadPart (content line) part []
-IsRefusedPart t line BadValue part = IsValuePart (content line) part []
-IsRefusedPart t line (Feed feed.UnknownName) part = part ≡ line_name (content line)
-IsRefusedPart t line (Feed feed.NotAnInput) part = part ≡ line_name (content line)
-IsRefusedPart t line (Feed feed.WrongKind) part = IsKindPart t (content line) part []
-IsRefusedPart t line f part = part ≡ []
+-- the part of the line that is at fault, with whatever words of what is wanted there; or neither
+abbrev pub IsRefusedPart : Tree → List ℕ → TakeFault → List ℕ → List ℕ → Type 0
+IsRefusedPart t line BadLine part more = IsHeadPart (content line) part more
+IsRefusedPart t line BadValue part more = IsValuePart (content line) part more
+IsRefusedPart t line (Feed feed.UnknownName) part more = part ≡ line_name (content line)
+IsRefusedPart t line (Feed feed.NotAnInput) part more = part ≡ line_name (content line)
+IsRefusedPart t line (Feed feed.WrongKind) part more = IsKindPart t (content line) part more
+IsRefusedPart t line f part more = (part ≡ []) × (more ≡ [])
 
--- the line was counted; or it was told of, and how bare numbers are taken, if an input channel is named for that
+-- whether a line begins as a number does
+abbrev pub is_bare : List ℕ → Bool
+is_bare line = is_ascii_digit (slice_index line 0) || slice_index line 0 == 45
+
+-- whether it is told now how bare numbers are taken: once, where one is refused, or the line of number 0, which names a channel alone
+abbrev pub wants_hint : Bool → ℕ → List ℕ → TakeFault → Bool
+wants_hint true number line f = false
+wants_hint false number line BadLine = number == 0 || is_bare line
+wants_hint false number line f = number == 0 && not (is_want f)
+
+-- the input channel that is named in that
+abbrev pub IsHintBy : Bool → Live → Option (List ℕ) → Type 0
+IsHintBy true s hint = IsFirstInput s.flow.run.network hint
+IsHintBy false s hint = hint ≡ None
+
+-- the line was counted; or it was told of
 abbrev pub IsComplaint : Live → ℕ → List ℕ → TakeFault → Option (List ℕ) → Bool → LiveTelling → LiveTelling → Type 0
 IsComplaint s number line f hint true old new = IsTallied number f old new
-IsComplaint s number line f hint false old new = (part : List ℕ) × IsRefusedPart s.flow.run.network line f part × IsNextTold number f part hint old new
+IsComplaint s number line f hint false old new =
+    (part : RefusedPart) × IsRefusedPart s.flow.run.network line f part.word.now part.words.now × IsNextTold number f part hint old new
 
 -- the line that was fed was refused, and that was told
 abbrev pub IsRefused : Live → ℕ → List ℕ → TakeFault → LiveTelling → LiveTelling → Type 0
-IsRefused s number line f old new = (hint : Option (List ℕ)) × IsComplaint s number line f hint (is_again old number f hint) old new
+IsRefused s number line f old new =
+    (hint : Option (List ℕ)) × IsHintBy (wants_hint old.hinted number line f) s hint × IsComplaint s number line f hint (is_again old number f hint) old new
 
 -- what was put off may have been sent: no byte more was written
 abbrev pub HasWaited : Point → Point → Type 0
@@ -163,18 +185,19 @@ abbrev pub IsVerdictTold : ℕ → Bool → Verdict → LiveTelling → LiveTell
 IsVerdictTold number false v old new = new ≡ old
 IsVerdictTold number true Finished old new = new ≡ old
 IsVerdictTold number true Bound old new =
-    WasSaid (line_pieces old.path number (codes "wants more events than --step allows, and goes on with the next line")) (record old { stepped = true }) new
-IsVerdictTold number true Memory old new = WasSaid (line_pieces old.path number (codes "waits for memory")) (record old { waited = true }) new
+    WasSaid (Line number) (codes "wants more events than --step allows, and goes on with the next line") [] [] (record old { stepped = true }) new
+IsVerdictTold number true Memory old new = WasSaid (Line number) (codes "waits for memory") [] [] (record old { waited = true }) new
 
 -- the first process that has a fault after the part, unless it was told before that one has: once in a run
 abbrev pub IsNewFault : Bool → HeldRun → Option (ℕ × Failure) → Type 0
 IsNewFault true h first = first ≡ None
 IsNewFault false h first = IsFirstFault h first
 
--- that it has one was told
-abbrev pub IsFaultPut : ℕ → Option (ℕ × Failure) → LiveTelling → LiveTelling → Type 0
-IsFaultPut number None old new = new ≡ old
-IsFaultPut number (Some (instance, kind)) old new = WasSaid (line_pieces old.path number (decimal instance)) (record old { faulted = true }) new
+-- that it has one was told: its number from 1, its name, and which fault
+abbrev pub IsFaultPut : ℕ → Tree → Option (ℕ × Failure) → LiveTelling → LiveTelling → Type 0
+IsFaultPut number t None old new = new ≡ old
+IsFaultPut number t (Some (instance, kind)) old new =
+    WasSaid (Line number) (decimal instance) [] (codes " " ∷ process_name t (instance - 1) ∷ failure_words kind ∷ []) (record old { faulted = true }) new
 
 -- these words tell what came of the run and its causes; none do where it finished without a fault and a ring
 abbrev pub AreCausesOf : HeldRun → List ℕ → Type 0
@@ -187,12 +210,12 @@ first_line lines = before_first (λ b. b == 10) lines
 -- that processes wait on one another in a ring was told, where they do and it wasn't told before; or nothing was
 abbrev pub IsRingTold : ℕ → HeldRun → LiveTelling → LiveTelling → Type 0
 IsRingTold number h old new = (new ≡ old) ⊎ ((old.ringed ≡ false) × IsRinged h true
-    × ((words : List ℕ) × AreCausesOf h words × WasSaid (line_pieces old.path number (first_line words)) (record old { ringed = true }) new))
+    × ((words : List ℕ) × AreCausesOf h words × WasSaid (Line number) (first_line words) [] [] (record old { ringed = true }) new))
 
 -- what is told of the part of a line: its verdict, then a fault, and then a ring
 abbrev pub IsPartTold : Live → ℕ → List ℕ → Verdict → LiveTelling → LiveTelling → Type 0
 IsPartTold s number line v old new = (first : Option (ℕ × Failure)) × (mid : LiveTelling) × (late : LiveTelling) × IsNewFault old.faulted s.flow.run first
-    × IsVerdictTold number (is_verdict_new old line v) v old mid × IsFaultPut number first mid late
+    × IsVerdictTold number (is_verdict_new old line v) v old mid × IsFaultPut number s.flow.run.network first mid late
     × IsRingTold number s.flow.run late new
 
 -- what is told of a line with this answer

@@ -1,10 +1,10 @@
 -- Believed. All lines of a run: the part before them, those of the input, and those behind these (this project's profile).
-use Rattle.std.specs.Prelude.{◌≡◌, ◌⊎◌, ⊤, ℕ, zero, suc, ◌-◌, ◌^◌, ◌==◌, ◌&&◌, not, length, Bool, true, false, List, [], ◌∷◌, map, take, Option, None, Some, Result, Ok, Err, string_bytes}
+use Rattle.std.specs.Prelude.{◌≡◌, ◌⊎◌, ⊤, ℕ, zero, suc, ◌-◌, ◌^◌, ◌==◌, ◌&&◌, not, length, Bool, true, false, List, [], ◌∷◌, codes, map, take, Option, None, Some, Result, Ok, Err, string_bytes}
 use Rattle.std.specs.{Io.KnownBytes.IsAtEnd, declared.alloc.Global.Global, declared.string.String.String}
 use Rattle.kahn_streams.specs.{declared.answer.Verdict.Verdict, declared.answer.Verdict.TheVariants.Finished, declared.answer.Verdict.TheVariants.Memory}
 use Rattle.kahn_fault.specs.declared.fault.Fault.{Fault}
-use Rattle.kahn_session.specs.{Live.IsDeafNow, Live.IsFirstInput, Live.IsHearing, Live.IsMeantLine, Live.IsUnfedBy, Live.Live, Refusals.at_end_number, Refusals.is_want, declared.fault.TakeFault.TakeFault}
-use Rattle.kahn_live.specs.{Lines.CutsLine, Lines.fed_text, Lines.most_kept, Lines.unmarked, declared.lines.Next.Next, declared.lines.Next.TheVariants.Line, declared.lines.Next.TheVariants.End, declared.lines.Next.TheVariants.Failed, declared.lines.Next.TheVariants.NoMemory, Rows.AreMeant, Rows.AreRowCells, Rows.IsBadRow, Rows.row_names}
+use Rattle.kahn_session.specs.{Live.IsDeafNow, Live.IsFirstInput, Live.IsHearing, Live.IsMeantLine, Live.IsOtherInput, Live.IsUnfedBy, Live.Live, Refusals.at_end_number, Refusals.is_want, declared.fault.TakeFault.TakeFault, declared.refusal.Origin.TheVariants.File}
+use Rattle.kahn_live.specs.{Lines.CutsLine, Lines.fed_text, Lines.most_kept, Lines.unmarked, declared.lines.Next.Next, declared.lines.Next.TheVariants.Line, declared.lines.Next.TheVariants.End, declared.lines.Next.TheVariants.Failed, declared.lines.Next.TheVariants.NoMemory, Rows.AreMeant, Rows.AreRowCells, Rows.IsBadRow, Rows.bare_of, Rows.row_names}
 use Rattle.kahn_live.specs.Course.{HasMissed, HasSent, HasWaited, IsAloneMet, IsBrokenOff, IsReadFailed, IsRefused, IsWriteFault, LiveTelling, Point, WasAnswered, WasMet, WasSaid, no_memory}
 
 -- ---- a row
@@ -140,9 +140,15 @@ IsFirstPart input old new (Ok false) = (f : TakeFault) × IsReadMet input 0 [] o
 IsFirstPart input old new (Err fault) = IsReadMet input 0 [] old new (Err fault)
     ⊎ ((fault ≡ no_memory) × ((f : TakeFault) × IsReadMet input 0 [] old new (Ok (Some f)) × (is_want f ≡ true)))
 
--- that no line is for another input channel was told, or nothing
-abbrev pub IsAloneTold : Point → Point → Type 0
-IsAloneTold old new = (new.session ≡ old.session) × (new.out ≡ old.out) × ((new.told ≡ old.told) ⊎ WasSaid [] old.told new.told)
+-- that no line is for another input channel was told, where values of one stand alone and there is another
+abbrev pub IsAlonePut : List ℕ → Option (List ℕ) → LiveTelling → LiveTelling → Type 0
+IsAlonePut input None old new = new ≡ old
+IsAlonePut input (Some other) old new = WasSaid File (codes "--plain feeds ") [] (input ∷ codes " alone; no line feeds " ∷ other ∷ []) old new
+
+abbrev pub IsAloneTold : Option (List ℕ) → Point → Point → Type 0
+IsAloneTold None old new = new ≡ old
+IsAloneTold (Some input) old new = (new.session ≡ old.session) × (new.out ≡ old.out)
+    × ((other : Option (List ℕ)) × IsOtherInput old.session.flow.run.network (Some input) other × IsAlonePut input other old.told new.told)
 
 -- ---- the lines behind those of the input
 
@@ -190,10 +196,10 @@ AreStopped input at_end fault text old new =
 -- input channel of the name no line is read
 abbrev pub AreEachMet : Option (List ℕ) → List (String Global) → Result Bool Fault → Option (List ℕ) → Point → Point → Type 0
 AreEachMet input at_end (Ok true) text old new = (begun : Point) × IsFirstPart input old begun (Ok true)
-    × ((ready : Point) × (last : Point) × IsAloneTold begun ready × AreAllRead input text ready last × AreFed (map string_bytes at_end) last new)
+    × ((ready : Point) × (last : Point) × IsAloneTold (bare_of input) begun ready × AreAllRead input text ready last × AreFed (map string_bytes at_end) last new)
 AreEachMet input at_end (Ok false) text old new = IsFirstPart input old new (Ok false)
 AreEachMet input at_end (Err fault) text old new = IsFirstPart input old new (Err fault)
-    ⊎ ((begun : Point) × (ready : Point) × IsFirstPart input old begun (Ok true) × IsAloneTold begun ready × AreStopped input at_end fault text ready new)
+    ⊎ ((begun : Point) × (ready : Point) × IsFirstPart input old begun (Ok true) × IsAloneTold (bare_of input) begun ready × AreStopped input at_end fault text ready new)
 
 -- all that, where each of the lines behind is meant for an input channel; else the first that isn't is told, and nothing else is done
 abbrev pub AreAllMet : Option (List ℕ) → List (String Global) → Result Bool Fault → Option (List ℕ) → Point → Point → Type 0

@@ -11,6 +11,11 @@ abbrev pub row_names : Option (List ℕ) → Option (List ℕ)
 row_names None = None
 row_names (Some names) = if list_any (λ b. b == 44) names then Some names else None
 
+-- or the name of one
+abbrev pub bare_of : Option (List ℕ) → Option (List ℕ)
+bare_of None = None
+bare_of (Some name) = if list_any (λ b. b == 44) name then None else Some name
+
 -- what stands between the words of a row, and between names: blanks, tabs, commas and carriage returns
 abbrev pub is_row_gap : ℕ → Bool
 is_row_gap b = (is_blank b || b == 44) || b == 13

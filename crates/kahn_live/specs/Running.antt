@@ -1,11 +1,11 @@
 -- Believed. A run on lines, from the program text to the status (this project's profile).
-use Rattle.std.specs.Prelude.{◌≡◌, ◌⊎◌, ◌==◌, ℕ, Bool, true, false, List, [], ◌∷◌, Option, None, Some, Result, Ok, Err, option_map, string_bytes}
+use Rattle.std.specs.Prelude.{◌≡◌, ◌⊎◌, ◌==◌, ℕ, Bool, true, false, List, [], ◌∷◌, Option, None, Some, Result, Ok, Err, codes, option_map, string_bytes}
 use Rattle.std.specs.{List.before_first, declared.alloc.Global.Global, declared.vec.Vec.Vec, declared.string.String.String, Io.KnownBytes.Keeps}
 use Rattle.kahn_streams.specs.{declared.config.Config.Config, declared.tree.Program.Program, declared.answer.Verdict.Verdict, declared.answer.Verdict.TheVariants.Finished, declared.fault.RunFault.RunFault, declared.fault.RunFault.TheVariants.NoMemory as NoMemoryRun, declared.fault.RunFault.TheVariants.UnknownWatch}
 use Rattle.kahn_sequential.specs.HeldRuns.{HeldRun}
 use Rattle.kahn_fault.specs.{Work.IsChecked, Work.IsUnchecked, declared.work.WorkFault.WorkFault, declared.work.WorkFault.TheVariants.Run as RunWork, declared.work.WorkFault.TheVariants.Write as WriteWork, Status.live_status_of, Telling.pointer_text, Telling.told_text, declared.fault.Fault.Fault, declared.fault.Fault.TheVariants.Work}
 use Rattle.kahn_line.specs.{declared.live.LiveOptions.LiveOptions, declared.parts.PlainNames.PlainNames}
-use Rattle.kahn_session.specs.{Live.HasOpened, Live.IsFaulty, Live.IsLastText, Live.IsRinged, Live.IsUnopened, Live.Live, Live.has_left}
+use Rattle.kahn_session.specs.{Live.HasOpened, Live.IsFaulty, Live.IsLastText, Live.IsRinged, Live.IsUnopened, Live.Live, Live.has_left, declared.refusal.Origin.Origin, declared.refusal.Origin.TheVariants.File, declared.refusal.Origin.TheVariants.Plain, declared.refusal.Origin.TheVariants.Watch}
 use Rattle.kahn_live.specs.Course.{AreCausesOf, HasSent, HasWaited, IsMoreTold, IsWriteFault, Point, LiveTelling, WasSaid, WasTold, no_memory, telling_of}
 use Rattle.kahn_live.specs.{InputMet.AreAllMet, Rows.AreNumbered, declared.serving.Amiss.Amiss, declared.serving.Amiss.TheVariants.Faulted, declared.serving.Amiss.TheVariants.Ringed, declared.serving.RunEnding.RunEnding, declared.serving.RunEnding.TheVariants.Reached, declared.serving.RunEnding.TheVariants.Gone, declared.serving.RunEnding.TheVariants.Refused, declared.telling.Teller.Teller}
 
@@ -71,7 +71,7 @@ IsEndPut h old new = (v : Verdict) × (text : List ℕ) × IsLastText h v text �
 -- what came of the run and its causes was told; or that memory was refused for it
 abbrev pub IsWhyTold : HeldRun → LiveTelling → LiveTelling → Type 0
 IsWhyTold h old new = ((words : List ℕ) × AreCausesOf h words × WasTold words old new)
-    ⊎ WasSaid [] old new
+    ⊎ WasSaid File (codes "no memory to say why it ended so") [] [] old new
 
 abbrev pub IsEndTold : HeldRun → LiveTelling → LiveTelling → Bool → Type 0
 IsEndTold h old new true = (mid : LiveTelling) × (last : LiveTelling) × IsMoreTold old mid × IsWhyTold h mid last × IsEndPut h last new
@@ -82,7 +82,7 @@ IsVerdictMet h amiss old new v = (h.verdict ≡ Some v) × ((told : Bool) × IsE
 
 -- that values are left without the others of their row was told, behind how many lines more were refused
 abbrev pub IsLeftTold : Bool → LiveTelling → LiveTelling → Type 0
-IsLeftTold true old new = (mid : LiveTelling) × IsMoreTold old mid × WasSaid [] mid new
+IsLeftTold true old new = (mid : LiveTelling) × IsMoreTold old mid × WasSaid File (codes "values are left without the others of their row") [] [] mid new
 IsLeftTold false old new = new ≡ old
 
 -- what is new went out; what is left, and how the run ended, is told
@@ -149,9 +149,17 @@ abbrev pub input_of : Option PlainNames → Option (List ℕ)
 input_of None = None
 input_of (Some p) = named_input (string_bytes p.input)
 
--- a channel that has to have a stream has none, which was told; or the run is refused for another reason
-abbrev pub IsUnstartedTold : RunFault → LiveTelling → LiveTelling → Result RunEnding Fault → Type 0
-IsUnstartedTold f old new r = ((f ≡ UnknownWatch) × (r ≡ Ok Refused) × WasSaid [] old new) ⊎ ((r ≡ Err (Work (RunWork f))) × (new ≡ old))
+-- the option that names channels which have to have streams, and these names, where a run is refused since one has none
+abbrev pub unknown_shown : RunFault → Option PlainNames → Option (String Global) → Option (Origin × List ℕ)
+unknown_shown UnknownWatch None watch = option_map (λ name. (Watch, string_bytes name)) watch
+unknown_shown UnknownWatch (Some p) watch = option_map (λ names. (Plain, string_bytes names)) p.output
+unknown_shown f plain watch = None
+
+-- that was told, with whatever words of others; or the run is refused for another reason
+abbrev pub IsUnstartedTold : Option (Origin × List ℕ) → RunFault → LiveTelling → LiveTelling → Result RunEnding Fault → Type 0
+IsUnstartedTold None f old new r = (r ≡ Err (Work (RunWork f))) × (new ≡ old)
+IsUnstartedTold (Some (from, names)) f old new r =
+    (r ≡ Ok Refused) × ((words : List ℕ) × WasSaid from (codes "no such channel") names (words ∷ []) old new)
 
 -- the lines were served from a session on; this went out in all, and this was told
 abbrev pub HasRunSession : LiveOptions → Live → Option (List ℕ) → Option (List ℕ) → Option (List ℕ) → LiveTelling → LiveTelling → Result RunEnding Fault → Type 0
@@ -162,7 +170,7 @@ HasRunSession o s text out made old new r = (last : Point) × (ending : Result R
 -- a session of the network was set up and run, or why not: the run is refused, and nothing went out
 abbrev pub HasRunNetwork : LiveOptions → Program → Config → Option (List ℕ) → Option (List ℕ) → Option (List ℕ) → LiveTelling → LiveTelling → Result RunEnding Fault → Type 0
 HasRunNetwork o t config text out made old new r =
-    ((f : RunFault) × IsSetUp o.plain t config (Err f) × IsUnstartedTold f old new r × (made ≡ out))
+    ((f : RunFault) × IsSetUp o.plain t config (Err f) × IsUnstartedTold (unknown_shown f o.plain o.config.watch) f old new r × (made ≡ out))
     ⊎ ((s : Live) × IsSetUp o.plain t config (Ok s) × HasRunSession o s text out made old new r)
 
 -- the network of the program text was run on this text of input, or why not: memory was refused, or the program text is

@@ -1,6 +1,7 @@
 //! What is said of a line that isn't taken.
 
-ghost use Rattle.kahn_live.specs.Course.{IsRefused, IsRefusedPart, telling_of};
+ghost use Rattle.std.specs.Prelude.{◌≡◌, option_copied};
+ghost use Rattle.kahn_live.specs.Course.{IsHintBy, IsRefused, IsRefusedPart, is_bare, telling_of, wants_hint};
 
 use crate::telling::Teller;
 use kahn_inputs::{
@@ -11,26 +12,34 @@ use kahn_streams::{FeedFault, Network};
 use std::alloc::Global;
 use std::io::Write;
 
-/// The input channel that is named where it is told how bare numbers are taken: once, with the line of number 0, which names a channel
-/// alone, or with one that begins as a number does.
-fn hint_of<'s>(
-    session: &'s Session<'_>,
-    hinted: bool,
-    number: u64,
-    line: &[u8],
-    fault: TakeFault,
-) -> Option<&'s str> {
-    let is_bare = line
-        .first()
-        .is_some_and(|byte| byte.is_ascii_digit() || *byte == b'-');
-    let wanted = match fault {
-        TakeFault::BadLine => number == 0 || is_bare,
-        _ => number == 0 && !is_want(fault),
-    };
-    if hinted || !wanted {
-        return None;
+/// Whether a line begins as a number does.
+fn is_bare(line: &[u8]) -> bool
+    ensures { result ≡ is_bare line.now }
+{
+    match line.first() {
+        None => false,
+        Some(byte) => byte.is_ascii_digit() || *byte == b'-',
     }
-    session.first_input()
+}
+
+/// Whether it is told now how bare numbers are taken: once, where one is refused, or the line of number 0, which names a channel alone.
+fn wants_hint(hinted: bool, number: u64, line: &[u8], fault: TakeFault) -> bool
+    ensures { result ≡ wants_hint hinted number line.now fault }
+{
+    if hinted {
+        return false;
+    }
+    match fault {
+        TakeFault::BadLine => number == 0 || is_bare(line),
+        _ => number == 0 && !is_want(fault),
+    }
+}
+
+/// The input channel that is named in that.
+fn hint_of<'s>(session: &'s Session<'_>, wanted: bool) -> Option<&'s str>
+    ensures { IsHintBy wanted session.now (option_copied result) }
+{
+    if wanted { session.first_input() } else { None }
 }
 
 /// What is said of the name of a line that no input channel has, or nothing where memory is refused for it.
@@ -50,7 +59,7 @@ fn refused_part<'l>(
     fault: TakeFault,
     words: &'l str,
 ) -> RefusedPart<'l>
-    ensures { IsRefusedPart network.now line.entry.now fault result.word.now }
+    ensures { IsRefusedPart network.now line.entry.now fault result.word.now result.words.now }
 {
     match fault {
         TakeFault::BadLine => head_part(line),
@@ -75,7 +84,8 @@ pub(crate) fn tell_refused<E: Write>(
 )
     ensures { IsRefused session.now number line.now fault (telling_of E.contents teller.old) (telling_of E.contents teller.new) }
 {
-    let input = hint_of(session, teller.hinted, number, line, fault);
+    let wanted = wants_hint(teller.hinted, number, line, fault);
+    let input = hint_of(session, wanted);
     if teller.is_again(number, fault, input) {
         teller.count(number, fault);
         return;

@@ -1,8 +1,8 @@
 //! A run on lines, from the program text to the status.
 
-ghost use Rattle.std.specs.Prelude.{◌≡◌, option_copied, string_bytes};
+ghost use Rattle.std.specs.Prelude.{◌≡◌, option_copied, option_map, string_bytes};
 ghost use Rattle.kahn_live.specs.{Course.telling_of, Running.IsEndingTold, Running.IsUnstartedTold, Running.ending_status, Running.input_of};
-ghost use Rattle.kahn_live.specs.Running.{EndsAs, Gives, HasRunAs, HasRunNetwork, HasRunText, ArePlainStreams, IsSetUp, Tells, name_watched};
+ghost use Rattle.kahn_live.specs.Running.{EndsAs, Gives, HasRunAs, HasRunNetwork, HasRunText, ArePlainStreams, IsSetUp, Tells, name_watched, unknown_shown};
 
 use crate::outlet::DeferredWriter;
 use crate::rows::stream_numbers;
@@ -12,7 +12,7 @@ use crate::telling::Teller;
 use kahn_fault::{Fault, WorkFault, checked};
 use kahn_hints::add_unknown_channel;
 use kahn_line::{LiveOptions, PlainNames, copied, parted};
-use kahn_session::Session;
+use kahn_session::{Origin, Session};
 use kahn_streams::{Config, Network, RunFault, Verdict};
 use std::alloc::Global;
 use std::io::{Read, Write};
@@ -63,6 +63,24 @@ fn started<'n>(
     Ok(session)
 }
 
+/// The option that names channels which have to have streams, and these names, where a run is refused since one has none.
+fn unknown_shown(fault: RunFault, options: &LiveOptions) -> Option<(Origin, &str)>
+    ensures { option_map (λ x. (x.0, x.1.now)) result ≡ unknown_shown fault options.now.plain options.now.config.watch }
+{
+    match fault {
+        RunFault::UnknownWatch => {}
+        _ => return None,
+    }
+    match (&options.plain, &options.config.watch) {
+        (None, None) => None,
+        (None, Some(name)) => Some((Origin::Watch, name.as_str())),
+        (Some(plain), _) => match &plain.output {
+            Some(names) => Some((Origin::Plain, names.as_str())),
+            None => None,
+        },
+    }
+}
+
 /// How a run without a session ends. That a channel that is to be shown has no stream is told.
 fn unstarted<E: Write + Drop>(
     network: &Network,
@@ -70,21 +88,17 @@ fn unstarted<E: Write + Drop>(
     options: &LiveOptions,
     mut teller: Teller<E>,
 ) -> (Result<RunEnding, Fault>, Teller<E>)
-    ensures { Tells E.contents teller result (IsUnstartedTold fault) }
+    ensures { Tells E.contents teller result (IsUnstartedTold (unknown_shown fault options.now.plain options.now.config.watch) fault) }
 {
-    let names = match &options.plain {
-        Some(plain) => &plain.output,
-        None => &options.config.watch,
-    };
-    let (RunFault::UnknownWatch, Some(name)) = (fault, names) else {
+    let Some((from, names)) = unknown_shown(fault, options) else {
         return (Err(Fault::Work(WorkFault::Run(fault))), teller);
     };
-    let (alloc, name) = (teller.alloc, name.as_str());
+    let (alloc, names) = (teller.alloc, names.as_bytes());
     let mut words = String::new(alloc);
-    if add_unknown_channel(&mut words, alloc, network.program(), name.as_bytes()).is_err() {
+    if add_unknown_channel(&mut words, alloc, network.program(), names).is_err() {
         words.clear();
     }
-    teller.tell_unknown(options.plain.is_some(), name, words.as_str());
+    teller.say(from, "no such channel", names, words.as_str(), "", "");
     (Ok(RunEnding::Refused), teller)
 }
 

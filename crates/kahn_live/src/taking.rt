@@ -5,7 +5,7 @@ ghost use Rattle.std.specs.Io.Buffered.{reader_buffer, reader_remaining};
 ghost use Rattle.kahn_session.specs.{Live.HasVerdict, Live.breaks, Pace.MayBeSlow};
 ghost use Rattle.kahn_live.specs.Course.{Across, AcrossStage, HasSent, IsAloneMet, IsAnswerTold, IsLineMet, IsRefusalTold, IsPartMet, IsWriteFault, Through, no_memory, point_of, telling_of};
 ghost use Rattle.kahn_live.specs.InputMet.{AreAllMet, AreCellsMet, AreEachMet, AreLastMet, AreLastTried, IsFirstPart, IsInputMet, IsAloneTold, IsCome, IsNextMet, IsReadMet, IsRowMet, is_idle, lacks_memory};
-ghost use Rattle.kahn_live.specs.{Histories.HasHistories, Lines.IsReadyToRead, Lines.fed_text, Rows.bytes_in};
+ghost use Rattle.kahn_live.specs.{Histories.HasHistories, Lines.IsReadyToRead, Lines.fed_text, Rows.bare_of, Rows.bytes_in};
 
 use crate::complaint::tell_refused;
 use crate::lines::{Next, fed_line, has_line, read_line, without_mark};
@@ -13,7 +13,7 @@ use crate::outlet::DeferredWriter;
 use crate::rows::{is_several, row_cells, row_names};
 use crate::telling::Teller;
 use kahn_fault::{Fault, WorkFault};
-use kahn_session::{AT_END, Session, TakeFault, is_want};
+use kahn_session::{AT_END, Origin, Session, TakeFault, is_want};
 use kahn_streams::{Failure, Open, RunFault, Verdict};
 use kahn_texts::ReadFault;
 use std::io::{BufReader, Read, Write};
@@ -268,7 +268,7 @@ impl<W: Write, E: Write> LiveStage<'_, W, E> {
 
     /// Tells that no line is for another input channel, where values of one stand alone and there is another.
     fn tell_alone(&mut self, input: Option<&str>)
-        ensures { AcrossStage W.contents E.contents self.old self.new IsAloneTold }
+        ensures { AcrossStage W.contents E.contents self.old self.new (IsAloneTold (bare_of (option_copied input.entry))) }
     {
         let Some(input) = input else {
             return;
@@ -279,7 +279,9 @@ impl<W: Write, E: Write> LiveStage<'_, W, E> {
         let Some(other) = self.session.other_input(input) else {
             return;
         };
-        self.teller.tell_alone(input, other);
+        let (words, between) = ("--plain feeds ", " alone; no line feeds ");
+        self.teller
+            .say(Origin::File, words, b"", input, between, other);
     }
 
     /// Reads and takes the next line, and tells whether there was one. What is new goes out before, unless the read doesn't wait.

@@ -1,18 +1,22 @@
 //! What is told of lines that aren't taken, and of the end.
 
-ghost use Rattle.std.specs.Prelude.{◌≡◌, [], IfOk, IsTrue, false, option_copied, string_bytes, true};
-ghost use Rattle.kahn_session.specs.{Refusals.sentence_pieces, Live.HasVerdict, Live.IsRinged, Live.has_left};
+ghost use Rattle.std.specs.Prelude.{◌≡◌, ◌∷◌, [], IfOk, IsTrue, false, option_copied, string_bytes, true};
+ghost use Rattle.kahn_session.specs.Live.{HasVerdict, IsRinged, has_left};
 ghost use Rattle.kahn_fault.specs.{Status.live_status_of, Telling.pointer_text, Telling.told_text};
 ghost use Rattle.kahn_live.specs.Course.{AreCausesOf, IsFaultPut, IsMoreTold, IsNewFault, IsNextTold, IsRingTold, IsTallied, IsVerdictTold, WasSaid, WasTold, is_again, is_alike, is_verdict_new, telling_of};
 ghost use Rattle.kahn_live.specs.Running.{IsEndPut, IsLastTold, IsLeftTold, IsVerdictMet, IsWhyTold, untold};
 
 use crate::serving::{Amiss, is_end_wanted};
+use itoa::Buffer;
 use kahn_fault::{Fault, live_status, tell, tell_explain};
 use kahn_inputs::RefusedPart;
 use kahn_line::parted;
-use kahn_session::{Sentence, Session, TakeFault, is_want, take_words, write_sentence};
+use kahn_session::{
+    Origin, Session, TakeFault, failure_words, is_want, like_words, refused_origin, take_words,
+    write_said,
+};
 use kahn_streams::{Failure, Verdict};
-use kahn_texts::write_line;
+use kahn_texts::{process_name, write_line};
 use kahn_why::causes;
 use std::alloc::{AllocError, Global};
 use std::io::Write;
@@ -102,21 +106,35 @@ impl<E: Write> Teller<E> {
         }
     }
 
-    /// Tells a sentence.
-    pub(crate) fn say(&mut self, sentence: Sentence<'_>)
-        ensures { WasSaid (sentence_pieces (string_bytes self.old.path) sentence.entry) (telling_of E.contents self.old) (telling_of E.contents self.new) }
+    /// Tells what comes from there: words, a part of a line, and more words.
+    pub(crate) fn say(
+        &mut self,
+        from: Origin,
+        words: &str,
+        part: &[u8],
+        first: &str,
+        next: &str,
+        last: &str,
+    )
+        ensures { WasSaid from words.now part.now (first.now ∷ next.now ∷ last.now ∷ []) (telling_of E.contents self.old) (telling_of E.contents self.new) }
     {
-        let told = write_sentence(&mut self.errors, self.path.as_str(), sentence);
+        let path = self.path.as_str();
+        let told = write_said(&mut self.errors, path, from, words, part, first, next, last);
         self.failed |= told.is_err();
     }
 
-    /// Tells how many lines more were refused as the one that was told.
+    /// Tells how many lines more were refused as the one that was told, where there are any.
     fn tell_more(&mut self)
         ensures { IsMoreTold (telling_of E.contents self.old) (telling_of E.contents self.new) }
     {
         let more = self.number.saturating_sub(self.first);
         self.first = self.number;
-        self.say(Sentence::More(more));
+        if more == 0 {
+            return;
+        }
+        let mut room = Buffer::new();
+        let (digits, like) = (room.format(more), like_words(more));
+        self.say(Origin::File, "and ", b"", digits, like, "");
     }
 
     /// Counts the line of that number; not where refused lines leave the status as it is, unless it was lost for want of memory.
@@ -136,32 +154,20 @@ impl<E: Write> Teller<E> {
         part: RefusedPart<'_>,
         input: Option<&str>,
     )
-        ensures { IsNextTold number fault part.entry.word.now (option_copied input.entry) (telling_of E.contents self.old) (telling_of E.contents self.new) }
+        ensures { IsNextTold number fault part.entry (option_copied input.entry) (telling_of E.contents self.old) (telling_of E.contents self.new) }
     {
         self.tell_more();
         self.count(number, fault);
         self.last = Some(fault);
         self.first = number;
-        self.say(Sentence::Refused(number, fault, part.word, part.words));
+        let from = refused_origin(number, fault);
+        self.say(from, take_words(fault), part.word, part.words, "", "");
         let Some(input) = input else {
             return;
         };
         self.hinted = true;
-        self.say(Sentence::Words("bare numbers are taken with --plain ", input));
-    }
-
-    /// Tells that all lines are for one input channel and none is for another.
-    pub(crate) fn tell_alone<'a>(&mut self, input: &'a str, other: &'a str)
-        ensures { WasSaid [] (telling_of E.contents self.old) (telling_of E.contents self.new) }
-    {
-        self.say(Sentence::Alone(input, other));
-    }
-
-    /// Tells that no channel has the name of `--plain` or `--watch` for the values that are shown, and more words.
-    pub(crate) fn tell_unknown<'a>(&mut self, of_plain: bool, name: &'a str, words: &'a str)
-        ensures { WasSaid [] (telling_of E.contents self.old) (telling_of E.contents self.new) }
-    {
-        self.say(Sentence::Unknown(of_plain, name, words));
+        let words = "bare numbers are taken with --plain ";
+        self.say(Origin::File, words, b"", input, "", "");
     }
 
     /// Whether something of this verdict is told now of the part of this line: each once in a run, and of an empty line no want of events.
@@ -187,11 +193,11 @@ impl<E: Write> Teller<E> {
             Verdict::Bound => {
                 let words = "wants more events than --step allows, and goes on with the next line";
                 self.stepped = true;
-                self.say(Sentence::Note(number, words));
+                self.say(Origin::Line(number), words, b"", "", "", "");
             }
             Verdict::Memory => {
                 self.waited = true;
-                self.say(Sentence::Note(number, "waits for memory"));
+                self.say(Origin::Line(number), "waits for memory", b"", "", "", "");
             }
         }
     }
@@ -214,13 +220,16 @@ impl<E: Write> Teller<E> {
         session: &Session<'_>,
         first: Option<(usize, Failure)>,
     )
-        ensures { IsFaultPut number first (telling_of E.contents self.old) (telling_of E.contents self.new) }
+        ensures { IsFaultPut number session.now.flow.run.network first (telling_of E.contents self.old) (telling_of E.contents self.new) }
     {
         let Some((instance, kind)) = first else {
             return;
         };
         self.faulted = true;
-        self.say(Sentence::Failed(number, session.network(), instance, kind));
+        let mut room = Buffer::new();
+        let (digits, from) = (room.format(instance), Origin::Line(number));
+        let name = process_name(session.network(), instance.saturating_sub(1));
+        self.say(from, digits, b"", " ", name, failure_words(kind));
     }
 
     /// Whether processes wait on one another in a ring, which wasn't told. Behind the last part that isn't asked: the end tells it.
@@ -249,7 +258,8 @@ impl<E: Write> Teller<E> {
             return;
         };
         self.ringed = true;
-        self.say(Sentence::Note(number, parted(words.as_str(), '\n').0));
+        let first = parted(words.as_str(), '\n').0;
+        self.say(Origin::Line(number), first, b"", "", "", "");
     }
 
     /// Tells that values are left without the others of their row, where some are, behind how many lines more were refused.
@@ -261,7 +271,7 @@ impl<E: Write> Teller<E> {
         }
         self.tell_more();
         let words = "values are left without the others of their row";
-        self.say(Sentence::Words(words, ""));
+        self.say(Origin::File, words, b"", "", "", "");
     }
 
     /// Tells lines that are made.
@@ -279,7 +289,10 @@ impl<E: Write> Teller<E> {
     {
         match cause_words(self.alloc, self.path.as_str(), program, session) {
             Ok(words) => self.put_lines(words.as_str()),
-            Err(_) => self.say(Sentence::Words("no memory to say why it ended so", "")),
+            Err(_) => {
+                let words = "no memory to say why it ended so";
+                self.say(Origin::File, words, b"", "", "", "");
+            }
         }
     }
 

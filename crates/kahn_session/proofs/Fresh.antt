@@ -1,5 +1,5 @@
 -- What is new on the streams, one after another.
-use Rattle.kahn_session.proofs.Common.{[], arith, ◌≡◌, ◌∙◌, ℕ, zero, suc, ◌+◌, ◌-◌, ◌<◌, ◌≤◌, append-nil, List, ◌∷◌, ◌++◌, length, map, drop, get_or, add-one, append_assoc, refl, sym, ap, subst, Some, slice_get, slice_index_or, Program, Line, Value, Token, token_value, HeldRun, so_far, AreNew, Flowing, flow_lines, more_text, news_text, IsLine, values_behind, AreStale, slice_get-get_or}
+use Rattle.kahn_session.proofs.Common.{[], arith, ◌≡◌, ◌∙◌, ℕ, zero, suc, ◌+◌, ◌-◌, ◌<◌, ◌≤◌, append-nil, List, ◌∷◌, ◌++◌, length, map, drop, get_or, add-one, refl, sym, ap, subst, Some, slice_get, slice_index_or, Program, Line, Value, Token, token_value, HeldRun, so_far, AreNew, Flowing, flow_lines, more_text, news_text, IsLine, values_behind, AreStale, slice_get-get_or}
 use Rattle.std.proofs.Math.Seq.{drop-append_seam, drop-nil}
 use Rattle.kahn_streams.proofs.By_number.{all_at}
 use Rattle.kahn_texts.proofs.Answer_lines.{streamed_lines}

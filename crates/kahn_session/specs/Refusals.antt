@@ -1,14 +1,13 @@
--- Believed. What is said of lines of input that aren't taken: of which line, and why (this project's profile).
-use Rattle.std.specs.Prelude.{ℕ, ◌-◌, ◌^◌, ◌==◌, ◌&&◌, ◌||◌, ◌++◌, Bool, true, false, not, List, [], ◌∷◌, Option, Result, codes, decimal, if◌then◌else◌}
+-- Believed. What is said of a run on lines: of which line, why one isn't taken, and in which words (this project's profile).
+use Rattle.std.specs.Prelude.{ℕ, ◌-◌, ◌^◌, ◌==◌, ◌&&◌, ◌++◌, Bool, true, false, not, List, [], ◌∷◌, Option, Result, codes, decimal, if◌then◌else◌, length, nat_lt}
 use Rattle.std.specs.List.{concat}
-use Rattle.kahn_streams.specs.Written.{Writes}
+use Rattle.kahn_streams.specs.{declared.value.Failure.Failure, declared.value.Failure.TheVariants.Overflow, declared.value.Failure.TheVariants.Division, Written.Writes}
 use Rattle.kahn_streams.specs.declared.feeds.FeedFault.TheVariants as feed
 use Rattle.kahn_marks.specs.Shown.{shown_part}
-use Rattle.kahn_texts.specs.declared.bytes.WriteFault.{WriteFault}
 use Rattle.kahn_session.specs.declared.fault.TakeFault.{TakeFault}
 use Rattle.kahn_session.specs.declared.fault.TakeFault.TheVariants as take
-use Rattle.kahn_session.specs.declared.refusal.Sentence.{Sentence}
-use Rattle.kahn_session.specs.declared.refusal.Sentence.TheVariants as sentence
+use Rattle.kahn_session.specs.declared.refusal.Origin.{Origin}
+use Rattle.kahn_session.specs.declared.refusal.Origin.TheVariants.{File, Plain, Watch, Line}
 
 -- why a line isn't taken
 abbrev pub take_words : TakeFault → List ℕ
@@ -31,48 +30,47 @@ is_want take.NoMemory = true
 is_want (take.Feed feed.NoMemory) = true
 is_want f = false
 
--- ---- what is said of a line
+-- how many lines more weren't taken for the same reason, behind their number
+abbrev pub like_words : ℕ → List ℕ
+like_words count = if count == 1 then codes " line more like it" else codes " lines more like it"
+
+-- which fault a process has, behind its name
+abbrev pub failure_words : Failure → List ℕ
+failure_words Overflow = codes " has a fault: overflow"
+failure_words Division = codes " has a fault: division"
+
+-- ---- where what is said comes from
 
 -- the number of each line of `--at-end`, which no line of the input has
 abbrev pub at_end_number : ℕ
 at_end_number = 2 ^ 64 - 1
 
--- of number 0 is the line that `--plain` makes of a channel, and want of memory before the first line
-abbrev pub is_of_plain : ℕ → TakeFault → Bool
-is_of_plain number f = number == 0 && not (is_want f)
+abbrev pub origin : Origin → List ℕ
+origin File = []
+origin Plain = codes ": --plain"
+origin Watch = codes ": --watch"
+origin (Line number) = if number == at_end_number then codes ": --at-end" else codes ": input line " ++ decimal number
 
--- where a line comes from, and its number in the input
-abbrev pub origin : Bool → ℕ → List ℕ
-origin of_plain number = if of_plain then codes ": --plain" else if number == at_end_number then codes ": --at-end" else codes ": input line "
+-- of a line that isn't taken: of number 0 is the one that `--plain` makes of a channel, and want of memory before the first line
+abbrev pub refused_origin : ℕ → TakeFault → Origin
+refused_origin number f = if number == 0 && not (is_want f) then Plain else Line number
 
-abbrev pub digits : Bool → ℕ → List ℕ
-digits of_plain number = if of_plain || number == at_end_number then [] else decimal number
+-- ---- what is said
 
--- what stands before a part of a line
+-- what stands around a part of a line, of which so many bytes are shown
 abbrev pub before_part : List ℕ → List ℕ
 before_part [] = []
 before_part (b ∷ bs) = codes ": `"
 
--- the program's file, where a line comes from, and what is said of it first: words, and a part of it as it is shown
-abbrev pub said_pieces : List ℕ → List ℕ → List ℕ → List ℕ → List ℕ → List (List ℕ)
-said_pieces path from number words part = path ∷ from ∷ number ∷ codes ": " ∷ words ∷ before_part part ∷ shown_part part ∷ []
+abbrev pub behind_part : List ℕ → ℕ → List ℕ
+behind_part [] shown = []
+behind_part (b ∷ bs) shown = if nat_lt shown (length (b ∷ bs)) then codes "..`" else codes "`"
 
--- of a line that isn't taken why, and the part of it that is at fault
-abbrev pub refused_pieces : List ℕ → ℕ → TakeFault → List ℕ → List (List ℕ)
-refused_pieces path number f part = said_pieces path (origin (is_of_plain number f) number) (digits (is_of_plain number f) number) (take_words f) part
+-- the program's file, where it comes from, words, a part of a line as it is shown, and more words
+abbrev pub said_text : List ℕ → List ℕ → List ℕ → List ℕ → List (List ℕ) → List ℕ
+said_text path from words part more =
+    concat (path ∷ from ∷ codes ": " ∷ words ∷ before_part part ∷ shown_part part ∷ behind_part part (length (shown_part part)) ∷ (more ++ (codes "\n" ∷ [])))
 
--- of another line these words
-abbrev pub line_pieces : List ℕ → ℕ → List ℕ → List (List ℕ)
-line_pieces path number words = said_pieces path (origin false number) (digits false number) words []
-
--- a text that begins with these pieces was written, or after a fault of the writer a prefix of one
-pub record SaysPieces (pieces : List (List ℕ)) (old new : Option (List ℕ)) (r : Result (Unit {0}) WriteFault) : Type 0 where
-  pub rest : List (List ℕ)
-  pub text : Writes old new r (concat (pieces ++ rest))
-
--- with what a sentence about a line begins; of the process of a number, from 1, that has a fault since the part of the line
-abbrev pub sentence_pieces : List ℕ → Sentence → List (List ℕ)
-sentence_pieces path (sentence.Refused number f part more) = refused_pieces path number f part.now
-sentence_pieces path (sentence.Note number words) = line_pieces path number words.now
-sentence_pieces path (sentence.Failed number network instance kind) = line_pieces path number (decimal instance)
-sentence_pieces path s = []
+-- that was written, or after a fault of the writer a prefix of it
+abbrev pub Says : {X E : Type 0} → Option (List ℕ) → Option (List ℕ) → Result X E → List ℕ → List ℕ → List ℕ → List ℕ → List (List ℕ) → Type 0
+Says old new r path from words part more = Writes old new r (said_text path from words part more)

@@ -9,5 +9,7 @@ mod ringing;
 mod session;
 
 pub use fault::TakeFault;
-pub use refusal::{AT_END, Sentence, is_want, take_words, write_sentence};
+pub use refusal::{
+    AT_END, Origin, failure_words, is_want, like_words, refused_origin, take_words, write_said,
+};
 pub use session::Session;

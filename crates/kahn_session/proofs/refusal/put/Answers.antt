@@ -1,13 +1,17 @@
-use Rattle.kahn_session.proofs.Common.{[], ◌∷◌, ◌++◌, List, ℕ, codes, concat, rules, Writes}
-use Rattle.kahn_session.specs.Refusals.{said_pieces}
+use Rattle.kahn_session.proofs.Common.{[], ◌∷◌, ◌++◌, ◌∙◌, List, ℕ, ap, append_assoc, codes, concat, length, rules, subst, sym, Writes}
+use Rattle.kahn_marks.specs.Shown.{shown_part}
+use Rattle.kahn_session.specs.Refusals.{before_part, behind_part}
 use Rattle.kahn_session.proofs.refusal.put.Goals as goal
 
 pub returns : goal.returns
 returns g c =
-    let before = g.W.Write.contents c.args.writer.now in
+    let before = g.W.Write.contents c.args.out.now in
     let after = g.W.Write.contents c.write_line.new.writer in
-    let first = said_pieces c.args.path.now c.args.origin.0.now c.args.origin.1.now c.args.words.now c.args.part.now in
-    let more = c.args.more in
-    let rest = c.around_part.result.1.now ∷ more.0.now ∷ more.1.now ∷ more.2.now ∷ codes "\n" ∷ [] in
-    let text : Writes before after c.write_line.result (concat (first ++ rest)) = search rules in
-    record { rest = rest; text = text }
+    let path = c.args.path.now in
+    let from = c.args.from.now in
+    let number = c.args.number.now in
+    let part = c.args.part.now in
+    let behind = c.args.first.now ∷ c.args.next.now ∷ c.args.last.now ∷ codes "\n" ∷ [] in
+    let rest = concat (codes ": " ∷ c.args.words.now ∷ before_part part ∷ shown_part part ∷ behind_part part (length (shown_part part)) ∷ behind) in
+    let text : Writes before after c.write_line.result (path ++ (from ++ (number ++ rest))) = search rules in
+    subst (Writes before after c.write_line.result) (ap (λ (l : List ℕ). path ++ l) (sym (append_assoc from number rest))) text

@@ -1,13 +1,15 @@
-use Rattle.kahn_live.proofs.Common.{List, ℕ, ◌++◌, concat, refl, subst, string_bytes, SaysPieces, sentence_pieces}
+use Rattle.kahn_live.proofs.Common.{[], ◌∷◌, List, ℕ, refl, subst, string_bytes, Writes, origin, said_text}
 use Rattle.kahn_live.proofs.Meeting.{put_as}
 use Rattle.kahn_live.proofs.telling.Teller.say.Goals as goal
 
 pub returns : goal.returns
 returns g c =
-    let old = c.args.self.now in
-    let before = g.E.Write.contents old.errors in
-    let after = g.E.Write.contents c.write_sentence-told.new.writer in
-    let told = c.write_sentence-told.result in
-    let said = subst (λ (path : List ℕ). SaysPieces (sentence_pieces path c.args.sentence) before after told) c.as_str.ensures.value c.write_sentence-told.ensures in
-    let put = put_as (concat (sentence_pieces (string_bytes old.path) c.args.sentence ++ said.rest)) before after old.failed c.is_err.result told c.is_err.ensures.value said.text in
-    record { rest = said.rest; told = record { front = put.0; whole = put.1; rest = refl } }
+    let a = c.args in
+    let before = g.E.Write.contents a.self.now.errors in
+    let after = g.E.Write.contents c.write_said-told.new.out in
+    let told = c.write_said-told.result in
+    let more = a.first.now ∷ a.next.now ∷ a.last.now ∷ [] in
+    let wrote = subst (λ (path : List ℕ). Writes before after told (said_text path (origin a.from) a.words.now a.part.now more)) c.as_str-path.ensures.value c.write_said-told.ensures in
+    let text = said_text (string_bytes a.self.now.path) (origin a.from) a.words.now a.part.now more in
+    let put = put_as text before after a.self.now.failed c.is_err.result told c.is_err.ensures.value wrote in
+    record { front = put.0; whole = put.1; rest = refl }

@@ -1,4 +1,4 @@
-use Rattle.kahn_live.proofs.Common.{◌≡◌, ◌∙◌, Bool, true, rules, subst, sym, IsLeftTold, telling_of}
+use Rattle.kahn_live.proofs.Common.{◌≡◌, ◌∙◌, Bool, true, rules, subst, IsLeftTold, telling_of}
 use Rattle.kahn_live.proofs.telling.Teller.tell_left.Goals as goal
 
 pub returns : goal.returns
