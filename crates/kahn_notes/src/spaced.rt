@@ -1,10 +1,8 @@
 //! Words that were parted, grew together or lost a letter to a neighbour, and numbers of other languages.
 
-use crate::mending::{Fixed, mending};
-use crate::place::{MOST, Place, front, name_at, near};
-use crate::said::{replacing, sentence};
-use crate::table::has_word;
-use crate::words::class_word;
+use crate::mending::{Fixed, mending, replacing, sentence};
+use crate::place::{MOST, Place, front, has_word, near, times};
+use crate::unexpected::class_word;
 use itoa::Buffer;
 use kahn_marks::{is_within, part_of};
 use kahn_syntax::{Class, Keyword, Lexeme, Span};
@@ -59,7 +57,7 @@ fn is_near(word: &str, other: &str) -> bool {
 }
 
 /// The name of some lexemes or the keyword from which a word is one slip away; none if it is one of them but for what ends it.
-pub(crate) fn nearest<'t>(text: &'t str, lexemes: &[Lexeme], word: &str) -> Option<&'t str> {
+fn nearest<'t>(text: &'t str, lexemes: &[Lexeme], word: &str) -> Option<&'t str> {
     let bare = word.trim_end_matches(|one: char| !one.is_ascii_alphanumeric());
     let mut near = None;
     for one in front(lexemes, MOST).iter().rev() {
@@ -84,27 +82,13 @@ fn part_at(place: Place, first: isize, last: isize) -> Option<Span> {
     let is_word = part.iter().all(|byte| *byte >= b' ')
         && is_of_word(*part.first()?)
         && is_of_word(*part.last()?);
-    if is_word {
-        Some(Span { from, to })
-    } else {
-        None
-    }
-}
-
-/// Whether the name so many behind a place stands elsewhere too.
-fn is_used(place: Place, count: isize) -> bool {
-    let Some(name) = name_at(place, count) else {
-        return false;
-    };
-    let lexemes = front(place.lexemes, MOST).iter();
-    let same = lexemes.filter(|one| part_of(place.text, one.span) == name);
-    same.count() > 1
+    Some(Span { from, to }).filter(|_| is_word)
 }
 
 /// Two or three lexemes round a place that are one slip away from a keyword, or from a name of the text, and that word in their place.
 pub(crate) fn blurred(place: Place) -> Fixed {
     for (first, last) in [(-1, 0), (-1, 1), (-2, 0), (-2, -1), (0, 1), (0, 2)] {
-        if is_used(place, first) && is_used(place, last) {
+        if times(place, first) > 1 && times(place, last) > 1 {
             continue;
         }
         if let Some(span) = part_at(place, first, last) {
