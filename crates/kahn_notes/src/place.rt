@@ -128,23 +128,17 @@ pub(crate) fn offered(place: Place, out: usize, puts: &str) -> Option<Change> {
     None
 }
 
-/// How often the name so many behind a place stands in the text.
-pub(crate) fn times(place: Place, count: isize) -> usize {
-    let (name, lexemes) = (name_at(place, count), front(place.lexemes, MOST).iter());
-    let same = lexemes.filter(|one| Some(part_of(place.text, one.span)) == name);
-    same.count()
-}
-
 /// Whether a name at a place is a slip away from a word, and may be one: the text doesn't declare it, and one of up to three letters stands
 /// once.
 fn is_slip(place: Place, word: &str) -> bool {
     let Some(name) = name_at(place, 0) else {
         return false;
     };
-    let is_once = times(place, 0) == 1;
+    let lexemes = place.lexemes.iter();
+    let same = lexemes.filter(|one| part_of(place.text, one.span) == name);
     let may_slip = match name.len() {
-        0 | 1 => place.offers.far && is_once,
-        2 | 3 => is_once,
+        0 | 1 => place.offers.far && same.count() == 1,
+        2 | 3 => same.count() == 1,
         _ => place.offers.far || row_of_foreign(name).is_none(),
     };
     is_within(name.as_bytes(), word.as_bytes(), 1)

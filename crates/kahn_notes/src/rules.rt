@@ -6,7 +6,7 @@ use crate::characters::{foreign_word, remark_before};
 use crate::mending::{Fixed, Saying, filled, fix_of, sentence, told};
 use crate::place::{Place, before, cell, finds, fits, near, offered, slip, word_at};
 use crate::rewriting::rewritten;
-use crate::spaced::{blurred, decimal, parted};
+use crate::spaced::{decimal, parted};
 use crate::unexpected::class_word;
 use kahn_marks::part_of;
 use kahn_wanted::{CLASSES, Change};
@@ -23,7 +23,6 @@ number | name | joined | decimal
 any | if process repeat while send print wait in out input output channel | twice | out
 any | any | always | parted | shifted
 any | any | always | parted
-any | any | always | blurred
 , | integer logical | -number | last | ;
 any | any | always | words
 any | any | always | slip
@@ -209,7 +208,6 @@ fn fix_by(rule: &str, puts: &str, place: Place) -> Fixed {
     match rule {
         "parted" => parted(place, puts),
         "decimal" => decimal(place),
-        "blurred" => blurred(place),
         "last" => fix_of(place, change_of(number.checked_sub(1), 1, puts)),
         "this" => fix_of(place, change_of(Some(number), 1, puts)),
         "behind" => fix_of(place, change_of(Some(number), 0, puts)),
