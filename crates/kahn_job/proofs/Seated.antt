@@ -7,6 +7,14 @@ middle : (done rest : List Tapped) (x : Tapped) → slice_get (tolds_of (done ++
 middle [] rest x = refl
 middle (y ∷ done) rest x = middle done rest x
 
+next : (done rest : List Tapped) (x : Tapped) → slice_get (done ++ x ∷ rest) (length done) ≡ Some x
+next [] rest x = refl
+next (y ∷ done) rest x = next done rest x
+
+-- the next one is one of all
+pub tap_in : (taps done rest : List Tapped) (x : Tapped) → taps ≡ done ++ x ∷ rest → slice_get taps (length done) ≡ Some x
+tap_in taps done rest x split = ap (λ (l : List Tapped). slice_get l (length done)) split ∙ next done rest x
+
 seat_more : (done : List Tapped) (old : List CellView) (x : Tapped) → length done < length old →
     slice_set (tolds_of done ++ drop (length done) old) (length done) x.told ≡ tolds_of (done ++ x ∷ []) ++ drop (length (done ++ x ∷ [])) old
 seat_more [] [] x lt = absurd (omega (arith, lt))

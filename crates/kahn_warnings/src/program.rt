@@ -1,9 +1,9 @@
 //! All that is warned of in a program.
 
 ghost use Rattle.std.specs.Prelude.{◌≡◌, ◌++◌, ◌&&◌, ◌||◌, IfOk, None, if◌then◌else◌};
-ghost use Rattle.std.specs.Option.{option_or};
+ghost use Rattle.std.specs.{List.list_any, Option.option_or};
 ghost use Rattle.kahn_streams.specs.View.{Scope, statement_of};
-ghost use Rattle.kahn_warnings.specs.{Comments.AreCommentWarnings, Loops.LoopsHold, Loops.is_seen, Loops.never_ends, Uses.assigns, Uses.uses_name, Warnings.AreWarnings, Warnings.bare_kind, Warnings.body_warnings, Warnings.declaration_warnings, Warnings.loop_kind, Warnings.name_kind, Warnings.name_warnings, Warnings.names_warnings, Warnings.process_kind, Warnings.statement_warnings, inner.Collecting.Are};
+ghost use Rattle.kahn_warnings.specs.{Comments.AreCommentWarnings, Loops.LoopsHold, Loops.is_seen, Loops.never_ends, Uses.assigns, Uses.uses_name, Warnings.AreWarnings, Warnings.bare_kind, Warnings.body_warnings, Warnings.declaration_warnings, Warnings.is_of, Warnings.loop_kind, Warnings.name_kind, Warnings.name_warnings, Warnings.names_warnings, Warnings.process_kind, Warnings.statement_warnings, inner.Collecting.Are};
 
 use crate::collected::{NameSet, has, is_empty, names_in, waits_in};
 use crate::constants::{add_constants, is_true};
@@ -32,19 +32,22 @@ fn comment_warnings(alloc: Global, text: &str) -> Result<Vec<Warning>, NoMemory>
     Ok(warnings)
 }
 
+/// Whether one of the instances is of a process.
+fn has_instance(instances: &[Instance], process: &Process) -> bool
+    ensures { result ≡ list_any (is_of process.now) instances.now }
+{
+    instances.iter().any(|instance| instance.process.text.as_bytes()
+        == process.name.text.as_bytes())
+}
+
 /// What is warned of a process: that no instance names it.
 fn process_kind(instances: &[Instance], process: &Process) -> Option<WarningKind>
     ensures { result ≡ process_kind instances.now process.now }
 {
-    let name = process.name.text.as_bytes();
-    let is_made = instances
-        .iter()
-        .any(|instance| instance.process.text.as_bytes() == name);
-    if is_made {
-        None
-    } else {
-        Some(WarningKind::NoInstance)
+    if has_instance(instances, process) {
+        return None;
     }
+    Some(WarningKind::NoInstance)
 }
 
 /// What is warned of a name that is used or isn't, and is assigned or isn't: of a variable of this kind, or of a parameter.

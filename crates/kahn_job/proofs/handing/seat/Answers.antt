@@ -1,6 +1,12 @@
-use Rattle.kahn_job.proofs.Common.{[], arith, List, ◌∷◌, ◌++◌, sym, ap, ◌∙◌, length-set, Tapped, append_assoc, length-append}
-use Rattle.kahn_job.proofs.Seated.{cells_more, rows_stay, same_more}
+use Rattle.kahn_job.proofs.Common.{[], arith, length, List, ◌∷◌, ◌++◌, sym, ap, ◌∙◌, length-set, Tapped, append_assoc, length-append}
+use Rattle.kahn_job.proofs.Seated.{cells_more, rows_stay, same_more, tap_in}
 use Rattle.kahn_job.proofs.handing.seat.Goals as goal
+
+pub into_cell-requires : goal.into_cell-requires
+into_cell-requires c =
+    let done = c.loop-tap.yielded in
+    let split = c.loop-tap.invariant.3 ∙ ap (λ (l : List Tapped). done ++ l) c.in-Some.ensures.steps.0 in
+    c.requires.whole (length done) c.in-Some.tap (tap_in c.args.taps.items done c.next.new.self.rest.items c.in-Some.tap split)
 
 pub loop-tap-preserved : goal.loop-tap-preserved
 loop-tap-preserved c =
