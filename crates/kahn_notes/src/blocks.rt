@@ -1,11 +1,16 @@
 //! What is said of blocks where a text has more `begin`s than `end`s, or fewer, by the indentation of their lines.
 
+ghost use Rattle.std.specs.Prelude.{Contains, IfSome};
+
 use crate::characters::foreign_word;
-use crate::mending::{Fixed, Saying, mending, placed, put_at, put_behind};
-use crate::place::{Place, before, cell, finds, front, has_word, may_stand, near, offered};
-use crate::unexpected::class_word;
+use crate::mending::{Fixed, mending};
+use crate::place::{Place, before, front, near, offered};
+use crate::said::{Saying, Words, line_of, put_at, put_behind, sentence, spot_words};
+use crate::table::{cell, finds, has_word, may_stand};
+use crate::words::class_word;
 use kahn_marks::part_of;
-use kahn_syntax::Span;
+use kahn_syntax::{Lexeme, Span};
+use kahn_wanted::open_behind;
 use std::alloc::AllocError;
 
 /// How many lexemes before an `end` are looked at.
@@ -89,7 +94,8 @@ fn guard_of(seats: &[LineLexeme], number: usize, end: LineLexeme) -> Option<usiz
 /// Whether a block had to end before a line: before a process, an `end` that is less deep than its `begin`, and what is no deeper than this,
 /// where the first line within is.
 fn is_past(seats: &[LineLexeme], begin: usize, seat: LineLexeme) -> bool {
-    let Some([begin, inside, ..]) = seats.get(begin..) else {
+    let inside = seats.get(begin.saturating_add(1));
+    let (Some(begin), Some(inside)) = (seats.get(begin), inside) else {
         return false;
     };
     let is_within = inside.line == begin.line || begin.deep < inside.deep;
@@ -151,6 +157,18 @@ fn surplus_at(place: Place, seats: &[LineLexeme]) -> Result<Option<usize>, Alloc
     Ok(doubt)
 }
 
+/// The `begin` there, if its block is open.
+fn open_there(begins: &[Lexeme], span: Span) -> Option<Lexeme>
+    ensures { IfSome result (Contains begins.now) }
+{
+    for begin in begins {
+        if begin.span == span {
+            return Some(*begin);
+        }
+    }
+    None
+}
+
 /// The `end` before a lexeme with which a place is mended, before a semicolon there or with one.
 fn closing(place: Place, seats: &[LineLexeme], number: usize) -> Fixed {
     let last = number.saturating_sub(1);
@@ -174,7 +192,11 @@ fn unclosed(place: Place, seats: &[LineLexeme]) -> Saying {
     let Some((number, end)) = unclosed_at(place, seats)? else {
         return Ok(None);
     };
-    let Some(one) = seats.get(number) else {
+    let open = open_behind(alloc, front(place.lexemes, end))?;
+    let Some(one) = seats
+        .get(number)
+        .and_then(|begin| open_there(&open, begin.span))
+    else {
         return Ok(None);
     };
     let is_second = word_of(seats, number.wrapping_sub(1)) == "begin"
@@ -185,24 +207,25 @@ fn unclosed(place: Place, seats: &[LineLexeme]) -> Saying {
         let words = String::from_str(alloc, "the second `begin` has no `end`")?;
         return Ok(Some((Some((one.span, words)), Some(fix), None)));
     }
-    let line = one.line;
+    let line = seats.get(number).map_or(0, |begin| begin.line);
     let (words, from) = match seats.get(end) {
         Some(end) if line == end.line => ("it ends before #", end.span.from),
-        Some(end) => ("by its indentation it ends before line %", end.span.from),
+        Some(end) => ("by its indentation it ends before line @", end.span.from),
         None => ("by its indentation it ends at the end of the text", 0),
     };
-    let ending = placed(alloc, text, words, "", from)?;
+    let at = spot_words(alloc, text, from)?;
+    let ending = sentence(alloc, words, line_of(at.as_str()), at.as_str())?;
     let mut inner = seats
         .get(number.saturating_add(1)..end)
         .unwrap_or(&[])
         .iter();
     let inner = inner.find(|seat| seat.word == "begin" && seat.line == line);
+    let spot = spot_words(alloc, text, inner.map_or(0, |inner| inner.span.from))?;
     let words = match inner {
         Some(_) => "`begin` has no `end`, or that at # has none: @",
         None => "`begin` has no `end`: @",
     };
-    let at = inner.map_or(0, |inner| inner.span.from);
-    let words = placed(alloc, text, words, ending.as_str(), at)?;
+    let words = sentence(alloc, words, ending.as_str(), spot.as_str())?;
     let fix = closing(place, seats, end)?;
     Ok(Some((Some((one.span, words)), fix, None)))
 }
@@ -211,8 +234,16 @@ fn unclosed(place: Place, seats: &[LineLexeme]) -> Saying {
 fn guard_before(seats: &[LineLexeme], number: usize) -> Option<LineLexeme> {
     let guard = guard_of(seats, number, *seats.get(number)?)?;
     let mut between = seats.get(guard..number)?.iter();
-    let is_several = between.any(|seat| seat.word == ";");
-    seats.get(guard).copied().filter(|_| is_several)
+    if between.any(|seat| seat.word == ";") {
+        return seats.get(guard).copied();
+    }
+    None
+}
+
+/// What is said of the lexeme that leads to several statements, to an `end`.
+fn led_words(place: Place, sentence_of: &str, guard: LineLexeme, at: usize) -> Words {
+    let at = spot_words(place.alloc, place.text, at)?;
+    sentence(place.alloc, sentence_of, guard.word, at.as_str())
 }
 
 /// What is said of the `end` that is one too many, with a word behind it that says what it ends, or that closes several statements without a
@@ -225,7 +256,7 @@ fn surplus(place: Place, seats: &[LineLexeme]) -> Saying {
     };
     if let Some(guard) = guard_before(seats, number) {
         let words = "several statements stand behind `@` without `begin`, to the `end` at #";
-        let words = placed(alloc, text, words, guard.word, end.span.from)?;
+        let words = led_words(place, words, guard, end.span.from)?;
         let fix = put_behind(alloc, text, guard.span, "begin")?;
         return Ok(Some((Some((guard.span, words)), Some(fix), None)));
     }
@@ -264,7 +295,7 @@ pub(crate) fn closer_said(place: Place) -> Saying {
     } else {
         "insert `begin` after `@` at #: it makes one statement of several, to its `end`"
     };
-    let words = placed(alloc, text, words, guard.word, guard.span.from)?;
+    let words = led_words(place, words, guard, guard.span.from)?;
     let end = put_at(alloc, text, end.span, end.span, "end")?;
     let fix = if is_else { None } else { Some(end) };
     let fix = mending(alloc, text, place.span, fix)?;
@@ -273,14 +304,18 @@ pub(crate) fn closer_said(place: Place) -> Saying {
 
 /// What is said of blocks at a place, by the indentation of the lines up to it.
 pub(crate) fn blocks_said(place: Place) -> Saying {
-    let all = seats(place)?;
-    let count_of = |word: &str| all.iter().filter(|seat| seat.word == word).count();
+    let count_of = |word| {
+        let lexemes = place.lexemes.iter();
+        lexemes.filter(|one| finds(word, Some(**one))).count()
+    };
     let (begins, ends) = (count_of("begin"), count_of("end"));
+    if begins == ends {
+        return Ok(None);
+    }
+    let all = seats(place)?;
     if ends < begins {
         unclosed(place, &all)
-    } else if begins < ends {
-        surplus(place, &all)
     } else {
-        Ok(None)
+        surplus(place, &all)
     }
 }

@@ -3,12 +3,14 @@
 ghost use Rattle.std.specs.Prelude.{IfOk, IfSome};
 ghost use Rattle.kahn_notes.specs.Notes.{Mends};
 
-use crate::mending::{Fixed, mending, put_at, replacing, sentence};
-use crate::place::{Place, before, cell, finds, has_word, holds, name_at, near, row_of, stands_as};
+use crate::mending::{Fixed, mending};
+use crate::place::{Place, before, is_known, name_at, near};
 use crate::rewriting::{BEHIND, KINDS, rewritten};
-use crate::spaced::is_keyword;
+use crate::said::{put_at, replacing, sentence};
+use crate::spaced::{is_keyword, nearest};
+use crate::table::{cell, finds, has_word, holds, row_of, stands_as};
 use kahn_marks::{Fix, is_within, part_of};
-use kahn_syntax::{Span, SyntaxFault};
+use kahn_syntax::{Span, SyntaxFault, lex};
 use kahn_wanted::is_of_word;
 use std::alloc::{AllocError, Global};
 
@@ -51,7 +53,6 @@ _ |  | ; a name begins with a letter
 : | then do | ; behind a test stands `then` or `do` | test
 : | := ; nothing | ; `:` stands before `=` alone
 \u{FF1A} | : := | ; a colon is `:`
-\\ | nothing
 $ @ | nothing | ; a name begins with a letter, and has letters, digits and `_`
 ``` |  | ; the lines of a fence are no part of a program
 ` | nothing | ; names and operators stand without such marks
@@ -124,6 +125,21 @@ fn place_help(text: &str, at: usize) -> &'static str {
     }
 }
 
+/// What is put in the place of any other character: nothing beside a letter, a digit or `_`, and for one that isn't ASCII only behind a sign.
+fn puts_for(text: &str, span: Span) -> &'static str {
+    let is_sign = |one: char| one.is_ascii_punctuation();
+    let is_behind = text
+        .get(..span.from)
+        .is_some_and(|before| before.ends_with(is_sign));
+    let part = part_of(text, span);
+    match part.is_ascii() {
+        _ if word_round(text, span) != span || part.bytes().any(is_of_word) => "",
+        true => "nothing ; ) ,",
+        false if is_behind => "; ) ,",
+        false => "",
+    }
+}
+
 /// Words for readers stand behind these elsewhere.
 const REMARKS: &str = "note remark rem nb todo fixme kommentar bemerkung hinweis comments";
 
@@ -181,6 +197,18 @@ fn put_in(alloc: Global, text: &str, part: Span, put: &str) -> Result<Fix, Alloc
     Ok(replacing(word, String::from_str(alloc, new.as_str().trim())?))
 }
 
+/// The keyword or the name of the text from which the word round a character is one slip away, and that word in its place.
+fn blurred_word(alloc: Global, text: &str, plain: &str, span: Span) -> Fixed {
+    let word = word_round(text, span);
+    let Ok(lexemes) = lex(alloc, plain) else {
+        return Ok(None);
+    };
+    match nearest(plain, &lexemes, part_of(text, word)) {
+        Some(name) => Ok(Some(put_at(alloc, text, word, word, name)?)),
+        None => Ok(None),
+    }
+}
+
 /// What is put in the place of a character that isn't of the language: the first that mends the place, in the text and in that with blanks
 /// for such characters.
 pub(crate) fn character_fix(alloc: Global, text: &str, plain: &str, span: Span) -> Fixed
@@ -188,6 +216,7 @@ pub(crate) fn character_fix(alloc: Global, text: &str, plain: &str, span: Span) 
 {
     for fix in [
         remark_before(alloc, text, span.from)?,
+        blurred_word(alloc, text, plain, span)?,
         rewritten(alloc, text, plain, span.from)?,
     ] {
         let fix = mending(alloc, text, span, fix)?;
@@ -203,7 +232,7 @@ pub(crate) fn character_fix(alloc: Global, text: &str, plain: &str, span: Span) 
         (_, Some(put)) if !is_ended || is_keyword(put) || !put.bytes().all(is_of_word) => (
             put, key,
         ),
-        (_, _) => ("", key),
+        (_, _) => (puts_for(text, span), key),
     };
     let to = span.from.saturating_add(key.len());
     let part = Span { to, ..span };
@@ -303,7 +332,7 @@ fn foreign_at(place: Place, back: usize) -> Option<(Place, &'static str)> {
     let name = name_at(at, 0)?;
     let is_head = finds("process channel", near(at, -1));
     let is_given = (back > 0 && finds("= :=", near(place, 0))) || stands_as(at, "assigned");
-    if is_given || is_head || stands_as(at, "declared") {
+    if is_given || is_head || is_known(at) {
         return None;
     }
     let mut rows = FOREIGN.lines();

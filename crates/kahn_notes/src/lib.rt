@@ -4,12 +4,17 @@
 
 mod blocks;
 mod characters;
+mod habits;
 mod mending;
+mod patterns;
 mod place;
 mod rewriting;
 mod rules;
+mod said;
 mod spaced;
+mod table;
 mod unexpected;
+mod words;
 
 // For the crates above.
 pub use characters::character_help;

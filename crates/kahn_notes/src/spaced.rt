@@ -1,11 +1,14 @@
-//! Words that grew together or lost a letter to a neighbour, and numbers of other languages.
+//! Words that were parted, grew together or lost a letter to a neighbour, and numbers of other languages.
 
-use crate::mending::{Fixed, mending, replacing, sentence};
-use crate::place::{MOST, Place, front, has_word, near};
+use crate::mending::{Fixed, mending};
+use crate::place::{MOST, Place, front, name_at, near};
+use crate::said::{replacing, sentence};
+use crate::table::has_word;
+use crate::words::class_word;
 use itoa::Buffer;
-use kahn_marks::part_of;
-use kahn_syntax::{Keyword, Span};
-use kahn_wanted::is_of_word;
+use kahn_marks::{is_within, part_of};
+use kahn_syntax::{Class, Keyword, Lexeme, Span};
+use kahn_wanted::{CLASSES, is_of_word};
 
 /// The number that is written in another language by digits and a word right behind them.
 fn value_of(digits: &str, word: &str) -> Option<i64> {
@@ -47,6 +50,33 @@ fn is_there(place: Place, word: &str) -> bool {
         || lexemes.any(|one| part_of(place.text, one.span) == word)
 }
 
+/// Whether a word of more than two letters is one slip away from another one, which neither begins nor ends it.
+fn is_near(word: &str, other: &str) -> bool {
+    is_within(word.as_bytes(), other.as_bytes(), 1)
+        && word.len() > 2
+        && !word.starts_with(other)
+        && !word.ends_with(other)
+}
+
+/// The name of some lexemes or the keyword from which a word is one slip away; none if it is one of them but for what ends it.
+pub(crate) fn nearest<'t>(text: &'t str, lexemes: &[Lexeme], word: &str) -> Option<&'t str> {
+    let bare = word.trim_end_matches(|one: char| !one.is_ascii_alphanumeric());
+    let mut near = None;
+    for one in front(lexemes, MOST).iter().rev() {
+        let name = part_of(text, one.span);
+        if bare.len() < word.len() && name == bare {
+            return None;
+        }
+        if one.what == Class::Name && is_near(word, name) {
+            near = Some(name);
+        }
+    }
+    let mut classes = CLASSES.iter();
+    let keyword = classes.find(|one| is_keyword(class_word(**one))
+        && is_near(word, class_word(**one)));
+    near.or(keyword.map(|one| class_word(*one)))
+}
+
 /// What stands from one lexeme so many behind a place to another, if that is on a line, and words begin and end it.
 fn part_at(place: Place, first: isize, last: isize) -> Option<Span> {
     let (from, to) = (near(place, first)?.span.from, near(place, last)?.span.to);
@@ -54,7 +84,43 @@ fn part_at(place: Place, first: isize, last: isize) -> Option<Span> {
     let is_word = part.iter().all(|byte| *byte >= b' ')
         && is_of_word(*part.first()?)
         && is_of_word(*part.last()?);
-    Some(Span { from, to }).filter(|_| is_word)
+    if is_word {
+        Some(Span { from, to })
+    } else {
+        None
+    }
+}
+
+/// Whether the name so many behind a place stands elsewhere too.
+fn is_used(place: Place, count: isize) -> bool {
+    let Some(name) = name_at(place, count) else {
+        return false;
+    };
+    let lexemes = front(place.lexemes, MOST).iter();
+    let same = lexemes.filter(|one| part_of(place.text, one.span) == name);
+    same.count() > 1
+}
+
+/// Two or three lexemes round a place that are one slip away from a keyword, or from a name of the text, and that word in their place.
+pub(crate) fn blurred(place: Place) -> Fixed {
+    for (first, last) in [(-1, 0), (-1, 1), (-2, 0), (-2, -1), (0, 1), (0, 2)] {
+        if is_used(place, first) && is_used(place, last) {
+            continue;
+        }
+        if let Some(span) = part_at(place, first, last) {
+            let word = part_of(place.text, span);
+            if let Some(name) = nearest(place.text, place.lexemes, word) {
+                let put = String::from_str(place.alloc, name)?;
+                let next = near(place, last.saturating_add(1)).map_or(place.span, |next| next.span);
+                let fix = mending(place.alloc, place.text, next, Some(replacing(span, put)))?;
+                let fix = mending(place.alloc, place.text, place.span, fix)?;
+                if fix.is_some() {
+                    return Ok(fix);
+                }
+            }
+        }
+    }
+    Ok(None)
 }
 
 /// Whether two words may have been written as one: both are keywords or lexemes of the text, and of one lexeme one is a keyword, and the

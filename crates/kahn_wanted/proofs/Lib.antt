@@ -3,4 +3,5 @@ mod Classes
 mod Front
 mod Gaps
 pub mod Leading
+mod Opened
 mod Walking

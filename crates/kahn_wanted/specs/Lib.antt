@@ -1,3 +1,4 @@
+pub mod Blocks
 pub mod Comments
 pub mod Wanted
 pub mod inner

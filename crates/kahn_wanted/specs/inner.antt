@@ -1,3 +1,4 @@
 pub mod Asked
+pub mod Open
 pub mod Passing
 pub mod Walk

@@ -3,6 +3,7 @@
 
 mod asked;
 mod awaited;
+mod blocks;
 mod comments;
 mod found;
 mod grammar;
@@ -12,6 +13,7 @@ mod reached;
 mod swallowing;
 mod walk;
 
+pub use blocks::open_behind;
 pub use comments::{comment_before, comments_of};
 pub use found::{FaultPlace, Unexpected, place_at};
 pub use groups::{LexemeGroup, Wanted};

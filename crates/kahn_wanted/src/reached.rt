@@ -31,29 +31,46 @@ pub struct Reach {
     pub to: usize,
 }
 
-/// How far lexemes go with a change, before which this is open; nothing where what is put there can't stand.
-fn reach_of(
+/// What is open before a lexeme of a list.
+#[derive(Clone, Copy)]
+struct Front<'l> {
     alloc: Global,
-    open: &[Awaited],
-    lexemes: &[Lexeme],
-    change: Change,
-) -> Result<Option<Reach>, AllocError> {
-    let (mut stack, mut whole) = (Vec::new(alloc), false);
-    stack.extend_from_slice(open)?;
+    open: &'l [Awaited],
+    lexemes: &'l [Lexeme],
+    /// The lexeme past which a change has to reach.
+    past: usize,
+}
+
+/// How many lexemes may stand, one behind another, where this is open, and whether they make a program.
+fn going(stack: &mut Vec<Awaited>, lexemes: &[Lexeme]) -> Result<(usize, bool), AllocError> {
+    for (number, lexeme) in lexemes.iter().enumerate() {
+        if !pass(stack, lexeme.what)? {
+            return Ok((number, false));
+        }
+    }
+    let whole = stack.iter().all(|part| rules(*part).0);
+    Ok((lexemes.len(), whole))
+}
+
+/// Adds how far a text goes with a change, if that is far enough.
+fn add_reach(all: &mut Vec<Reach>, front: Front, change: Change) -> Result<(), AllocError> {
+    let from = change.at.saturating_add(change.out);
+    let Some(rest) = front.lexemes.get(from..) else {
+        return Ok(());
+    };
+    let mut stack = Vec::new(front.alloc);
+    stack.extend_from_slice(front.open)?;
     for class in change.put.iter().chain(change.then.iter()) {
         if !pass(&mut stack, *class)? {
-            return Ok(None);
+            return Ok(());
         }
     }
-    let mut to = change.at.saturating_add(change.out);
-    for lexeme in lexemes.get(to..).unwrap_or(&[]) {
-        if !pass(&mut stack, lexeme.what)? {
-            return Ok(Some(Reach { change, whole, to }));
-        }
-        to = to.saturating_add(1);
+    let (count, whole) = going(&mut stack, rest)?;
+    let to = from.saturating_add(count);
+    if whole || front.past < to {
+        all.push(Reach { change, whole, to })?;
     }
-    whole = to == lexemes.len() && stack.iter().all(|part| rules(*part).0);
-    Ok(Some(Reach { change, whole, to }))
+    Ok(())
 }
 
 /// How far a text goes with each change of one lexeme at one with a number or before it, by so many at most, and with two interchanged there;
@@ -68,22 +85,23 @@ pub fn reaches(
     for back in 0..most.min(number).saturating_add(1) {
         let at = number.saturating_sub(back);
         let open = awaited_behind(alloc, lexemes.get(..at).unwrap_or(&[]))?;
-        let mut changes = Vec::new(alloc);
-        changes.push((1, None, None))?;
+        let front = Front {
+            alloc,
+            open: &open,
+            lexemes,
+            past: number.saturating_add(1),
+        };
+        let (put, then) = (None, None);
+        let out = 1;
+        add_reach(&mut all, front, Change { at, out, put, then })?;
         if let Some([one, other, ..]) = lexemes.get(at..) {
-            changes.push((2, Some(other.what), Some(one.what)))?;
+            let (out, put, then) = (2, Some(other.what), Some(one.what));
+            add_reach(&mut all, front, Change { at, out, put, then })?;
         }
         for class in &CLASSES {
-            changes.push((0, Some(*class), None))?;
-            changes.push((1, Some(*class), None))?;
-        }
-        for change in &changes {
-            let (out, put, then) = *change;
-            let change = Change { at, out, put, then };
-            if let Some(reach) = reach_of(alloc, &open, lexemes, change)? {
-                if reach.whole || number.saturating_add(1) < reach.to {
-                    all.push(reach)?;
-                }
+            for out in [0, 1] {
+                let (put, then) = (Some(*class), None);
+                add_reach(&mut all, front, Change { at, out, put, then })?;
             }
         }
     }

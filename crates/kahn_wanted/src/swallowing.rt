@@ -31,13 +31,23 @@ fn behind_word<'a>(word: &[u8], text: &'a [u8]) -> Option<&'a [u8]> {
 
 /// Whether a text begins with a word, in any letter case, and no letter, digit or `_` goes on behind it.
 pub fn has_word(word: &[u8], text: &[u8]) -> bool {
-    behind_word(word, text).is_some_and(|rest| !is_of_word(rest.first().copied().unwrap_or(b' ')))
+    match behind_word(word, text) {
+        Some(rest) => !is_of_word(rest.first().copied().unwrap_or(b' ')),
+        None => false,
+    }
 }
 
 /// Whether a text begins with a word and an opening bracket, or with blanks between.
 fn has_call(word: &[u8], text: &[u8]) -> bool {
-    let mut rest = behind_word(word, text).unwrap_or(&[]).iter();
-    rest.find(|byte| !is_blank(**byte)) == Some(&b'(')
+    let Some(rest) = behind_word(word, text) else {
+        return false;
+    };
+    for byte in rest {
+        if !is_blank(*byte) {
+            return *byte == b'(';
+        }
+    }
+    false
 }
 
 /// Whether a word stands on the first line of a text, in any letter case.

@@ -1,6 +1,6 @@
 -- What is left of the groups, and then of the classes, comes behind the text so far, and is so many pieces.
 use Rattle.kahn_notes.proofs.Common.{◌≡◌, ◌+◌, ◌-◌, ◌++◌, drop, length, map, string_bytes, listed, pieces_of, text_end_words, wanted_words, any_words}
-use Rattle.kahn_notes.proofs.unexpected.add_wanted.Given as goal
+use Rattle.kahn_notes.proofs.words.add_wanted.Given as goal
 
 abbrev pub invariant-loop-group : goal.invariant-loop-group
 invariant-loop-group l =
