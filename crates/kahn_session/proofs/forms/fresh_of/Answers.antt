@@ -13,7 +13,7 @@ pub returns-then-number-lines : goal.returns-then-number-lines
 returns-then-number-lines c =
     let past : length c.lines-lines.result.now ≤ c.args.number = search rules in
     let f = c.args.run.now.flow in
-    sym (news_past f.run (flow_lines f.run) (map length f.out) c.args.number (subst (λ (l : List Line). length l ≤ c.args.number) c.lines-lines.ensures past))
+    c.none.ensures ∙ sym (news_past f.run (flow_lines f.run) (map length f.out) c.args.number (subst (λ (l : List Line). length l ≤ c.args.number) c.lines-lines.ensures past))
 
 pub returns : goal.returns
 returns c =

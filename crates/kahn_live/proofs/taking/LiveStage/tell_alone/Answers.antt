@@ -22,7 +22,7 @@ returns-in_default-other_input g c =
 pub returns : goal.returns
 returns g c =
     let old = point_of g.W.Write.contents g.E.Write.contents c.args.self.now in
-    let new = point_of g.W.Write.contents g.E.Write.contents c.self.new in
+    let new = point_of g.W.Write.contents g.E.Write.contents (record c.args.self.now { teller = c.say.new.self }) in
     let one = bare_by _ c.in-Some.input.now c.is_several.result (ap option_copied c.in-Some.is) c.is_several.ensures
     ∙ ap (λ (b : Bool). if b then None else Some c.in-Some.input.now) c.if-is_several.false in
     subst (λ (i : Option (List ℕ)). IsAloneTold i old new) (sym one) (refl, refl, (Some c.in-Some-other_input.other.now, rw c.in-Some-other_input.is at c.other_input.ensures, c.say.ensures))
