@@ -5,4 +5,4 @@ pub returns-in_default : goal.returns-in_default
 returns-in_default g c = rw (sym c.in_default.ensures) (refl, refl)
 
 pub returns : goal.returns
-returns g c = rw (sym c.in-Some.ensures) (refl, (c.as_str.result.now, rw c.as_bytes-names.ensures at c.say.ensures))
+returns g c = rw (sym c.in-Some.ensures) (refl, (c.as_str.result.now, rw c.as_bytes-names.ensures.value at c.say.ensures))
