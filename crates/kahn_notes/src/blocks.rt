@@ -274,7 +274,7 @@ pub(crate) fn closer_said(place: Place) -> Saying {
 /// What is said of blocks at a place, by the indentation of the lines up to it.
 pub(crate) fn blocks_said(place: Place) -> Saying {
     let all = seats(place)?;
-    let count_of = |word| all.iter().filter(|seat| seat.word == word).count();
+    let count_of = |word| all.iter().filter(|seat| has_word(word, seat.word)).count();
     let (begins, ends) = (count_of("begin"), count_of("end"));
     if ends < begins {
         unclosed(place, &all)
