@@ -6,30 +6,16 @@ use crate::mending::{found_kind, letters_at};
 use crate::names::{NameKind, counts_of, declared_kind, is_used, names_asked, names_seen};
 use crate::near::nearest;
 use crate::place::{NetworkPlace, called_first, is_in, side_of, word_at};
-use crate::trial::{Edit, EditKind, Trial, Tried, faults_behind, is_of_sides, statement_at};
+use crate::trial::{Edit, EditKind, Trial, Tried, is_of_sides, statement_at};
 use kahn_marks::is_within;
 use kahn_streams::{CheckFault, Declaration, Kind, Name, NoMemory, Process, Span};
 use kahn_syntax::{Class, Keyword, Lexeme, Sign};
 
-/// What is written, and what is meant by it.
-type Rows = [(&'static str, &'static str); 4];
-
 /// Values of one kind, and what is meant where the other one is wanted.
-const LITERALS: Rows = [("0", "false"), ("1", "true"), ("false", "0"), ("true", "1")];
-
-/// What is written for truth values.
-const VALUES: Rows = [
-    ("true", "true"),
-    ("false", "false"),
-    ("yes", "true"),
-    ("off", "false"),
-];
+const LITERALS: [(&str, &str); 4] = [("0", "false"), ("1", "true"), ("false", "0"), ("true", "1")];
 
 /// Of more names none is known to be used nowhere.
 const MOST_NAMES: usize = 64;
-
-/// In a longer statement no names are interchanged.
-const MOST_BYTES: usize = 256;
 
 impl<'p> Trial<'p> {
     /// All those for the fault.
@@ -48,9 +34,9 @@ impl<'p> Trial<'p> {
             CheckFault::NoReader(_) => return self.with_role("output"),
             CheckFault::TooMany(_) | CheckFault::NoMemory => return Ok(()),
             CheckFault::WrongDirection(_) => self.with_names(place.at, true)?,
-            CheckFault::ChannelExpected(_) => self.with_bare()?,
+            CheckFault::ChannelExpected(_) => {}
             CheckFault::ValueExpected(_) => self.with_waited()?,
-            _ => self.with_values(EditKind::Literal, LITERALS, 0)?,
+            _ => self.with_values()?,
         }
         if place.process.is_some() {
             self.with_statement()?;
@@ -58,49 +44,21 @@ impl<'p> Trial<'p> {
         self.with_others()
     }
 
-    /// What is meant by what stands at the place, where it is so many slips away from what is written for that.
-    fn with_values(&mut self, way: EditKind, rows: Rows, slips: usize) -> Tried {
+    /// A value of the other kind for the one at the place.
+    fn with_values(&mut self) -> Tried {
         let place = self.place;
-        for (written, meant) in rows {
-            if is_within(place.word(), written.as_bytes(), slips) {
-                self.put_one(way, place.at, meant)?;
+        for (written, meant) in LITERALS {
+            if is_within(place.word(), written.as_bytes(), 0) {
+                self.put_one(EditKind::Literal, place.at, meant)?;
             }
         }
         Ok(())
     }
 
-    /// The name at the place without its `wait`, unless that is all that is assigned and a variable is waited on.
-    fn with_bare(&mut self) -> Tried {
-        let place = self.place;
-        let is_all = place.class(-3) == Some(Class::Sign(Sign::Becomes)) && place.is_last(2);
-        match (place.beyond(Sign::Open, -1), place.span(1)) {
-            (Some(wait), Some(close)) if !is_all || place.own_parameter().is_some() => {
-                self.put(EditKind::Bare, (wait, close), &[place.part(place.at)])
-            }
-            _ => Ok(()),
-        }
-    }
-
-    /// The variable that was assigned last before the place what was taken from the channel there, unless that is all that is assigned; and the
-    /// next value of the channel; or, where it is assigned, the name that is waited on, or the value sent on it.
+    /// The next value of a channel; or, where it is assigned, the value sent on it.
     fn with_waited(&mut self) -> Tried {
         let place = self.place;
-        let is_all = place.class(-1) == Some(Class::Sign(Sign::Becomes)) && place.is_last(1);
-        let mut taken = None;
-        for lexeme in place.seen() {
-            if !is_all && place.part(lexeme.span) == place.part(place.at) {
-                let its = place.moved_to(lexeme.span);
-                let is_assigned = its.class(-3) == Some(Class::Sign(Sign::Becomes));
-                let is_before = lexeme.span.from < place.at.from || taken.is_none();
-                if is_before && is_assigned && its.asked() == NameKind::Source {
-                    taken = its.span(-4);
-                }
-            }
-        }
-        if let Some(name) = taken {
-            self.put_one(EditKind::Near, place.at, place.part(name))?;
-        }
-        if let Some((statement, _)) = statement_at(place.lexemes, place.at.from) {
+        if let Some(statement) = statement_at(place) {
             let (from, to) = (place.at.from, statement.to);
             let whole = place.part(Span { from, to }).trim();
             if let Some((name, value)) = whole.split_once(":=") {
@@ -142,16 +100,13 @@ impl<'p> Trial<'p> {
     /// first send that ends behind the place and of another one.
     fn with_statement(&mut self) -> Tried {
         let (place, all) = (self.place, self.place.seen());
-        match statement_at(place.lexemes, place.at.from) {
-            Some((statement, _)) if statement.to.saturating_sub(statement.from) < MOST_BYTES => {
-                for lexeme in all {
-                    if lexeme.what == Class::Name && is_in(statement, lexeme.span) {
-                        self.with_swap(EditKind::Swap, place.at, lexeme.span)?;
-                        self.with_names(lexeme.span, false)?;
-                    }
+        if let Some(statement) = statement_at(place) {
+            for lexeme in all {
+                if lexeme.what == Class::Name && is_in(statement, lexeme.span) {
+                    self.with_swap(place.at, lexeme.span)?;
+                    self.with_names(lexeme.span, false)?;
                 }
             }
-            _ => {}
         }
         for mark in [Keyword::Wait, Keyword::On] {
             let (mut first, mut is_marked) = (None, false);
@@ -159,7 +114,7 @@ impl<'p> Trial<'p> {
             for lexeme in all {
                 if is_marked && !is_open(lexeme) && lexeme.span.from >= place.at.from {
                     match first {
-                        Some(first) => self.with_swap(EditKind::Swap, first, lexeme.span)?,
+                        Some(first) => self.with_swap(first, lexeme.span)?,
                         None => first = Some(lexeme.span),
                     }
                 }
@@ -178,22 +133,19 @@ impl<'p> Trial<'p> {
         if source.or(target).is_none() {
             self.without_name(place.at)?;
         }
-        for fault in self.faults {
+        for fault in place.faults {
             let is_slip = matches!(*fault, CheckFault::NoWriter(_)) && side == NameKind::Source;
             match place.passed(side, letters_at(place.text, *fault)) {
                 Some(at) if is_slip => self.put_one(EditKind::Near, at, place.part(place.at))?,
                 _ => {}
             }
         }
-        if let Some(process) = place.taker(side, true) {
-            return self.with_instance(process, EditKind::Unused);
-        }
-        if let Some(process) = place.taker(side, false) {
-            self.with_instance(process, EditKind::Flip)?;
+        if let Some(process) = place.taker(side) {
+            return self.with_instance(process);
         }
         for declaration in &place.program.declarations {
             if let Declaration::Process(process) = declaration {
-                self.with_instance(process, EditKind::Unused)?;
+                self.with_instance(process)?;
             }
         }
         match head_before(place).first() {
@@ -226,9 +178,6 @@ impl<'p> Trial<'p> {
         let is_short = place.asked() != NameKind::Value || place.word().len() < 3;
         let is_one = names.len() == 1 && is_short && place.channel().is_none();
         self.with_names(place.at, is_one && place.process.is_some())?;
-        if place.asked() == NameKind::Value {
-            self.with_values(EditKind::Near, VALUES, 1)?;
-        }
         for name in &names {
             let is_meant = near.is_none() || nearest(place.word(), &[*name]).is_some();
             if is_meant && !is_used(place, name) {
@@ -240,15 +189,13 @@ impl<'p> Trial<'p> {
         self.with_declared()?;
         match place.made() {
             Some(process) if near.is_none() && place.process.is_none() => {
-                self.with_arranged(process, place.handed_at(place.at.from))?;
-                self.with_names(place.at, true)
+                self.with_arranged(process, place.handed_at(place.at.from))
             }
             _ => Ok(()),
         }
     }
 
-    /// A declaration of the name at the place: of a channel; or of a variable that is assigned, with all others like it. None where a comment
-    /// holds one.
+    /// A declaration of the name at the place: of a channel; or of a variable that is assigned, with all others like it.
     fn with_declared(&mut self) -> Tried {
         let place = self.place;
         let (word, asked, seen) = (place.part(place.at), place.asked(), place.seen());
@@ -270,7 +217,7 @@ impl<'p> Trial<'p> {
         }
         let names = joined(place.alloc, &words)?;
         match begin {
-            Some(begin) if words.contains(&word) && !is_held(place) => {
+            Some(begin) if words.contains(&word) => {
                 for kind in ["integer ", "logical "] {
                     let pieces = [kind, role_for(place), names.as_str(), ";"];
                     self.put(EditKind::Declared, (begin.span, begin.span), &pieces)?;
@@ -295,7 +242,6 @@ impl<'p> Trial<'p> {
             }
         }
         let near = nearest(word, &names);
-        let own = called_first(word, &all).map_or(0, |own| own.span.from);
         let counts = match (near, self.fault) {
             (Some(near), CheckFault::Unknown(_)) => counts_of(place, near),
             _ => (0, 0),
@@ -310,10 +256,8 @@ impl<'p> Trial<'p> {
                 _ => EditKind::Unused,
             };
             if self.tries > 0 && (are_used || !matches!(way, EditKind::Used)) {
-                self.doubt = match way {
-                    EditKind::Near if counts.1 < counts.0 => 2,
-                    _ => self.place.doubt_of(at, side, name, own < name.span.from),
-                };
+                let is_rarer = matches!(way, EditKind::Near) && counts.1 < counts.0;
+                self.doubt = if is_rarer { 2 } else { 0 };
                 self.put_one(way, at, name.text.as_str())?;
             }
         }
@@ -327,12 +271,11 @@ impl<'p> Trial<'p> {
             return Ok(());
         };
         let handed = place.handed_at(place.at.from);
-        let spans = handed.iter().map(|one| one.span);
-        let spans = spans.collect::<Vec<Span>>(place.alloc)?;
-        self.with_swaps(EditKind::Swap, &spans)?;
+        for (first, last) in handed.iter().zip(handed.iter().skip(1)) {
+            self.with_swap(first.span, last.span)?;
+        }
         self.with_arranged(process, handed)?;
         self.with_heads(self.fault)?;
-        self.with_directions(process.name.text.as_bytes())?;
         let all = place.seen().iter();
         let uses = all.filter(|one| word_at(place.text, one.span) == place.word());
         let is_asked = match self.fault {
@@ -347,10 +290,7 @@ impl<'p> Trial<'p> {
         if is_asked && is_whole && place.class(0) == Some(Class::Name) {
             self.with_names(place.at, true)?;
         }
-        match place.passed_before(side_of(self.fault)) {
-            Some(first) => self.with_names(first, true),
-            None => Ok(()),
-        }
+        Ok(())
     }
 }
 
@@ -366,38 +306,19 @@ fn role_for(place: NetworkPlace) -> &'static str {
     }
 }
 
-/// Whether a comment has the name at a place, and a kind.
-fn is_held(place: NetworkPlace) -> bool {
-    let word = place.part(place.at);
-    let mut from = 0;
-    for lexeme in place.lexemes {
-        let to = lexeme.span.from;
-        let comment = place.part(Span { from, to });
-        let has_kind = comment.find("integer").is_some() || comment.find("logical").is_some();
-        if has_kind && comment.find(word).is_some() {
-            return true;
-        }
-        from = lexeme.span.to;
-    }
-    false
-}
-
 /// The change that leaves the fewest faults of all, and fewer than there are, of those that may be tried yet.
 pub(crate) fn change_for<'p>(
     place: NetworkPlace<'p>,
-    faults: &'p [CheckFault],
     tries: &mut usize,
     fault: CheckFault,
 ) -> Result<Option<Edit>, NoMemory> {
     if *tries == 0 {
         return Ok(None);
     }
-    let (behind, tried, best) = (faults_behind(place)?, *tries, None);
+    let (tried, best) = (*tries, None);
     let mut trial = Trial {
         place,
         fault,
-        faults,
-        behind,
         tries: tried,
         doubt: 0,
         best,

@@ -1,12 +1,11 @@
 //! Another head for declared names: another kind, direction or role.
 
 use crate::names::{NameKind, names_seen};
-use crate::place::{NetworkPlace, called_first, is_called};
+use crate::place::NetworkPlace;
 use crate::trial::{EditKind, Trial, Tried};
 use kahn_marks::add;
-use kahn_streams::{Argument, CheckFault, Name, Span};
+use kahn_streams::{CheckFault, Span};
 use kahn_syntax::{Class, Keyword, Lexeme, Sign};
-use std::alloc::AllocError;
 
 /// The place behind a part.
 pub(crate) fn end_of(part: Span) -> Span {
@@ -43,24 +42,6 @@ fn others_for(class: Class) -> &'static [&'static str] {
         Class::Word(Keyword::Output) => &["input", ""],
         _ => &[],
     }
-}
-
-/// The names whose heads may be wrong: all of the process at a place, or the channels that the instance there hands over.
-fn suspects<'p>(place: NetworkPlace<'p>) -> Result<Vec<&'p Name>, AllocError> {
-    let Some(instance) = place.instance() else {
-        return names_seen(place.alloc, place.program, place.process, None);
-    };
-    let asked = Some(NameKind::Channel);
-    let channels = names_seen(place.alloc, place.program, None, asked)?;
-    let mut names = Vec::new(place.alloc);
-    for argument in &instance.arguments {
-        if let Argument::Channel(name) = argument {
-            if let Some(channel) = called_first(name.text.as_bytes(), &channels) {
-                names.push(channel)?;
-            }
-        }
-    }
-    Ok(names)
 }
 
 impl<'p> Trial<'p> {
@@ -125,17 +106,16 @@ impl<'p> Trial<'p> {
     pub(crate) fn with_heads(&mut self, fault: CheckFault) -> Tried {
         let place = self.place;
         let is_of_kinds = matches!(fault, CheckFault::WrongKind(_));
-        let names = suspects(place)?;
+        let asked = match place.process {
+            Some(_) => None,
+            None => Some(NameKind::Channel),
+        };
+        let names = names_seen(place.alloc, place.program, place.process, asked)?;
         for is_whole in [true, false] {
             for name in &names {
                 let its = place.moved_to(name.span);
                 let is_first = place.process.is_none() || its.beyond(Sign::Comma, -1).is_none();
-                let is_meant = if is_whole {
-                    is_first
-                } else {
-                    is_of_kinds || is_called(place.word(), name)
-                };
-                if is_meant && self.tries > 0 {
+                if (is_first || !is_whole) && self.tries > 0 {
                     self.with_words(name.span, is_of_kinds, is_whole)?;
                 }
             }
@@ -157,16 +137,5 @@ impl<'p> Trial<'p> {
             (Some(from), Some(to)) => self.put(EditKind::Without, (from, to), &[""]),
             _ => Ok(()),
         }
-    }
-
-    /// Neighbouring directions of the parameters of a process interchanged.
-    pub(crate) fn with_directions(&mut self, called: &[u8]) -> Tried {
-        let mut directions: Vec<Span> = Vec::new(self.place.alloc);
-        for lexeme in self.place.text_in(called) {
-            if matches!(lexeme.what, Class::Word(Keyword::In | Keyword::Out)) {
-                directions.push(lexeme.span)?;
-            }
-        }
-        self.with_swaps(EditKind::Flip, &directions)
     }
 }

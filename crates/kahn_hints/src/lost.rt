@@ -5,7 +5,7 @@ use crate::place::{Handed, NetworkPlace, channel_called, instance_of, is_called}
 use crate::trial::{EditKind, Trial, Tried};
 use kahn_fault::check_span;
 use kahn_marks::add;
-use kahn_streams::{Argument, Declaration, Instance, Kind, Name, Parameter, Process, Role, Span};
+use kahn_streams::{Argument, Declaration, Instance, Kind, Name, Parameter, Process, Role};
 use kahn_syntax::{Class, Sign};
 use std::alloc::{AllocError, Global};
 
@@ -140,11 +140,11 @@ pub(crate) fn joined(alloc: Global, words: &[&str]) -> Result<String, AllocError
 
 impl<'p> Trial<'p> {
     /// Other arguments in the place of those that an instance hands over: the part of them that differs, with one beside it where one is lost.
-    /// None where that may be one of several, or is a single other name; nor more spare channels than are lost, where others are at fault.
+    /// None where that may be one of several; nor more spare channels than are lost, where others are at fault.
     pub(crate) fn with_arranged(&mut self, process: &Process, handed: &[Handed]) -> Tried {
         let place = self.place;
         let (count, most) = (handed.len(), process.parameters.len());
-        let is_all = self.faults.iter().all(|fault| {
+        let is_all = place.faults.iter().all(|fault| {
             check_span(*fault).is_some_and(|span| place.begin_of(span.from) == place.begin())
         });
         for are_spare in [false, true] {
@@ -181,9 +181,8 @@ impl<'p> Trial<'p> {
         let to = count.saturating_sub(back);
         let old = handed.get(front..to).unwrap_or(&[]);
         let new = words.get(front..most.saturating_sub(back)).unwrap_or(&[]);
-        let is_name = place.class(0) == Some(Class::Name) && count == most && old.len() == 1;
         match (old.first(), old.last()) {
-            (Some(first), Some(last)) if !is_name => {
+            (Some(first), Some(last)) => {
                 let put = joined(place.alloc, new)?;
                 self.doubt = 3;
                 self.put(EditKind::Flip, (first.span, last.span), &[put.as_str()])
@@ -193,7 +192,7 @@ impl<'p> Trial<'p> {
     }
 
     /// One instance more of a process, over spare channels, with the values of its first instance.
-    pub(crate) fn with_instance(&mut self, process: &Process, way: EditKind) -> Tried {
+    pub(crate) fn with_instance(&mut self, process: &Process) -> Tried {
         let place = self.place;
         let first = instance_of(place.program, process);
         let values = place.handed_at(first.map_or(0, |first| first.process.span.from));
@@ -205,7 +204,7 @@ impl<'p> Trial<'p> {
                 let list = joined(place.alloc, &words)?;
                 let name = process.name.text.as_str();
                 let pieces = [") par ", name, "(", list.as_str(), ")"];
-                self.put(way, (close.span, close.span), &pieces)
+                self.put(EditKind::Unused, (close.span, close.span), &pieces)
             }
             _ => Ok(()),
         }

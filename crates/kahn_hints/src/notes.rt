@@ -6,7 +6,7 @@ ghost use Rattle.kahn_hints.specs.Hints.{LessensFaults, TellsFault, TellsMore, T
 
 use crate::changes::change_for;
 use crate::kept::{is_held, limit_of};
-use crate::mending::{are_fewer, found_kind, is_mended, is_same_fault};
+use crate::mending::{are_fewer, found_kind, is_mended};
 use crate::place::{NetworkPlace, beginning, handed_in};
 use crate::said::{
     add_advice, add_change, add_found, add_unsure, facts_of, is_elsewhere, others_of,
@@ -48,7 +48,6 @@ fn span_of(fault: CheckFault) -> Span
 /// The words of a fault, with what is wanted and found, and what to do; and the other places that have to do with it.
 fn told_of(
     place: NetworkPlace,
-    faults: &[CheckFault],
     fault: CheckFault,
     change: &Option<Edit>,
 ) -> Result<(String, Vec<Other>), NoMemory> {
@@ -62,7 +61,12 @@ fn told_of(
     match change {
         Some(change) if !is_of_sides(fault) || matches!(change.way, EditKind::Near) => {
             add_change(&mut words, place, change)?;
-            let is_sure = are_fewer(place.text, faults, change.other.as_str(), &change.left);
+            let is_sure = are_fewer(
+                place.text,
+                place.faults,
+                change.other.as_str(),
+                &change.left,
+            );
             if change.fix.span.from != place.at.from && is_elsewhere(change, place.at) && !is_sure {
                 add_unsure(&mut words, place, change)?;
             }
@@ -70,26 +74,6 @@ fn told_of(
         _ => add_advice(&mut words, place, fault, &facts)?,
     }
     Ok((words, others_of(place, fault, &facts)?))
-}
-
-/// Adds the faults that a change mends to those that are told.
-fn add_mended(
-    told: &mut Vec<CheckFault>,
-    text: &str,
-    faults: &[CheckFault],
-    change: &Option<Edit>,
-) -> Result<(), NoMemory> {
-    if let Some(change) = change {
-        let (other, left) = (change.other.as_str(), &change.left);
-        let is_sure = are_fewer(text, faults, other, left);
-        for fault in faults.iter().take(MOST_NOTES) {
-            let mut all = left.iter();
-            if is_sure && !all.any(|one| is_same_fault(text, *fault, other, *one)) {
-                told.push(*fault)?;
-            }
-        }
-    }
-    Ok(())
 }
 
 /// The change that is told apart from the words of a fault at a place.
@@ -118,15 +102,13 @@ fn found_at(
     place: NetworkPlace,
     faults: &[CheckFault],
     fault: CheckFault,
-    told: &mut Vec<CheckFault>,
     tries: &mut usize,
 ) -> Result<ToldFault, NoMemory>
     ensures { IfOk result (λ found. Contains faults.now fault → TellsFault text.now faults.now found.note fault) }
 {
-    let change = change_for(place, faults, tries, fault)?;
+    let change = change_for(place, tries, fault)?;
     let is_whole = change.as_ref().is_some_and(|change| change.left.is_empty());
-    add_mended(told, text, faults, &change)?;
-    let (words, others) = told_of(place, faults, fault, &change)?;
+    let (words, others) = told_of(place, fault, &change)?;
     let note = Note {
         sort: Sort::Error,
         span: span_of(fault),
@@ -169,7 +151,7 @@ impl ToldNotes {
         let at = span_of(fault);
         let is_first = self.notes.is_empty();
         let is_within = at.from < self.limit;
-        if !is_first && is_within && is_held(begin, faults, &self.told, fault) {
+        if !is_first && is_within && is_held(begin, &self.told, fault) {
             return Ok(false);
         }
         self.told.push(fault)?;
@@ -178,15 +160,7 @@ impl ToldNotes {
             return Ok(false);
         }
         let place = begin.moved_to(at);
-        let found = found_at(
-            alloc,
-            text,
-            place,
-            faults,
-            fault,
-            &mut self.told,
-            &mut self.tries,
-        )?;
+        let found = found_at(alloc, text, place, faults, fault, &mut self.tries)?;
         if found.is_whole {
             self.notes.clear();
             self.notes.push(found.note)?;
@@ -213,7 +187,7 @@ pub fn fault_notes(
         return Err(NoMemory);
     };
     let handed = handed_in(alloc, program)?;
-    let begin = beginning(alloc, text, &lexemes, program, &handed);
+    let begin = beginning(alloc, text, &lexemes, program, &handed, faults);
     let notes = Vec::new(alloc);
     let told = Vec::new(alloc);
     let mut telling = ToldNotes {

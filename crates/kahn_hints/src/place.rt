@@ -4,7 +4,6 @@ ghost use Rattle.std.specs.Prelude.{◌≡◌};
 ghost use Rattle.kahn_hints.specs.Hints.{word_at};
 
 use crate::names::{NameKind, taken_by};
-use crate::trial::is_edge;
 use kahn_marks::part_of;
 use kahn_streams::{
     Argument, CheckFault, Declaration, Instance, Kind, Name, Parameter, Process, Program, Role,
@@ -150,6 +149,8 @@ pub(crate) struct NetworkPlace<'p> {
     pub(crate) program: &'p Program,
     /// What its instances hand over.
     pub(crate) handed: &'p [Handed<'p>],
+    /// All faults of the text.
+    pub(crate) faults: &'p [CheckFault],
     /// The part that is at fault.
     pub(crate) at: Span,
     /// How many lexemes begin before it.
@@ -165,6 +166,7 @@ pub(crate) fn beginning<'p>(
     lexemes: &'p [Lexeme],
     program: &'p Program,
     handed: &'p [Handed<'p>],
+    faults: &'p [CheckFault],
 ) -> NetworkPlace<'p> {
     NetworkPlace {
         alloc,
@@ -172,6 +174,7 @@ pub(crate) fn beginning<'p>(
         lexemes,
         program,
         handed,
+        faults,
         at: Span { from: 0, to: 0 },
         number: 0,
         process: None,
@@ -233,11 +236,6 @@ impl<'p> NetworkPlace<'p> {
         Some(self.lexeme(behind)?.what)
     }
 
-    /// Whether the lexeme so many behind the place stands between statements.
-    pub(crate) fn is_last(&self, behind: isize) -> bool {
-        self.lexeme(behind).is_some_and(is_edge)
-    }
-
     /// Where the second lexeme behind the place stands, or before it, if the first one is this sign.
     pub(crate) fn beyond(&self, sign: Sign, behind: isize) -> Option<Span> {
         let second = self.span(behind.saturating_mul(2));
@@ -275,13 +273,6 @@ impl<'p> NetworkPlace<'p> {
         rest.get(..instance.arguments.len()).unwrap_or(&[])
     }
 
-    /// The instance that begins there, up to its last argument.
-    pub(crate) fn whole(&self, begin: Span) -> &'p str {
-        let last = self.handed_at(begin.from).last();
-        let to = last.map_or(begin.to, |last| last.span.to);
-        self.part(Span { to, ..begin })
-    }
-
     /// Where a channel is handed over first for such a parameter.
     pub(crate) fn passed(&self, side: NameKind, word: &[u8]) -> Option<Span> {
         let mut all = self.handed.iter();
@@ -300,44 +291,6 @@ impl<'p> NetworkPlace<'p> {
     pub(crate) fn passed_before(&self, side: NameKind) -> Option<Span> {
         let first = self.passed(side, self.word())?;
         Some(first).filter(|first| first.from != self.at.from)
-    }
-
-    /// How doubtful it is that a name stands at a part of the text for a side: three if its channel would go from an instance to the same, or to
-    /// one before it; as many if that at the place, which has the side too, then goes so, and one if the two don't stand as they are declared.
-    pub(crate) fn doubt_of(&self, at: Span, side: NameKind, name: &Name, is_first: bool) -> usize {
-        let old = match side {
-            NameKind::Source | NameKind::Target if at == self.at => self.passed_before(side),
-            NameKind::Source | NameKind::Target => Some(self.at),
-            _ => return 0,
-        };
-        let (is_back, is_turned) = match old {
-            Some(old) => (
-                self.is_backward(old, side, self.word()),
-                (old.from < at.from) != is_first,
-            ),
-            None => (false, false),
-        };
-        let is_new_back = self.is_backward(at, side, name.text.as_bytes());
-        let mut doubt = 0_usize;
-        for (is_less, by) in [(is_new_back, 3), (is_back, 3), (is_turned, 1)] {
-            doubt = doubt.saturating_add(if is_less { by } else { 0 });
-        }
-        doubt
-    }
-
-    /// Whether a channel that has this side at a place goes from an instance to the same, or to one before it.
-    fn is_backward(&self, at: Span, side: NameKind, word: &[u8]) -> bool {
-        let is_written = side == NameKind::Target;
-        let other = if is_written {
-            NameKind::Source
-        } else {
-            NameKind::Target
-        };
-        let Some(beyond) = self.passed(other, word) else {
-            return false;
-        };
-        let (own, beyond) = (self.begin_of(at.from), self.begin_of(beyond.from));
-        own == beyond || is_written == (beyond < own)
     }
 
     /// The parameter that takes what stands at the place.
@@ -366,18 +319,14 @@ impl<'p> NetworkPlace<'p> {
         Some(&one.parameter?.name)
     }
 
-    /// The first process that takes the channel of its letters so: one without an instance, or one that has some and takes no other channel.
-    pub(crate) fn taker(&self, side: NameKind, is_idle: bool) -> Option<&'p Process> {
+    /// The first process without an instance that takes the channel of its letters so.
+    pub(crate) fn taker(&self, side: NameKind) -> Option<&'p Process> {
         let wanted = (side, self.channel()?.0);
         for declaration in &self.program.declarations {
             if let Declaration::Process(process) = declaration {
                 let mut all = process.parameters.iter().map(taken_by);
-                let mut others = process.parameters.iter().map(taken_by);
-                let is_other = |taken: (NameKind, Kind)| taken.0 != NameKind::Value
-                    && taken != wanted;
-                let is_meant = all.any(|taken| taken == wanted)
-                    && (is_idle || !others.any(is_other));
-                if is_meant && instance_of(self.program, process).is_none() == is_idle {
+                let is_meant = all.any(|taken| taken == wanted);
+                if is_meant && instance_of(self.program, process).is_none() {
                     return Some(process);
                 }
             }

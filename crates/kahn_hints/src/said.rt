@@ -3,7 +3,7 @@
 use crate::lost::{arranged, longer_of};
 use crate::names::{NameKind, names_asked, names_seen, taken_by};
 use crate::near::nearest;
-use crate::place::{NetworkPlace, called_first, is_called, is_in, side_of};
+use crate::place::{NetworkPlace, called_first, is_called, side_of};
 use crate::sight::add_near;
 use crate::trial::{Edit, EditKind};
 use itoa::Buffer;
@@ -15,9 +15,6 @@ use std::alloc::AllocError;
 
 /// Whether memory was there for adding words.
 pub(crate) type Added = Result<(), AllocError>;
-
-/// How many bytes of an expression stand in a sentence at most.
-const MOST_SHOWN: usize = 40;
 
 /// What is wanted, and what is found: of a fault, the first row of which all facts hold.
 const FOUND: &str = "
@@ -61,7 +58,6 @@ channel has no reader | idle | ; `@` has no instance, and could read it
 channel has no writer | inner unread | ; it is handed to no process: leave its declaration out
 channel has no writer | inner | ; hand it to an `out` parameter, or declare it `input` where its values come from outside
 channel has no writer | - | ; hand it to an `out` parameter
-channel has no reader | inner sink | ; hand it to one more instance of `@`, or declare it `output` where its values are to be reported
 channel has no reader | inner | ; hand it to an `in` parameter, or declare it `output` where its values are to be reported
 channel has no reader | - | ; hand it to an `in` parameter, or leave its declaration out
 ";
@@ -129,8 +125,7 @@ pub(crate) fn facts_of(
         (word.iter().any(|byte| b"<=>".contains(byte)), "compared"),
         (parameter == Some(NameKind::Source), "from-channel"),
         (parameter == Some(NameKind::Target), "to-channel"),
-        (place.taker(side, true).is_some(), "idle"),
-        (place.taker(side, false).is_some(), "sink"),
+        (place.taker(side).is_some(), "idle"),
         (place.passed(NameKind::Source, word).is_none(), "unread"),
         (place.passed_before(side).is_some(), "passed"),
     ] {
@@ -186,13 +181,10 @@ pub(crate) fn add_found(
     }
 }
 
-/// What stands at a place, where a sentence has room for it.
+/// What stands at a place, where it is on one line.
 fn shown<'p>(place: NetworkPlace<'p>) -> &'p str {
     let whole = place.part(place.at);
-    let is_alone = matches!(place.span(0), Some(span) if span.to == place.at.to);
-    let is_long = whole.len() > MOST_SHOWN && !is_alone;
-    let is_if = place.class(0) == Some(Class::Word(Keyword::If));
-    if is_if || is_long || whole.find("\n").is_some() {
+    if whole.find("\n").is_some() {
         "E"
     } else {
         whole
@@ -224,15 +216,6 @@ fn add_unknown(words: &mut String, place: NetworkPlace, advice: &str) -> Added {
     }
 }
 
-/// The first instance that begins as the one at a place does and hands over the same, if it isn't that one.
-fn alike_before(place: NetworkPlace) -> Option<Span> {
-    let at = place.instance()?.process.span;
-    let whole = place.whole(at);
-    let mut all = place.program.instances.iter();
-    let first = all.find(|one| place.whole(one.process.span) == whole)?;
-    Some(first.process.span).filter(|first| first.from < at.from)
-}
-
 /// Adds a sentence.
 fn add_filled(words: &mut String, place: NetworkPlace, sentence: &str, process: &str) -> Added {
     for (number, piece) in sentence.split("#").enumerate() {
@@ -256,19 +239,13 @@ pub(crate) fn add_advice(
     facts: &[&str],
 ) -> Added {
     let sentence = sentence_of(ADVICE, fault, facts).unwrap_or("");
-    let first = match fault {
-        CheckFault::TwoWriters(_) | CheckFault::TwoReaders(_) => alike_before(place),
-        CheckFault::Unknown(_) | CheckFault::WrongDirection(_) => {
-            return add_unknown(words, place, sentence);
-        }
-        _ => None,
-    };
-    if let Some(first) = first {
-        let lead = "; this instance is the same as the one at ";
-        return add_spot(words, lead, place.text, first.from);
+    if matches!(
+        fault,
+        CheckFault::Unknown(_) | CheckFault::WrongDirection(_)
+    ) {
+        return add_unknown(words, place, sentence);
     }
-    let side = side_of(fault);
-    let taker = place.taker(side, true).or(place.taker(side, false));
+    let taker = place.taker(side_of(fault));
     let process = taker.map_or("", |taker| taker.name.text.as_str());
     add_filled(words, place, sentence, process)
 }
@@ -289,7 +266,7 @@ pub(crate) fn others_of(
     let declared = called_first(place.word(), &names);
     let second = match fault {
         CheckFault::NoWriter(_) | CheckFault::NoReader(_) => {
-            place.taker(side, true).map(|process| process.name.span)
+            place.taker(side).map(|process| process.name.span)
         }
         CheckFault::TooMany(_) | CheckFault::NoMemory => None,
         CheckFault::ChannelExpected(_) if declared.is_none() => {

@@ -24,9 +24,6 @@ const MOST_SIDES: usize = 1025;
 /// How doubtful a change may be.
 const MOST_DOUBTS: usize = 16;
 
-/// So many faults of a process are looked for behind its first.
-const MOST_BEHIND: usize = 6;
-
 /// Which change it is.
 #[derive(Clone, Copy)]
 pub(crate) enum EditKind {
@@ -50,8 +47,6 @@ pub(crate) enum EditKind {
     Declared,
     /// A channel comes from outside, or goes there.
     Role,
-    /// A name stands without its `wait`.
-    Bare,
     /// The next value of a channel stands in its place.
     Waited,
     /// The parameter for which the channel of the name is handed over.
@@ -85,32 +80,17 @@ pub(crate) fn tries_of(text: &str, lexemes: &[Lexeme]) -> usize {
     tries.min(MOST_TRIES)
 }
 
-/// How doubtful a change is, by what it is.
-fn doubt_of(way: &EditKind) -> usize {
-    match *way {
-        EditKind::Unused => 1,
-        EditKind::Used | EditKind::Bare | EditKind::Literal | EditKind::Declared => 2,
-        _ => 0,
-    }
-}
-
 /// The better of two changes: the one that costs less, or else the first.
 fn better(best: Option<Edit>, change: Edit) -> Edit {
     let Some(mut best) = best else {
         return change;
     };
-    let is_late = matches!(change.way, EditKind::Declared | EditKind::Bare) && best.is_one_of;
-    if change.cost < best.cost || change.cost == best.cost && is_late {
+    if change.cost < best.cost {
         return change;
     }
-    let is_another = match (change.way, best.way) {
-        (EditKind::Renamed, EditKind::Renamed) => true,
-        (EditKind::Unused, EditKind::Unused) | (EditKind::Used, EditKind::Used) => {
-            change.fix.put.as_bytes() != best.fix.put.as_bytes()
-        }
-        _ => false,
-    };
-    best.is_one_of = best.is_one_of || is_another && change.cost == best.cost;
+    let is_name = matches!(change.way, EditKind::Unused | EditKind::Used);
+    let is_other = is_name && change.fix.put.as_bytes() != best.fix.put.as_bytes();
+    best.is_one_of = best.is_one_of || is_other && change.cost == best.cost;
     best
 }
 
@@ -120,67 +100,23 @@ pub(crate) fn is_of_sides(fault: CheckFault) -> bool {
 }
 
 /// Whether a lexeme stands between statements, or before the test of one.
-pub(crate) fn is_edge(lexeme: &Lexeme) -> bool {
+fn is_edge(lexeme: &Lexeme) -> bool {
     match lexeme.what {
-        Class::Sign(Sign::Semicolon) => true,
-        Class::Word(Keyword::Begin | Keyword::End | Keyword::Repeat) => true,
-        Class::Word(Keyword::If | Keyword::While | Keyword::Then | Keyword::Else | Keyword::Do) =>
+        Class::Sign(Sign::Semicolon)
+        | Class::Word(Keyword::Begin | Keyword::End | Keyword::Repeat)
+        | Class::Word(Keyword::If | Keyword::While | Keyword::Then | Keyword::Else | Keyword::Do) =>
             true,
         _ => false,
     }
 }
 
-/// The statement or the test in which a byte stands, and what may stand in its place.
-pub(crate) fn statement_at(lexemes: &[Lexeme], from: usize) -> Option<(Span, &'static str)> {
-    let number = lexemes.partition_point(|lexeme| lexeme.span.from < from);
-    let (front, rest) = lexemes.split_at_checked(number)?;
+/// The statement or the test in which a place is.
+pub(crate) fn statement_at(place: NetworkPlace) -> Option<Span> {
+    let (front, rest) = place.lexemes.split_at_checked(place.number)?;
     let first = front.iter().rev().find(|lexeme| is_edge(lexeme))?;
     let last = rest.iter().find(|lexeme| is_edge(lexeme))?;
     let (from, to) = (first.span.to, last.span.from);
-    let put = match first.what {
-        Class::Word(Keyword::If | Keyword::While) => " true ",
-        _ => " ",
-    };
-    Some((Span { from, to }, put))
-}
-
-/// Where the process at a place is at fault behind the fault there: in its text without the statements that are at fault, one after another.
-pub(crate) fn faults_behind(place: NetworkPlace) -> Result<Vec<usize>, NoMemory> {
-    let (mut behind, mut front) = (Vec::new(place.alloc), String::new(place.alloc));
-    let (mut done, mut at) = (0, place.at.from);
-    let turns = if place.process.is_some() {
-        MOST_BEHIND
-    } else {
-        0
-    };
-    for _turn in 0..turns {
-        let Some((span, put)) = statement_at(place.lexemes, at) else {
-            return Ok(behind);
-        };
-        let (from, to) = (done, span.from);
-        front.push_str(place.part(Span { from, to }))?;
-        front.push_str(put)?;
-        done = span.to;
-        let (from, to) = (done, place.text.len());
-        let mut other = String::from_str(place.alloc, front.as_str())?;
-        other.push_str(place.part(Span { from, to }))?;
-        let mut next = None;
-        let Some(faults) = faults_in(place.alloc, other.as_str())? else {
-            return Ok(behind);
-        };
-        for fault in &faults {
-            let from = origin_of(place.text, other.as_str(), done, *fault);
-            if next.is_none() && from >= done && place.begin_of(from) == place.begin() {
-                next = Some(from);
-            }
-        }
-        let Some(next) = next else {
-            return Ok(behind);
-        };
-        behind.push(next)?;
-        at = next;
-    }
-    Ok(behind)
+    Some(Span { from, to })
 }
 
 /// Where a fault of another text stands in a text that differs from it before a byte.
@@ -200,10 +136,6 @@ pub(crate) struct Trial<'p> {
     pub(crate) place: NetworkPlace<'p>,
     /// The fault there.
     pub(crate) fault: CheckFault,
-    /// All faults of the text.
-    pub(crate) faults: &'p [CheckFault],
-    /// Where its process is at fault behind it.
-    pub(crate) behind: Vec<usize>,
     /// How many may be tried yet.
     pub(crate) tries: usize,
     /// How doubtful the next one is, where it leaves as few faults as another.
@@ -213,22 +145,14 @@ pub(crate) struct Trial<'p> {
 }
 
 impl<'p> Trial<'p> {
-    /// Whether a fault in the part at the place, which stands there in the text as it is, was there before behind the one at the place.
-    fn is_behind(&self, fix: &Fix, from: usize) -> bool {
-        if self.place.process.is_some() {
-            return self.behind.contains(&from);
-        }
-        let is_within = fix.span.from <= from && from <= fix.span.to;
-        !is_within && fix.span.from >= self.place.begin()
-    }
-
     /// What a change costs that leaves these faults in another text: by their number, then that of sides that weren't looked for. Nothing where
-    /// the fault is there yet, or one is new that wasn't hidden.
+    /// the fault is there yet.
     fn cost_of(&self, other: &str, way: EditKind, fix: &Fix, left: &[CheckFault]) -> Option<usize> {
-        let (place, text, faults) = (self.place, self.place.text, self.faults);
+        let (place, text, faults) = (self.place, self.place.text, self.place.faults);
         let are_sides = faults.iter().any(|fault| is_of_sides(*fault));
         let (own, mut count, mut sides) = (place.begin(), 0_usize, 0_usize);
-        let (mut are_known, mut are_behind) = (true, true);
+        let mut are_known = true;
+        let mut are_behind = place.process.is_none() && fix.span.from >= own;
         for found in left {
             let from = origin_of(text, other, fix.span.to, *found);
             let begin = place.begin_of(from);
@@ -237,17 +161,13 @@ impl<'p> Trial<'p> {
                 are_known = false;
             } else {
                 count = count.saturating_add(1);
-                let is_hidden = faults.iter().any(|fault| match check_span(*fault) {
-                    Some(span) => begin <= span.from && span.from <= from,
-                    None => false,
-                });
-                let is_same = is_same_fault(text, self.fault, other, *found);
-                if !is_hidden || is_same && begin == own {
+                if begin == own && is_same_fault(text, self.fault, other, *found) {
                     return None;
                 }
                 if !is_known(text, faults, other, *found) {
                     are_known = false;
-                    are_behind = are_behind && begin == own && self.is_behind(fix, from);
+                    let is_within = fix.span.from <= from && from <= fix.span.to;
+                    are_behind = are_behind && begin == own && !is_within;
                 }
             }
         }
@@ -269,7 +189,12 @@ impl<'p> Trial<'p> {
             return Ok(());
         };
         self.tries = rest;
-        let doubt = self.doubt.saturating_add(doubt_of(&way));
+        let more = match way {
+            EditKind::Unused => 1,
+            EditKind::Used | EditKind::Literal | EditKind::Declared => 2,
+            _ => 0,
+        };
+        let doubt = self.doubt.saturating_add(more);
         self.doubt = 0;
         let (first, beside) = parts;
         let (alloc, to) = (self.place.alloc, beside.to);
@@ -309,7 +234,7 @@ impl<'p> Trial<'p> {
     }
 
     /// Two parts interchanged, with what stands between them.
-    pub(crate) fn with_swap(&mut self, way: EditKind, one: Span, other: Span) -> Tried {
+    pub(crate) fn with_swap(&mut self, one: Span, other: Span) -> Tried {
         let place = self.place;
         let is_turned = other.from < one.from;
         let (first, last) = if is_turned {
@@ -323,14 +248,6 @@ impl<'p> Trial<'p> {
         if from > to || place.part(first) == place.part(last) {
             return Ok(());
         }
-        self.put(way, (first, last), &pieces)
-    }
-
-    /// Two neighbouring ones of some parts interchanged.
-    pub(crate) fn with_swaps(&mut self, way: EditKind, parts: &[Span]) -> Tried {
-        for (first, last) in parts.iter().zip(parts.iter().skip(1)) {
-            self.with_swap(way, *first, *last)?;
-        }
-        Ok(())
+        self.put(EditKind::Swap, (first, last), &pieces)
     }
 }

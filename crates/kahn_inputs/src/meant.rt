@@ -1,19 +1,17 @@
-//! What an input text was perhaps meant to be: lists, tables and ranges of other languages, read as entries.
+//! What an input text was perhaps meant to be: lists and tables of other languages, read as entries.
 
 ghost use Rattle.std.specs.Prelude.{◌≡◌, IfOk, string_bytes};
 ghost use Rattle.kahn_inputs.specs.Meant.{AreMeantLines, joined_lines};
 
-use crate::strange::{digits_from, marks_between, meant_word, plain_line};
+use crate::strange::{digits_from, meant_word, plain_line};
 use itoa::Buffer;
 use kahn_marks::{add, is_within};
 use kahn_streams::{Channel, Kind, Network, NoMemory, Role, channel_named};
 use kahn_texts::{TextFault, read_input, value_of, word_bytes};
 use std::alloc::{AllocError, Global};
 
-/// The most bytes of a text that is read so, and the most values of a range.
+/// The most bytes of a text that is read so.
 const MOST_BYTES: usize = 1024;
-
-const MOST_OF_RANGE: i64 = 64;
 
 /// The number that a word spells: also behind a `+`, before a fraction of zeros, an exponent or a unit, or in hexadecimal.
 fn whole_number(word: &str) -> Option<i64> {
@@ -80,10 +78,6 @@ struct TextReading<'n> {
     count: usize,
     /// Whether another name stands beside theirs, as in the first line of a table.
     is_head: bool,
-    /// The last number, whether it is another one than the next behind the one before it, and whether numbers up to the next one are meant.
-    last: i64,
-    is_stepping: bool,
-    is_range: bool,
 }
 
 impl<'n> TextReading<'n> {
@@ -160,46 +154,14 @@ impl<'n> TextReading<'n> {
         let Some(input) = self.inputs.get_mut(column) else {
             return Ok(is_left_out);
         };
-        let number = match (input.kind, truth(word), whole_number(word)) {
+        match (input.kind, truth(word), whole_number(word)) {
             (Kind::Logical, Some(value), _) => {
                 input.line.push_str(if value { " true" } else { " false" })?;
-                return Ok(true);
             }
-            (Kind::Integer, _, Some(number)) => number,
+            (Kind::Integer, _, Some(number)) => add_number(&mut input.line, number)?,
             _ => return Ok(false),
-        };
-        if self.is_range {
-            let first = self.last.saturating_add(1);
-            if number < first || self.is_stepping || MOST_OF_RANGE < number.saturating_sub(first) {
-                return Ok(false);
-            }
-            for between in first..number {
-                add_number(&mut input.line, between)?;
-            }
         }
-        add_number(&mut input.line, number)?;
-        self.is_range = false;
-        self.is_stepping = self.count > 1 && number != self.last.saturating_add(1);
-        self.last = number;
         Ok(true)
-    }
-
-    /// Reads a word that is no name; answers whether it is understood.
-    fn other(&mut self, word: &str) -> Result<bool, AllocError> {
-        match meant_word(word) {
-            "_" => Ok(true),
-            ".." => {
-                self.is_range = self.count > 0;
-                Ok(self.is_range)
-            }
-            word if marks_between(word.as_bytes(), b'-') == 1 => {
-                let (first, last) = word.split_once("-").unwrap_or((word, ""));
-                let is_first = self.value(first)?;
-                self.is_range = true;
-                Ok(is_first && self.value(last)?)
-            }
-            word => self.value(word),
-        }
     }
 
     /// Reads a line, in which a `:` stands apart; answers whether all of its words are understood. The first one of a table has names alone, of
@@ -242,12 +204,15 @@ impl<'n> TextReading<'n> {
                 self.is_head = false;
             } else if let Some(channel) = self.channel(word, is_name, is_table) {
                 let is_bare = self.count == 0 && !self.is_head && !self.columns.is_empty();
-                if self.is_range || is_bare && !is_first && !self.columns.contains(&channel) {
+                if is_bare && !is_first && !self.columns.contains(&channel) {
                     return Ok(false);
                 }
                 self.name(channel)?;
-            } else if !(is_first && matches!(*word, "-" | "*")) && !self.other(word)? {
-                return Ok(next.is_none() && meant_word(word) == "~");
+            } else if !(is_first && matches!(*word, "-" | "*")) {
+                let meant = meant_word(word);
+                if meant != "_" && !self.value(meant)? {
+                    return Ok(next.is_none() && meant == "~");
+                }
             }
         }
         Ok(true)
@@ -266,7 +231,7 @@ impl<'n> TextReading<'n> {
             }
             is_any = is_any || has_values;
         }
-        if !is_any || self.is_range {
+        if !is_any {
             return Ok(None);
         }
         Ok(Some(lines))
@@ -323,9 +288,6 @@ fn meant_entries(
         columns: Vec::new(alloc),
         count: 0,
         is_head: false,
-        last: 0,
-        is_stepping: false,
-        is_range: false,
     };
     let mut seen: Vec<&str> = Vec::new(alloc);
     for line in text.lines() {

@@ -12,16 +12,10 @@ use std::alloc::{AllocError, Global};
 const STRANGE: &str = "
 \u{FEFF} | _ | ; in it stands a byte order mark (EF BB BF)
 \u{00A0} | _ | ; in it stands a no-break space (U+00A0)
-\u{202F} | _ | ; in it stands a narrow no-break space (U+202F)
-\u{2009} | _ | ; in it stands a thin space (U+2009)
-\u{200B} | _ | ; in it stands a zero width space (U+200B)
-\u{3000} | _ | ; in it stands an ideographic space (U+3000)
+\u{202F} \u{2009} \u{200B} \u{3000} | _ | ; in it stands a space that isn't of ASCII
 \r | _ | ; in it stands a carriage return (U+000D)
 \u{2212} | - | ; in it stands a minus sign (U+2212), which is no `-`
-\u{2010} \u{2011} | - | ; in it stands a hyphen (U+2010), which is no `-`
-\u{2013} | - | ; in it stands an en dash (U+2013), which is no `-`
-\u{2014} | - | ; in it stands an em dash (U+2014), which is no `-`
-\u{FF0D} | - | ; in it stands a full-width hyphen (U+FF0D), which is no `-`
+\u{2010} \u{2011} \u{2013} \u{2014} \u{FF0D} | - | ; in it stands a hyphen or a dash, which is no `-`
 \u{FF10} \u{FF11} \u{FF12} \u{FF13} \u{FF14} \u{FF15} \u{FF16} \u{FF17} \u{FF18} \u{FF19} | = | ; in it stands a full-width digit
 \u{FF1A} | : | ; in it stands a full-width colon (U+FF1A), which is no `:`
 \u{FF0C} | _ | ; in it stands a full-width comma (U+FF0C): blanks stand between values
@@ -202,7 +196,6 @@ fn mark_put(line: &[u8], at: usize) -> Option<&'static str> {
     }
     let is_within = match mark {
         b'_' | b'\'' => true,
-        b'.' => marks_between(line, mark) > 1,
         b',' => has_commas_within(line),
         _ => false,
     };
@@ -327,7 +320,6 @@ pub(crate) fn word_words(
     let is_logical = matches!(kind, Some(Kind::Logical));
     let is_near = is_within(word, b"true", 2) || is_within(word, b"false", 2);
     let shapes = if is_near || is_logical { "" } else { SHAPES };
-    let truths = if is_logical { "yes" } else { "" };
     let twice: &[u8] = if word == name { b":" } else { b"" };
     first_words(&[
         words_of(REMARKS, name),
@@ -337,7 +329,6 @@ pub(crate) fn word_words(
         shape_words(shapes, word),
         words_of(OTHERS, word),
         numeral_words(word),
-        words_of(WORDS, truths.as_bytes()),
     ])
 }
 

@@ -44,14 +44,10 @@ fn note_of(alloc: Global, warning: Warning) -> Result<Note, AllocError>
     let words = warning_words(warning.kind);
     let mut note = simple(alloc, Sort::Warning, warning.span, words)?;
     if let WarningKind::LongComment = warning.kind {
-        let (to, words) = (
-            warning.span.to,
-            String::from_str(alloc, "comment ends here")?,
-        );
-        let span = Span {
-            from: to.saturating_sub(1),
-            to,
-        };
+        let to = warning.span.to;
+        let from = to.saturating_sub(1);
+        let span = Span { from, to };
+        let words = String::from_str(alloc, "comment ends here")?;
         note.others.push(Other { span, words })?;
     }
     Ok(note)

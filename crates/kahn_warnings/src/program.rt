@@ -59,8 +59,7 @@ fn name_kind(is_used: bool, is_assigned: bool, variable: Option<Kind>) -> Option
         (false, true, _) => Some(WarningKind::Unread),
         (true, false, Some(Kind::Integer)) => Some(WarningKind::StaysZero),
         (true, false, Some(Kind::Logical)) => Some(WarningKind::StaysFalse),
-        (true, false, None) => None,
-        (true, true, _) => None,
+        (true, false, None) | (true, true, _) => None,
     }
 }
 
@@ -105,8 +104,7 @@ fn loop_kind(is_endless: bool, is_seen: bool) -> Option<WarningKind>
 {
     match (is_endless, is_seen) {
         (true, false) => Some(Idle),
-        (true, true) => None,
-        (false, _) => None,
+        (true, true) | (false, _) => None,
     }
 }
 
