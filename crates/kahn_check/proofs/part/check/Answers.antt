@@ -1,6 +1,6 @@
 use Rattle.kahn_check.proofs.Common.{rules, ◌∙◌}
 use Rattle.kahn_check.proofs.Told.{first_met, made_named, sound}
-use Rattle.kahn_check.proofs.network.check.Goals as goal
+use Rattle.kahn_check.proofs.part.check.Goals as goal
 
 pub kept-requires : goal.kept-requires
 kept-requires c =

@@ -1,5 +1,5 @@
 use Rattle.kahn_check.proofs.Common.{◌≡◌, ◌++◌, [], map, drop, Value, locals_of, scope_of, entries, twice}
-use Rattle.kahn_check.proofs.process.locals.Given as goal
+use Rattle.kahn_check.proofs.statement.locals.Given as goal
 
 abbrev pub invariant-loop-parameter : goal.invariant-loop-parameter
 invariant-loop-parameter l =
