@@ -169,7 +169,9 @@ pub(crate) fn warned_lines(
     }
     let (told, more) = first_ones(&notes, MOST_NOTES);
     let mut lines = note_lines(alloc, path, text, told, "", &[], &[])?;
-    add_more(&mut lines, "", "warning", more.len())?;
+    let mut unsaid = String::new(alloc);
+    add_more(&mut unsaid, "", "warning", more.len())?;
+    lines.push_str(unsaid.as_str())?;
     Ok(lines)
 }
 
@@ -199,7 +201,9 @@ fn network_note(
     let told = fault_notes(alloc, program, &tree, &faults)?;
     let (notes, between) = (&told.notes, "\n");
     let mut lines = note_lines(alloc, path, program, notes, between, &comments, &faults)?;
-    add_more(&mut lines, between, "fault", told.more)?;
+    let mut unsaid = String::new(alloc);
+    add_more(&mut unsaid, between, "fault", told.more)?;
+    lines.push_str(unsaid.as_str())?;
     Ok(Some(lines))
 }
 
