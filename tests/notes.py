@@ -8,14 +8,11 @@ import os
 import re
 import subprocess
 
-from common import TOP, read, text_of, write
+from common import TOP, read, write
 
-TABLE = re.compile(r'PATTERNS: &str = "\\\n(.*?)";', re.S)
-FIX = re.compile(r"fix: (?:replace|remove) `(.*?)`(?: with `(.*)`)?(?: at \d+:\d+)?$", re.M)
 HEAD = re.compile(r"^[\w.-]+:(\d+:\d+: (?:error|warning|note): .*)$", re.M)
 PUT = re.compile(r"= fix: (?:remove `.*`|(?:insert|replace `.*?` with) `(.*?)`(?= at | after | before |$))", re.M)
 UNSHOWN = re.compile("[\x00-\x1f\x7f-\x9f\u061c\u200b-\u200f\u2028-\u202e\u2060-\u206f\ufeff]")
-KINDS = {"int": "integer", "bool": "logical", "boolean": "logical"}
 MISTAKES, WARNINGS, ROWS = (f"{TOP}/checks/{name}" for name in ("mistakes", "warnings", "rows"))
 
 
@@ -75,21 +72,8 @@ def try_rows(program, words, tried):
     tried.same("warnings of the rows", told, note_of(f"{WARNINGS}/rows.note", told, words))
 
 
-def is_told(pattern, template, fixes):
-    """Whether one of some changes is made by a row of the table of patterns."""
-    either = (f"(?:{re.escape(it)})".replace(r"\|", "|") for it in pattern.split())
-    pieces = (f"(?P<{it[3]}>{'.+?' if it[3] in 'EFGLNT' else '[A-Za-z0-9_]+'})" if re.fullmatch(r"\(\?:[A-Z]\)", it) else it for it in either)
-    found = [(re.fullmatch(r"\s*".join(pieces), old, re.I), new) for pieces in [list(pieces)] for old, new in fixes]
-    return any(it and re.sub("[A-Z]", lambda letter: KINDS.get(it[letter[0]].lower(), it[letter[0]]), template) == new for it, new in found)
-
-
 def try_notes(program, words, tried):
     try_mistakes(program, words, tried)
     try_warnings(program, words, tried)
     if words.only in "rows":
         try_rows(program, words, tried)
-    if words.only in "patterns":
-        fixes = FIX.findall("\n".join(map(text_of, glob.glob(f"{MISTAKES}/*.note"))))
-        table = TABLE.search(text_of(f"{TOP}/crates/kahn_notes/src/patterns.rt"))[1]
-        rows = [(form, row.split(" | ")[0]) for row in table.splitlines() for form in row.split(" | ")[1:]]
-        tried.same("patterns that no note of checks/mistakes tells", [row for row in rows if not is_told(*row, fixes)], [])

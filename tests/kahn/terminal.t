@@ -18,8 +18,8 @@ What kahn says of it is byte for byte.
 
 Words of a line.
   $ printf 'A: 1\u202e2\nA\u200b: 1\n' | kahn_live examples/double.kahn 2>&1
-  examples/double.kahn: input line 1: not a value: `1..`; values are numbers, `true` and `false`
-  examples/double.kahn: input line 2: not a name and a colon: `..`; a colon stands behind the name
+  examples/double.kahn: input line 1: not a value: `1..`; in it stands a character that isn't of ASCII
+  examples/double.kahn: input line 2: not a name and a colon: `..`; in it stands a character that isn't of ASCII
   end 1 double: waits on A after 1
   finished 1
   [1]

@@ -78,7 +78,7 @@ A table of a text that is refused.
   [1]
 A table with an input that is refused.
   $ echo 'W: 1' > values; kahn_explain examples/count.kahn --input values --trace
-  ! values:1:1: error: not an input channel: give the line another name, or leave it out; there is no input channel
+  ! values:1:1: error: not an input channel; there is no input channel
   !  1 | W: 1
   !    | ^
   [1]

@@ -79,31 +79,31 @@ A refused line, and a step used up.
 A byte order mark.
   $ printf '\357\273\277A: 1\r\n\357\273\277A: 2\r\n' | kahn_live examples/double.kahn
   B: 2
-  ! examples/double.kahn: input line 2: not a name and a colon: `..`; a line begins with the name of a channel
+  ! examples/double.kahn: input line 2: not a name and a colon: `..`; in it stands a byte order mark (EF BB BF)
   ! end 1 double: waits on A after 4
   ! finished 4
   [1]
 What is shown of a word: no control or format character, 40 bytes and the rest of a character, and what is wanted.
   $ printf 'A: 21.5\n' | kahn_live examples/double.kahn 2>&1 > /dev/null | sed -n 's/.*not a value: //p'
-  `21.5`; numbers are whole
+  `21.5`; numbers are whole: count tenths or hundredths, as 185 for 18.5
   $ printf 'A: \033[31m\n' | kahn_live examples/double.kahn 2>&1 > /dev/null | sed -n 's/.*not a value: //p'
-  `..`; values are numbers, `true` and `false`
+  `..`; blanks stand between values, and no commas, brackets or quotation marks
   $ printf 'A: 1\177\n' | kahn_live examples/double.kahn 2>&1 > /dev/null | sed -n 's/.*not a value: //p'
   `1..`; values are numbers, `true` and `false`
   $ printf 'A: \302\2331\n' | kahn_live examples/double.kahn 2>&1 > /dev/null | sed -n 's/.*not a value: //p'
-  `..`; values are numbers, `true` and `false`
+  `..`; in it stands a character that isn't of ASCII
   $ printf 'A: 1234567890123456789012345678901234567890\n' | kahn_live examples/double.kahn 2>&1 > /dev/null | sed -n 's/.*not a value: //p'
   `1234567890123456789012345678901234567890`; it is past 64 bits
   $ printf 'A: 12345678901234567890123456789012345678901\n' | kahn_live examples/double.kahn 2>&1 > /dev/null | sed -n 's/.*not a value: //p'
   `1234567890123456789012345678901234567890..`; it is past 64 bits
   $ printf 'A: 123456789012345678901234567890123456789\303\251x\n' | kahn_live examples/double.kahn 2>&1 > /dev/null | sed -n 's/.*not a value: //p'
-  `123456789012345678901234567890123456789é..`; values are numbers, `true` and `false`
+  `123456789012345678901234567890123456789é..`; in it stands a character that isn't of ASCII
   $ printf 'A: 1\342\200\2562\n' | kahn_live examples/double.kahn 2>&1 > /dev/null | sed -n 's/.*not a value: //p'
-  `1..`; values are numbers, `true` and `false`
+  `1..`; in it stands a character that isn't of ASCII
   $ printf 'A: \342\200\2131\n' | kahn_live examples/double.kahn 2>&1 > /dev/null | sed -n 's/.*not a value: //p'
-  `..`; values are numbers, `true` and `false`
+  `..`; in it stands a character that isn't of ASCII
   $ printf 'A: 1\302\260\n' | kahn_live examples/double.kahn 2>&1 > /dev/null | sed -n 's/.*not a value: //p'
-  `1°`; values are numbers, `true` and `false`
+  `1°`; in it stands a character that isn't of ASCII
 Bare numbers.
   $ printf '1\n2\n3\n4\n' | kahn_live examples/double.kahn
   ! examples/double.kahn: input line 1: not a name and a colon: `1`; a line begins with the name of a channel

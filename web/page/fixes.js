@@ -7,7 +7,7 @@ import { indexAt } from "./places.js";
 const FORMS = [
   [/^fix: replace `(`?[^`]+`?)` with `([^`]+)`(?: at (\d+):(\d+))?$/, ([, old, put], at) => ({ from: at, to: at + old.length, text: put })],
   [/^fix: insert `([^`]+)` (?:after|before) `[^`]+`(?: at (\d+):(\d+))?$/, ([, put], at) => ({ from: at, to: at, text: put })],
-  [/^fix: remove `([^`]+)`(?: at (\d+):(\d+))?$/, ([, old], at) => ({ from: at, to: at + old.length, text: "" })],
+  [/^fix: remove `([^`]+|`)`(?: at (\d+):(\d+))?$/, ([, old], at) => ({ from: at, to: at + old.length, text: "" })],
 ];
 
 // Of a name that is nothing in sight the nearest one is told in the heading.

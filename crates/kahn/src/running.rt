@@ -11,7 +11,6 @@ use std::rt::Runtime;
 use std::sync::Wait;
 use std::thread::Threads;
 
-/// Returns the result of the run of texts that were read.
 fn run_answer(worked: Result<Verdict, WorkFault>) -> Result<Verdict, Fault>
     ensures { result ≡ run_answer worked }
 {

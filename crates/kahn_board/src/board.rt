@@ -4,8 +4,7 @@ ghost use Rattle.std.specs.Prelude.{◌≡◌, ℕ, ◌+◌, ◌-◌, ◌*◌, �
 ghost use Rattle.std.specs.Vec.{vec_capacity};
 ghost use Rattle.kahn_board.specs.Rule.{holds, wired, channel_at, budget_at, count_at, halted_at};
 
-use crate::closing::{Both, Closed, SplitsSeat};
-use crate::opening::{into_slots, out_of_slots, reserved};
+use crate::opening::{Both, Closed, SplitsSeat, into_slots, out_of_slots, reserved};
 use crate::rule::{Reports, Rule, Terms};
 use crate::seat::{Seat, TableSeat};
 use crate::view::SeatView;
@@ -76,7 +75,6 @@ impl<T: Reports> Board<T> {
         shared.compare_exchange::<Brand>(seat, word, old, new)
     }
 
-    // A store.
     pub(crate) fn store<P: Play<Option<T>, SeatView>>(
         &self,
         seat: &mut TableSeat<T>,
@@ -89,7 +87,6 @@ impl<T: Reports> Board<T> {
         self.table.shared.store::<P>(seat, word, new)
     }
 
-    // A swap.
     pub(crate) fn swap<P: Play<Option<T>, SeatView>>(
         &self,
         seat: &mut TableSeat<T>,
@@ -102,7 +99,6 @@ impl<T: Reports> Board<T> {
         self.table.shared.swap::<P>(seat, word, new)
     }
 
-    // An addition.
     pub(crate) fn fetch_add<P: Play<Option<T>, SeatView>>(
         &self,
         seat: &mut TableSeat<T>,
@@ -115,7 +111,6 @@ impl<T: Reports> Board<T> {
         self.table.shared.fetch_add::<P>(seat, word, k)
     }
 
-    // A subtraction.
     pub(crate) fn fetch_sub<P: Play<Option<T>, SeatView>>(
         &self,
         seat: &mut TableSeat<T>,
@@ -137,7 +132,6 @@ impl<T: Reports> Board<T> {
         self.table.shared.exchange(seat, slot, new)
     }
 
-    // The word of the channel.
     #[inline(always)]
     pub(crate) fn channel_word(&self, channel: usize) -> usize
         requires { channel < self.now.channels }
@@ -146,7 +140,6 @@ impl<T: Reports> Board<T> {
         8 * (self.instances + channel)
     }
 
-    // The word of the budget.
     #[inline(always)]
     pub(crate) fn budget_word(&self) -> usize
         ensures { result ≡ budget_at (wired self.now.table.shared.key) }
@@ -154,7 +147,6 @@ impl<T: Reports> Board<T> {
         8 * (self.instances + self.channels)
     }
 
-    // The word of the count.
     #[inline(always)]
     pub(crate) fn count_word(&self) -> usize
         ensures { result ≡ count_at (wired self.now.table.shared.key) }
@@ -162,7 +154,6 @@ impl<T: Reports> Board<T> {
         self.budget_word() + 8
     }
 
-    // The word that says whether the run is halted.
     #[inline(always)]
     pub(crate) fn halted_word(&self) -> usize
         ensures { result ≡ halted_at (wired self.now.table.shared.key) }
@@ -170,7 +161,6 @@ impl<T: Reports> Board<T> {
         self.budget_word() + 16
     }
 
-    // The reader of the channel, which has one.
     pub(crate) fn reader(&self, channel: usize) -> usize
         requires { (channel < self.now.channels) × ((p : ℕ) × ((wired self.now.table.shared.key).reader channel ≡ Some p)) }
         ensures { (wired self.now.table.shared.key).reader channel ≡ Some result }

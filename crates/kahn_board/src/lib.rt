@@ -3,7 +3,6 @@
 #![tactic(auto)]
 
 mod board;
-mod closing;
 mod laws;
 mod opening;
 mod rule;
@@ -12,13 +11,12 @@ mod turn;
 mod view;
 
 pub use board::Board;
-pub use closing::Closed;
 pub use laws::quiet_is_final;
+pub use opening::Closed;
 pub use seat::{Draw, Look, Rest, Seat};
 
 // For the crates above.
-pub use closing::{join_all, split_all};
-pub use opening::reader_of;
+pub use opening::{join_all, reader_of, split_all};
 pub use rule::{Reports, Rule, Terms};
 pub use turn::{claim, draw_some, go_on, publish, rest_dry, rest_over, rest_ready};
 pub use view::SeatView;

@@ -1,6 +1,6 @@
 //! A worker's turn: its calls on the board in their order, from the claim of an instance until it is set down.
 
-ghost use Rattle.std.specs.Prelude.{◌≡◌, ◌≢◌, ℕ, ◌+◌, ◌-◌, ◌*◌, ◌^◌, ◌<◌, ◌≤◌, slice_index, true, false, Option, Some};
+ghost use Rattle.std.specs.Prelude.{◌≡◌, ◌≢◌, ℕ, ◌+◌, ◌-◌, ◌*◌, ◌^◌, ◌<◌, slice_index, true, false, Option, Some};
 ghost use Rattle.kahn_board.specs.{Rule.wired, Wires.TellsEnd, Wires.TellsWait, Calls.IsAtBoard, Calls.Was, Calls.Looks, declared.seat.Look.Look, declared.seat.Look.TheVariants.Go};
 ghost use Rattle.kahn_board.specs.inner.Turn.{DrawsAgain, FitsDraw, drawn_of, BeginsTurn, EndsTurn, IsBetween, IsBetweenTurns, IsSeatOf, HoldsInTurn, Knows, HasPublished, SetsLate, SetsReady, SetsStill};
 

@@ -9,5 +9,5 @@ pub use Rattle.std.proofs.lemmas.List.{at_drop_more, length-map, length-replicat
 pub use Rattle.std.proofs.lemmas.Option.{slice_get-get_or, slice_get-map, slice_get_within}
 pub use Rattle.std.specs.List.{slice_get}
 pub use Rattle.std.specs.Prelude.{option_map, slice_index_or, ◌==◌, ◌||◌}
-pub use Rattle.kahn_chain.specs.declared.{standing.Cause.Cause, standing.Cause.TheVariants.Input, standing.Cause.TheVariants.Ring, standing.Cause.TheVariants.Stopped, standing.Standing.Standing}
+pub use Rattle.kahn_chain.specs.declared.{reason.Cause.Cause, reason.Cause.TheVariants.Input, reason.Cause.TheVariants.Ring, reason.Cause.TheVariants.Stopped, reason.Standing.Standing}
 pub use Rattle.kahn_streams.specs.declared.{answer.End.End, answer.Outcome.Outcome, answer.Outcome.TheVariants.Ended, answer.Outcome.TheVariants.Faulted, answer.Outcome.TheVariants.More, answer.Outcome.TheVariants.Waits, answer.Verdict.Verdict}

@@ -1,6 +1,6 @@
 -- Chains of waits: each has one end.
 use Rattle.kahn_chain.proofs.Common.{◌≡◌, ℕ, ◌⊎◌, inl, inr, ⊎_elim, List, Some, refl, sym, subst, ◌∙◌, ap, ap₂, arith, slice_get, Schema, Given, Written, channel_source, Awaits, Leads, stays, onward, LeadsOn, IsLeastOfRing, IsNoWait, IsCause, Standing, Cause, Input, Stopped, Ring}
-use Rattle.kahn_chain.specs.declared.standing.Standing.TheVariants.{Ended, Waits, Faulted, More}
+use Rattle.kahn_chain.specs.declared.reason.Standing.TheVariants.{Ended, Waits, Faulted, More}
 
 same_wait : (c d : ℕ) → Some (Waits c) ≡ Some (Waits d) → c ≡ d
 same_wait c d e = cc

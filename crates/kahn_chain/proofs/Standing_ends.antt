@@ -2,7 +2,7 @@
 use Rattle.kahn_chain.proofs.Common.{◌≡◌, ℕ, ◌<◌, List, length, map, Option, None, Some, refl, sym, ap, subst, ◌∙◌, option_map, length-map, slice_get, slice_get-map, Schema, network_of, Reads, instance_at, actual_at, AreStandings, standing_of, stands, Standing, End, Outcome, Ended, Waits, Faulted, More, Verdict}
 use Rattle.kahn_streams.specs.{declared.tree.Program.Program, Wiring.IsWellWired, Solution.Histories, Solution.Inputs, Answers.AreRight, Answers.IsOutcome, Answers.IsWaiting, declared.answer.Verdict.TheVariants.Finished, declared.answer.Verdict.TheVariants.Bound, declared.answer.Verdict.TheVariants.Memory}
 use Rattle.kahn_streams.proofs.Sourced.{reads_listed}
-use Rattle.kahn_chain.specs.declared.standing.Standing.TheVariants as S
+use Rattle.kahn_chain.specs.declared.reason.Standing.TheVariants as S
 
 pub end_of : (xs : List End) (q : ℕ) (s : Standing) (o : Option End) → slice_get xs q ≡ o → option_map stands o ≡ Some s
     → (x : End) × (slice_get xs q ≡ Some x) × (stands x ≡ s)

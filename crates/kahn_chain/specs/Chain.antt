@@ -3,7 +3,7 @@
 use Rattle.std.specs.Prelude.{◌≡◌, ℕ, ◌<◌, ◌≤◌, List, Bool, true, false, length, Some, slice_get}
 use Rattle.kahn_streams.specs.{Network.Schema, Network.Given, Network.Written, Network.channel_source, declared.answer.End.End, declared.answer.Outcome.Outcome}
 use Rattle.kahn_streams.specs.declared.answer.Outcome.TheVariants as outcome
-use Rattle.kahn_chain.specs.{declared.standing.Standing.Standing, declared.standing.Standing.TheVariants.Ended, declared.standing.Standing.TheVariants.Waits, declared.standing.Standing.TheVariants.Faulted, declared.standing.Standing.TheVariants.More, declared.standing.Cause.Cause, declared.standing.Cause.TheVariants.Input, declared.standing.Cause.TheVariants.Stopped, declared.standing.Cause.TheVariants.Ring}
+use Rattle.kahn_chain.specs.{declared.reason.Standing.Standing, declared.reason.Standing.TheVariants.Ended, declared.reason.Standing.TheVariants.Waits, declared.reason.Standing.TheVariants.Faulted, declared.reason.Standing.TheVariants.More, declared.reason.Cause.Cause, declared.reason.Cause.TheVariants.Input, declared.reason.Cause.TheVariants.Stopped, declared.reason.Cause.TheVariants.Ring}
 
 -- the standing of an instance with this outcome, or this end
 abbrev pub standing_of : Outcome → Standing

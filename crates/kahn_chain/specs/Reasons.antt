@@ -2,7 +2,7 @@
 use Rattle.std.specs.Prelude.{◌≡◌, ℕ, ◌+◌, List, [], ◌∷◌, ◌++◌, All, Bool, true, false, Some, map, slice_get}
 use Rattle.kahn_streams.specs.{Network.Schema, declared.answer.End.End, declared.answer.Outcome.Outcome, declared.answer.Verdict.Verdict, declared.answer.Verdict.TheVariants.Finished, declared.answer.Verdict.TheVariants.Bound, declared.answer.Verdict.TheVariants.Memory}
 use Rattle.kahn_streams.specs.declared.answer.Outcome.TheVariants as outcome
-use Rattle.kahn_chain.specs.{Chain.IsCause, Chain.IsRingMark, Chain.stands, declared.standing.Standing.Standing, declared.standing.Standing.TheVariants.Ended, declared.standing.Standing.TheVariants.Waits, declared.standing.Standing.TheVariants.Faulted, declared.standing.Standing.TheVariants.More, declared.standing.Cause.Cause, declared.standing.Cause.TheVariants.Input, declared.standing.Cause.TheVariants.Stopped, declared.standing.Cause.TheVariants.Ring, declared.reason.Reason.Reason}
+use Rattle.kahn_chain.specs.{Chain.IsCause, Chain.IsRingMark, Chain.stands, declared.reason.Standing.Standing, declared.reason.Standing.TheVariants.Ended, declared.reason.Standing.TheVariants.Waits, declared.reason.Standing.TheVariants.Faulted, declared.reason.Standing.TheVariants.More, declared.reason.Cause.Cause, declared.reason.Cause.TheVariants.Input, declared.reason.Cause.TheVariants.Stopped, declared.reason.Cause.TheVariants.Ring, declared.reason.Reason.Reason}
 
 -- one that has ended or has a fault stays so, and a ring does
 abbrev pub is_stopped : Standing → Bool

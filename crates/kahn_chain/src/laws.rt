@@ -2,7 +2,7 @@
 
 ghost use Rattle.std.specs.Prelude.{◌≡◌, ℕ, List};
 ghost use Rattle.kahn_streams.specs.Network.{Schema};
-ghost use Rattle.kahn_chain.specs.{Chain.IsCause, declared.standing.Cause.Cause, declared.standing.Standing.Standing};
+ghost use Rattle.kahn_chain.specs.{Chain.IsCause, declared.reason.Cause.Cause, declared.reason.Standing.Standing};
 
 /// An instance has one cause; so a ring is reported exactly if there is one.
 #[tactic(auto, using(crate::proofs::Leading::one_cause))]

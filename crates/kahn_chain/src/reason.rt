@@ -1,11 +1,10 @@
-//! Why each instance that hasn't ended goes no further.
+//! How each instance stands, which ones wait on one another in rings, and why one that hasn't ended goes no further.
 
 ghost use Rattle.std.specs.Prelude.{◌≡◌, ◌<◌, ◌++◌, IfOk, length, map, slice_get, slice_index_or};
 ghost use Rattle.kahn_streams.specs.Network.{network_of};
-ghost use Rattle.kahn_chain.specs.{Chain.AreStandings, Chain.IsCause, Chain.IsRingMark, Chain.stands, Reasons.AreReasons, Reasons.lasts, inner.Reasoned.reasons_at};
+ghost use Rattle.kahn_chain.specs.{Chain.AreStandings, Chain.IsCause, Chain.IsRingMark, Chain.stands, Reasons.AreReasons, Reasons.lasts, inner.Reasoned.reasons_at, Chain.AreRings, Chain.HasRing, Chain.standing_of};
 
-use crate::cause::{Caused, cause_of};
-use crate::standing::{Cause, Standing};
+use crate::walk::walk;
 use kahn_streams::{End, Network, Outcome, Verdict};
 use std::alloc::{AllocError, Global};
 
@@ -75,4 +74,106 @@ pub fn reasons(
         add_reason(&mut reasons, verdict, instance, ends[instance], found)?;
     }
     Ok(reasons)
+}
+
+/// Where the waits of an instance lead.
+#[derive(Clone, Copy)]
+pub(crate) struct Caused {
+    /// To one that waits on an input, to one that doesn't wait, or into a ring, whose least number this is.
+    pub cause: Cause,
+    /// Whether they lead back to it.
+    pub is_on_ring: bool,
+}
+
+#[tactic(auto, using(crate::proofs::Walking::ring_within))]
+pub(crate) fn cause_of(network: &Network, ends: &[End], instance: usize) -> Caused
+    requires known { AreStandings (network_of network.now) (map stands ends.now) }
+    requires here { instance < length ends.now }
+    ensures cause { IsCause (network_of network.now) (map stands ends.now) instance result.cause }
+    ensures ring { IsRingMark (network_of network.now) (map stands ends.now) instance result.is_on_ring }
+{
+    match walk(network, ends, instance, instance).stop {
+        Cause::Ring(one) => {
+            let ring = walk(network, ends, one, instance);
+            Caused {
+                cause: Cause::Ring(ring.least),
+                is_on_ring: ring.found,
+            }
+        }
+        cause => Caused {
+            cause,
+            is_on_ring: false,
+        },
+    }
+}
+
+/// Marks the instances whose waits lead back to themselves. Fails only if memory was refused.
+pub fn rings(alloc: Global, network: &Network, ends: &[End]) -> Result<Vec<bool>, AllocError>
+    requires { AreStandings (network_of network.now) (map stands ends.now) }
+    ensures { IfOk result (λ marks. AreRings (network_of network.now) (map stands ends.now) marks.items) }
+{
+    let mut marks = Vec::new(alloc);
+    for instance in 0..ends.len() {
+        marks.push(cause_of(network, ends, instance).is_on_ring)?;
+    }
+    Ok(marks)
+}
+
+/// Whether instances with these ends wait on one another in a ring. Never allocates.
+pub fn has_ring(network: &Network, ends: &[End]) -> bool
+    requires { AreStandings (network_of network.now) (map stands ends.now) }
+    ensures { HasRing (network_of network.now) (map stands ends.now) result }
+{
+    for instance in 0..ends.len() {
+        if cause_of(network, ends, instance).is_on_ring {
+            return true;
+        }
+    }
+    false
+}
+
+/// The state of an instance.
+#[derive(Clone, Copy)]
+pub enum Standing {
+    /// It has ended.
+    Ended,
+    /// It waits on the channel with that number.
+    Waits(usize),
+    /// A fault of arithmetic stopped it.
+    Faulted,
+    /// It needs more events.
+    More,
+}
+
+/// Why an instance goes no further.
+#[derive(Clone, Copy)]
+pub enum Cause {
+    /// This instance waits on this channel, whose values come from outside.
+    Input(usize, usize),
+    /// This instance doesn't wait.
+    Stopped(usize, Standing),
+    /// This instance is on a ring of instances that wait on one another.
+    Ring(usize),
+}
+
+pub(crate) fn standing_of(outcome: Outcome) -> Standing
+    ensures { result ≡ standing_of outcome }
+{
+    match outcome {
+        Outcome::Ended => Standing::Ended,
+        Outcome::Waits(channel) => Standing::Waits(channel),
+        Outcome::Faulted(_) => Standing::Faulted,
+        Outcome::More => Standing::More,
+    }
+}
+
+/// Returns the standings of instances with these ends. Fails only if memory was refused.
+pub fn standings(alloc: Global, ends: &[End]) -> Result<Vec<Standing>, AllocError>
+    ensures { IfOk result (λ list. list.items ≡ map stands ends.now) }
+{
+    let mut list = Vec::new(alloc);
+    for end in ends {
+        list.push(standing_of(end.outcome))?;
+    }
+    Ok(list)
 }

@@ -4,7 +4,7 @@ ghost use Rattle.std.specs.Prelude.{◌≡◌, ◌==◌, ◌||◌, ◌<◌, leng
 ghost use Rattle.kahn_streams.specs.Network.{network_of};
 ghost use Rattle.kahn_chain.specs.{Chain.AreStandings, Chain.stands, inner.Walk.IsStepFrom, inner.Walk.IsWalked};
 
-use crate::standing::{Cause, Standing, standing_of};
+use crate::reason::{Cause, Standing, standing_of};
 use kahn_streams::{End, Network};
 
 /// What comes after an instance on its chain of waits.
@@ -27,7 +27,6 @@ pub(crate) struct Walked {
     pub found: bool,
 }
 
-/// Returns what comes after an instance.
 fn next(network: &Network, ends: &[End], instance: usize) -> WalkStep
     requires known { AreStandings (network_of network.now) (map stands ends.now) }
     requires here { instance < length ends.now }
@@ -42,7 +41,6 @@ fn next(network: &Network, ends: &[End], instance: usize) -> WalkStep
     }
 }
 
-/// Whether it was found before, or is here.
 fn is_found(found: bool, at: usize, sought: usize) -> bool
     ensures { result ≡ found || (at == sought) }
 {

@@ -1,10 +1,10 @@
 -- The names of the crates below and of this crate's definitions that proofs cite, passed on from one place.
 pub use Rattle.kahn_check.specs.Parts.{faults_by_part, first_alone, firsts, instance_parts, name_parts, no_room, parts, side_parts, together, unless_empty}
-pub use Rattle.kahn_check.specs.inner.Firsts.{AreNamesTold, HasAdded, HasAddedFirst, HasTold, HaveNumbers, IsWalkOf, fault_alone, first_fault, first_then, made_all, made_of, name_faults}
+pub use Rattle.kahn_check.specs.inner.Firsts.{HasAddedFirst, HasTold, HaveNumbers, IsWalkOf, fault_alone, first_fault, first_then, made_all, made_of}
 pub use Rattle.kahn_check.specs.inner.Globals.{ArePlaced, IsPlaced, global_of, known, option_global}
 pub use Rattle.kahn_check.specs.inner.Names.{AreFound}
 pub use Rattle.kahn_check.specs.inner.Tables.{Ends, HaveGot, handed_all, handed_to, held, made_in, meant, place_faults, places_faults, seat_faults, seats_parts, side_in, sides_parts, taken}
-pub use Rattle.kahn_check.specs.inner.Wires.{AreWired, HasWired, as_lines, line_in, lines_in}
+pub use Rattle.kahn_check.specs.inner.Wires.{HasWired, as_lines, line_in, lines_in}
 pub use Rattle.kahn_streams.proofs.Handed.{AtMostOne, IsServed, Table, as_channels, bytes_self, bytes_true, bytes_turned, ends_append, keys, served}
 pub use Rattle.kahn_streams.specs.Faults.{IsMet, argument_faults, arguments_faults, body_faults, channel_faults, declaration_faults, else_faults, faults, faults_as, faults_in, faults_of, find, instance_faults, kind_in, kind_of, level_faults, level_kind, made_faults, miscounted, misplaced, misread, missing, misused, most_channels, most_instances, overtaken, process_faults, repeated, row_faults, side_faults, sides_faults, spanning, too_many, twice, verdict, wrong, wrong_first, wrong_second}
 pub use Rattle.kahn_streams.specs.View.{body_of, bytes_of, else_of, expr_of, expression_of, level_of, place_of, row_of, stmt_of}

@@ -1,10 +1,9 @@
 -- What is told of each part in turn.
-use Rattle.kahn_check.proofs.Common.{Ok, Err, Result, slice_get, AllByRecursion, IsMade, IsWellWired, faults, ◌≡◌, inl, inr, ℕ, suc, ◌+◌, ◌-◌, List, [], ◌∷◌, ◌++◌, map, length, Option, None, Some, refl, ap, sym, ◌∙◌, subst, append_assoc, bytes_eq, arith, option_or, append-nil, map-append, lookup, Name, Kind, Role, Direction, Process, Parameter, Argument, Declaration, Instance, Program, In, Out, bytes_of, Vec, Wire, shown, lines_of, entries, IsChannel, IsProcess, declared_of, declared_channels, handed, handed_in, parameters_of, side_at, CheckFault, NoMemory, Unknown, verdict, IsMet, most_channels, most_instances, too_many, repeated, process_faults, miscounted, name_parts, parts, side_parts, firsts, first_alone, faults_by_part, unless_empty, HaveGot, HasTold, AreNamesTold, first_fault, fault_alone, first_then, name_faults, HasAdded, HasAddedFirst, seat_faults, seats_parts, sides_parts, Ends, taken, place_faults, places_faults, made_in, meant, handed_to, handed_all, side_in, as_lines, line_in, lines_in, AreWired, HasWired, HaveNumbers, made_of, made_all, ArePlaced, process_at, Table, as_channels}
+use Rattle.kahn_check.proofs.Common.{Ok, Err, Result, slice_get, AllByRecursion, IsMade, IsWellWired, faults, ◌≡◌, inl, inr, ℕ, zero, suc, ◌+◌, ◌-◌, List, [], ◌∷◌, ◌++◌, map, length, Option, None, Some, refl, ap, sym, ◌∙◌, subst, append_assoc, bytes_eq, arith, nat_tests, false, option_or, append-nil, map-append, lookup, ◌==◌, Name, Kind, Role, Direction, Process, Parameter, Argument, Declaration, Instance, Program, In, Out, bytes_of, Vec, Wire, shown, lines_of, entries, IsChannel, IsProcess, declared_of, declared_channels, handed, handed_in, parameters_of, side_at, CheckFault, NoMemory, TooMany, Span, verdict, IsMet, most_channels, most_instances, too_many, repeated, process_faults, miscounted, name_parts, parts, side_parts, firsts, first_alone, faults_by_part, unless_empty, HaveGot, HasTold, no_room, first_fault, fault_alone, first_then, seat_faults, seats_parts, sides_parts, Ends, taken, place_faults, places_faults, made_in, meant, handed_to, handed_all, side_in, as_lines, line_in, lines_in, HasWired, made_of, made_all, process_at, Table, as_channels}
 use Rattle.std.specs.Prelude.{OnOk}
-use Rattle.std.specs.{Result.result_err, declared.alloc.Global.Global}
+use Rattle.std.specs.{Bool.then_some, Result.result_err, declared.alloc.Global.Global}
 use Rattle.kahn_streams.specs.declared.tree.Declaration.TheVariants as D
 use Rattle.kahn_streams.specs.Wiring
-use Rattle.kahn_check.specs.declared.globals.Globals.{Globals}
 use Rattle.kahn_check.proofs.{Linked.all_handed, Linked.table, Linked.link_handed, Linked.link_lines, Linked.link_seats, Linked.link_sides, Linked.taken_append, Parts.first, Parts.firsts_append, Wired.well_wired}
 use Rattle.kahn_streams.proofs.By_number.{the_process}
 use Rattle.kahn_streams.specs.Network.{process_of}
@@ -18,13 +17,17 @@ then_first None [] ys = refl
 then_first None (x ∷ xs) ys = refl
 then_first (Some f) xs ys = refl
 
-or_first : (o : Option CheckFault) (xs : List CheckFault) → option_or o (first_fault xs) ≡ first_then o xs
+pub or_first : (o : Option CheckFault) (xs : List CheckFault) → option_or o (first_fault xs) ≡ first_then o xs
 or_first None xs = refl
 or_first (Some f) xs = refl
 
-pub err_first : (fs : List CheckFault) → result_err (verdict fs (tt {0})) ≡ first_fault fs
-err_first [] = refl
-err_first (f ∷ fs) = refl
+pub err_first : {A : Type 0} (fs : List CheckFault) (a : A) → result_err (verdict fs a) ≡ first_fault fs
+err_first [] a = refl
+err_first (f ∷ fs) a = refl
+
+pub or_firsts : (xs ys : List CheckFault) → option_or (first_fault xs) (first_fault ys) ≡ first_fault (xs ++ ys)
+or_firsts [] ys = refl
+or_firsts (x ∷ xs) ys = refl
 
 -- one part more that is told
 one_told : (fs fs' p : List CheckFault) (ps : List (List CheckFault)) (found : Option CheckFault) → found ≡ first_fault p → fs' ≡ fs ++ fault_alone found → fs' ++ firsts ps ≡ fs ++ firsts (p ∷ ps)
@@ -33,11 +36,23 @@ one_told fs fs' p ps found h i =
 
 -- ---- names
 
+-- the table and the list of faults, where so many channels more may be declared, come out with the names that are left as those with 0 do with all
+pub record AreNamesTold (left : List (Name × Wiring.Global)) (g : Table) (room : ℕ) (fs : List CheckFault) (all : List (Name × Wiring.Global)) (g0 : Table) (room0 : ℕ) (fs0 : List CheckFault) : Type 0 where
+  pub table : (rest : List (Name × Wiring.Global)) → g ++ entries (left ++ rest) ≡ g0 ++ entries (all ++ rest)
+  pub told : (rest : List (Name × Wiring.Global)) → fs ++ firsts (name_parts g room (left ++ rest)) ≡ fs0 ++ firsts (name_parts g0 room0 (all ++ rest))
+
+pub full_or : (room : ℕ) (at : Span) (xs : List CheckFault) (full twice : Option CheckFault) → full ≡ then_some (room == 0) (TooMany at) → twice ≡ first_fault xs →
+    option_or full twice ≡ first_fault (no_room room at ++ xs)
+full_or zero at xs full twice h i = rw h refl
+full_or (suc room) at xs full twice h i =
+    let more : (suc room == 0) ≡ false = grind (arith, nat_tests) in
+    rw (h, more) i
+
 pub names_begin : (all : List (Name × Wiring.Global)) (g : Table) (room : ℕ) (fs : List CheckFault) → AreNamesTold all g room fs all g room fs
 names_begin all g room fs = record { table = λ rest. refl; told = λ rest. refl }
 
 pub channel_told : (kind : Kind) (role : Role) (x : Name) (xs : List Name) (g g' : Table) (room room' : ℕ) (fs fs' : List CheckFault) (found : Option CheckFault)
-    (all : List (Name × Wiring.Global)) (g0 : Table) (room0 : ℕ) (fs0 : List CheckFault) → AreNamesTold (as_channels kind role (x ∷ xs)) g room fs all g0 room0 fs0 → found ≡ first_fault (name_faults g room x) →
+    (all : List (Name × Wiring.Global)) (g0 : Table) (room0 : ℕ) (fs0 : List CheckFault) → AreNamesTold (as_channels kind role (x ∷ xs)) g room fs all g0 room0 fs0 → found ≡ first_fault (no_room room x.span ++ repeated (lookup (bytes_eq (bytes_of x)) g) x.span) →
     fs' ≡ fs ++ fault_alone found → g' ≡ g ++ (bytes_of x, IsChannel kind role) ∷ [] → room' ≡ room - 1 → AreNamesTold (as_channels kind role xs) g' room' fs' all g0 room0 fs0
 channel_told kind role x xs g g' room room' fs fs' found all g0 room0 fs0 h is more grown less =
     let one = (bytes_of x, IsChannel kind role) ∷ [] in
@@ -45,7 +60,7 @@ channel_told kind role x xs g g' room room' fs fs' found all g0 room0 fs0 h is m
       table = λ rest. ap (λ z. z ++ entries (as_channels kind role xs ++ rest)) grown ∙ append_assoc g one (entries (as_channels kind role xs ++ rest)) ∙ h.table rest;
       told = λ rest.
           (λ j. fs' ++ firsts (name_parts (grown j) (less j) (as_channels kind role xs ++ rest)))
-          ∙ one_told fs fs' (name_faults g room x) (name_parts (g ++ one) (room - 1) (as_channels kind role xs ++ rest)) found is more
+          ∙ one_told fs fs' (no_room room x.span ++ repeated (lookup (bytes_eq (bytes_of x)) g) x.span) (name_parts (g ++ one) (room - 1) (as_channels kind role xs ++ rest)) found is more
           ∙ h.told rest;
     }
 
@@ -141,6 +156,10 @@ pub on_ok : {A E : Type 0} (r : Result A E) (P : Type 0) → P → OnOk r P
 on_ok (Ok x) P h = h
 on_ok (Err e) P h = tt
 
+pub added_if : {A E : Type 0} (r : Result A E) (P Q : Type 0) → (P → Q) → OnOk r P → OnOk r Q
+added_if (Ok x) P Q f h = f h
+added_if (Err e) P Q f h = tt
+
 pub seat_made : (g : Table) (w r : Ends) (i : ℕ) (x : Instance) (p : Process) (fs fs' : List CheckFault) (limit count found : Option CheckFault) → meant g x ≡ Some (IsProcess p) →
     limit ≡ first_fault (too_many most_instances i x.process.span) → count ≡ first_fault (miscounted (length p.parameters.items) (length x.arguments.items) x.process.span) →
     found ≡ first_then (option_or limit count) (places_faults g w r i 0 p.parameters.items x.arguments.items) → fs' ≡ fs ++ fault_alone found → fs' ≡ fs ++ first_alone (seat_faults g w r i x)
@@ -193,6 +212,11 @@ seats_onward g i x xs w r w' r' fs fs' xs0 w0 r0 fs0 h more grown =
     }
 
 -- ---- the sides of channels
+
+-- the wires and the faults of sides come out with the channels that are left as those with 0 do with all
+pub record AreWired (w r : Ends) (left : List (Name × (Kind × Role))) (ws : List Wire) (fs : List CheckFault) (all : List (Name × (Kind × Role))) (ws0 : List Wire) (fs0 : List CheckFault) : Type 0 where
+  pub lines : (rest : List (Name × (Kind × Role))) → map shown ws ++ lines_in w r (left ++ rest) ≡ map shown ws0 ++ lines_in w r (all ++ rest)
+  pub sides : (rest : List (Name × (Kind × Role))) → fs ++ firsts (sides_parts w r (left ++ rest)) ≡ fs0 ++ firsts (sides_parts w r (all ++ rest))
 
 pub wired_step : (w r : Ends) (kind : Kind) (role : Role) (x : Name) (xs : List Name) (ws : List Wire) (one : Wire) (fs fs' : List CheckFault) (found : Option CheckFault)
     (all : List (Name × (Kind × Role))) (ws0 : List Wire) (fs0 : List CheckFault) → AreWired w r (as_lines kind role (x ∷ xs)) ws fs all ws0 fs0 → found ≡ first_fault (side_in w r x role) →

@@ -1,5 +1,5 @@
 -- An expression has no fault exactly where it has a kind, and a statement exactly where it agrees.
-use Rattle.kahn_check.proofs.Common.{arith, nat_tests, ◌↔◌, ◌≡◌, ℕ, suc, Bool, true, false, cond, List, [], ◌∷◌, ◌++◌, map, Option, None, Some, refl, sym, ◌∙◌, subst, bytes_eq, slice_get, lookup, Span, Kind, Direction, Taking, Form, Number, Variable, Wait, Negate', Not', Bracket', Level', Conditional', Row_of-Operand, end_of-Operand, more_of-Operand, Action, Empty, Assign, Send, Print, Block', If', While', Repeat', Row_of-Statement, end_of-Statement, more_of-Statement, Held-Action-If-2, None', Some', In, Out, Channel, Value, bytes_of, place_of, expr_of, level_of, expression_of, stmt_of, row_of, else_of, body_of, takes, gives, IsTaken, HasKind, Agrees, Locals, find, wrong, misread, misused, kind_in, level_kind, kind_of, wrong_first, wrong_second, spanning, faults_in, level_faults, faults_as, faults_of, row_faults, else_faults, body_faults}
+use Rattle.kahn_check.proofs.Common.{arith, nat_tests, ◌↔◌, ◌≡◌, ℕ, List, [], ◌∷◌, ◌++◌, map, Option, None, Some, refl, sym, ◌∙◌, subst, bytes_eq, slice_get, lookup, Span, Kind, Direction, Taking, Form, Number, Variable, Wait, Negate', Not', Bracket', Level', Conditional', Row_of-Operand, end_of-Operand, more_of-Operand, Action, Empty, Assign, Send, Print, Block', If', While', Repeat', Row_of-Statement, end_of-Statement, more_of-Statement, Held-Action-If-2, None', Some', In, Out, Channel, Value, bytes_of, place_of, expr_of, level_of, expression_of, stmt_of, row_of, else_of, body_of, takes, gives, IsTaken, HasKind, Agrees, Locals, find, wrong, misread, misused, kind_in, level_kind, kind_of, wrong_first, wrong_second, spanning, faults_in, level_faults, faults_as, faults_of, row_faults, else_faults, body_faults}
 use Rattle.kahn_streams.specs.Syntax as S
 use Rattle.kahn_streams.specs.{declared.tree.Expression.Expression, declared.tree.Statement.Statement, declared.tree.Kind.TheVariants.Integer, declared.tree.Kind.TheVariants.Logical}
 use Rattle.kahn_streams.specs.declared.tree.Form as F

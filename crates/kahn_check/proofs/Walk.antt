@@ -1,5 +1,7 @@
 -- How the first fault of a list goes by its parts, and rows as lists.
-use Rattle.kahn_check.proofs.Common.{◌≡◌, List, [], ◌∷◌, ◌++◌, Ok, Err, refl, ap, sym, Span, Kind, Row_of-Operand, end_of-Operand, more_of-Operand, Row_of-Statement, end_of-Statement, more_of-Statement, takes, gives, Locals, CheckFault, verdict, wrong_first, wrong_second, spanning, faults_in, kind_of, level_faults, level_kind, row_faults, body_faults, faults_of}
+use Rattle.kahn_check.proofs.Common.{◌≡◌, List, [], ◌∷◌, ◌++◌, Ok, Err, Option, None, Some, refl, ap, sym, Span, Kind, Row_of-Operand, end_of-Operand, more_of-Operand, Row_of-Statement, end_of-Statement, more_of-Statement, takes, gives, Locals, CheckFault, verdict, wrong, wrong_first, wrong_second, spanning, faults_in, kind_of, level_faults, level_kind, row_faults, body_faults, faults_of}
+use Rattle.std.specs.Prelude.{unwrap_or}
+use Rattle.kahn_streams.specs.declared.tree.Kind.TheVariants.{Integer, Logical}
 use Rattle.kahn_streams.specs.{declared.tree.Operand.Operand, declared.tree.Form.TheBlock.items-the_row-Operand, declared.tree.Action.TheBlock.items-the_row-Statement}
 
 -- a part without faults is passed over
@@ -29,7 +31,17 @@ verdict_same (x ∷ xs) a c f h = cc
 abbrev pub list_faults : Locals → Kind → Span → List Operand → List CheckFault
 list_faults s k done [] = []
 list_faults s k done (o ∷ rest) =
-    wrong_first (takes o.operator) k done ++ (faults_in s o.expression.form ++ (wrong_second (takes o.operator) k (kind_of s o.expression.form) o.expression.span ++ list_faults s (gives o.operator) (spanning done o.expression.span) rest))
+    let wanted = unwrap_or (takes o.operator) k in
+    wrong wanted k done ++ (faults_in s o.expression.form ++ (wrong wanted (kind_of s o.expression.form) o.expression.span ++ list_faults s (gives o.operator) (spanning done o.expression.span) rest))
+
+wanted_first : (o : Option Kind) (k : Kind) (at : Span) → wrong_first o k at ≡ wrong (unwrap_or o k) k at
+wanted_first None Integer at = refl
+wanted_first None Logical at = refl
+wanted_first (Some w) k at = refl
+
+wanted_second : (o : Option Kind) (k found : Kind) (at : Span) → wrong_second o k found at ≡ wrong (unwrap_or o k) found at
+wanted_second None k found at = refl
+wanted_second (Some w) k found at = refl
 
 abbrev pub list_kind : Kind → List Operand → Kind
 list_kind k [] = k
@@ -39,7 +51,7 @@ pub level_listed : {m : _} (s : Locals) (k : Kind) (done : Span) (row : Row_of-O
     level_faults s k done row ≡ list_faults s k done (items-the_row-Operand m row)
 level_listed s k done end_of-Operand = refl
 level_listed s k done (more_of-Operand o at e rest) =
-    ap (λ r. wrong_first (takes o) k done ++ (faults_in s e ++ (wrong_second (takes o) k (kind_of s e) at ++ r))) (level_listed s (gives o) (spanning done at) rest)
+    (λ j. wanted_first (takes o) k done j ++ (faults_in s e ++ (wanted_second (takes o) k (kind_of s e) at j ++ level_listed s (gives o) (spanning done at) rest j)))
 
 pub level_kinds : {m : _} (k : Kind) (row : Row_of-Operand m) → level_kind k row ≡ list_kind k (items-the_row-Operand m row)
 level_kinds k end_of-Operand = refl

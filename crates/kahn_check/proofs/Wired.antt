@@ -1,5 +1,5 @@
 -- A program is well wired exactly where it has no faults.
-use Rattle.kahn_check.proofs.Common.{nat_tests, ◌↔◌, option_or, keys, bytes_true, bytes_turned, AtMostOne, Table, ends_append, as_channels, bytes_self, ◌≡◌, ℕ, suc, ◌+◌, ◌≤◌, ◌<◌, Bool, true, false, cond, ◌&&◌, List, [], ◌∷◌, ◌++◌, map, length, Option, None, Some, refl, ap, sym, ◌∙◌, subst, bytes_eq, append_assoc, arith, length-append, nat_lt, nat_eq, true≢false, append-nil, length-map, AllByRecursion, lookup, Span, Name, Kind, Role, Direction, Taking, Parameter, Process, Declaration, Argument, Instance, Program, Side, Inner, Input, Output, In, Out, bytes_of, CheckFault, wrong, most_channels, most_instances, too_many, repeated, twice, process_faults, body_faults, channel_faults, declaration_faults, overtaken, misplaced, argument_faults, arguments_faults, miscounted, made_faults, instance_faults, missing, side_faults, sides_faults, faults, locals_of, scope_of, entries, Global, IsChannel, IsProcess, declared_of, declared_channels, processes_of, global, Handover, handed, handed_in, handed_by, handed_from, parameters_of, same_direction, ends, writers, readers, IsOne, IsWired, Fits, AllFit, IsMade, IsSound, IsWellWired, side_at, is_closed, IsServed, served, ◌⊎◌, inl, inr, map-append, TooMany, WrongCount}
+use Rattle.kahn_check.proofs.Common.{nat_tests, ◌↔◌, option_or, keys, bytes_true, bytes_turned, AtMostOne, Table, ends_append, as_channels, bytes_self, ◌≡◌, ℕ, suc, ◌+◌, ◌≤◌, ◌<◌, Bool, true, false, cond, ◌&&◌, List, [], ◌∷◌, ◌++◌, map, length, Option, None, Some, refl, ap, sym, ◌∙◌, subst, bytes_eq, append_assoc, arith, length-append, true≢false, append-nil, length-map, AllByRecursion, lookup, Span, Name, Kind, Role, Direction, Taking, Parameter, Process, Declaration, Argument, Instance, Program, Side, Inner, Input, Output, In, Out, bytes_of, CheckFault, wrong, most_channels, most_instances, too_many, repeated, twice, process_faults, body_faults, channel_faults, declaration_faults, overtaken, misplaced, argument_faults, arguments_faults, miscounted, made_faults, instance_faults, missing, side_faults, sides_faults, faults, locals_of, scope_of, entries, Global, IsChannel, IsProcess, declared_of, declared_channels, processes_of, global, Handover, handed, handed_in, handed_by, handed_from, parameters_of, same_direction, ends, writers, readers, IsOne, IsWired, Fits, AllFit, IsMade, IsSound, IsWellWired, side_at, is_closed, IsServed, served, ◌⊎◌, inl, inr, map-append}
 use Rattle.std.specs.List.{IsDistinct}
 use Rattle.kahn_streams.specs.declared.tree.Kind.TheVariants as K
 use Rattle.kahn_streams.specs.declared.tree.Taking.TheVariants as T

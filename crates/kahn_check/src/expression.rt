@@ -1,7 +1,7 @@
 //! The kinds of expressions.
 
-ghost use Rattle.std.specs.Prelude.{◌≡◌, Option, Some, None};
-ghost use Rattle.kahn_streams.specs.Faults.{verdict, wrong, wrong_first, wrong_second, misread, misused, kind_in, find, faults_in, kind_of, faults_as};
+ghost use Rattle.std.specs.Prelude.{◌≡◌, unwrap_or};
+ghost use Rattle.kahn_streams.specs.Faults.{verdict, wrong, misread, misused, kind_in, find, faults_in, kind_of, faults_as};
 ghost use Rattle.kahn_streams.specs.{Wiring.takes, Wiring.gives, View.bytes_of};
 
 use crate::names::Scope;
@@ -11,45 +11,27 @@ use kahn_streams::Operator::{
 };
 use kahn_streams::{CheckFault, Direction, Expression, Form, Kind, Name, Operator, Span, Taking};
 
-/// Returns the kind that an operator takes. The operands of `=` and `<>` are of any one kind.
-pub fn operand_kind(operator: Operator) -> Option<Kind>
-    ensures { result ≡ takes operator }
+/// Returns the kind that an operator takes of its operands, the first of which has kind `first`, and the kind that it gives.
+fn kinds(operator: Operator, first: Kind) -> (Kind, Kind)
+    ensures taken { result.0 ≡ unwrap_or (takes operator) first }
+    ensures given { result.1 ≡ gives operator }
 {
     match operator {
-        Or | And => Some(Kind::Logical),
-        Equal | Unequal => None,
-        Less | AtMost | Greater | AtLeast | Add | Subtract | Multiply | Divide | Remainder => {
-            Some(Kind::Integer)
-        }
-    }
-}
-
-/// Returns the kind that an operator gives.
-pub fn result_kind(operator: Operator) -> Kind
-    ensures { result ≡ gives operator }
-{
-    match operator {
-        Or | And | Equal | Unequal | Less | AtMost | Greater | AtLeast => Kind::Logical,
-        Add | Subtract | Multiply | Divide | Remainder => Kind::Integer,
-    }
-}
-
-/// Checks that the kind found is the one wanted.
-pub fn agree(wanted: Kind, found: Kind, span: Span) -> Result<(), CheckFault>
-    ensures { result ≡ verdict (wrong wanted found span) tt }
-{
-    match (wanted, found) {
-        (Kind::Integer, Kind::Integer) | (Kind::Logical, Kind::Logical) => Ok(()),
-        (_, _) => Err(CheckFault::WrongKind(span)),
+        Or | And => (Kind::Logical, Kind::Logical),
+        Equal | Unequal => (first, Kind::Logical),
+        Less | AtMost | Greater | AtLeast => (Kind::Integer, Kind::Logical),
+        Add | Subtract | Multiply | Divide | Remainder => (Kind::Integer, Kind::Integer),
     }
 }
 
 /// Returns the kind wanted, if it is the one found.
-pub fn agreed(wanted: Kind, found: Kind, span: Span) -> Result<Kind, CheckFault>
+pub fn agree(wanted: Kind, found: Kind, span: Span) -> Result<Kind, CheckFault>
     ensures { result ≡ verdict (wrong wanted found span) wanted }
 {
-    agree(wanted, found, span)?;
-    Ok(wanted)
+    match (wanted, found) {
+        (Kind::Integer, Kind::Integer) | (Kind::Logical, Kind::Logical) => Ok(wanted),
+        (_, _) => Err(CheckFault::WrongKind(span)),
+    }
 }
 
 /// Returns the kind of the variable or value parameter of that name.
@@ -77,28 +59,6 @@ pub fn channel(scope: &Scope, name: &Name, wanted: Direction) -> Result<Kind, Ch
     }
 }
 
-/// Checks that an operator takes the kind of its first operand.
-pub fn agree_first(operator: Operator, found: Kind, span: Span) -> Result<(), CheckFault>
-    ensures { result ≡ verdict (wrong_first (takes operator) found span) tt }
-{
-    match operand_kind(operator) {
-        None => Ok(()),
-        Some(wanted) => agree(wanted, found, span),
-    }
-}
-
-/// Checks that the kind of an operator's second operand fits the first.
-pub fn agree_second(
-    operator: Operator,
-    first: Kind,
-    found: Kind,
-    span: Span,
-) -> Result<(), CheckFault>
-    ensures { result ≡ verdict (wrong_second (takes operator) first found span) tt }
-{
-    agree(operand_kind(operator).unwrap_or(first), found, span)
-}
-
 /// Returns the kind of an expression. What is wrong inside it comes first, from left to right.
 #[tactic(auto, using(crate::proofs::Walk::verdict_ok, crate::proofs::Walk::verdict_err, crate::proofs::Walk::verdict_none, crate::proofs::Walk::verdict_same))]
 pub fn kind(scope: &Scope, expression: &Expression) -> Result<Kind, CheckFault>
@@ -109,17 +69,21 @@ pub fn kind(scope: &Scope, expression: &Expression) -> Result<Kind, CheckFault>
         Form::Logical(_) => Ok(Kind::Logical),
         Form::Variable(name) => variable(scope, name),
         Form::Wait(name) => channel(scope, name, Direction::In),
-        Form::Negate(inner) => agreed(Kind::Integer, kind(scope, inner)?, inner.span),
-        Form::Not(inner) => agreed(Kind::Logical, kind(scope, inner)?, inner.span),
+        Form::Negate(inner) => agree(Kind::Integer, kind(scope, inner)?, inner.span),
+        Form::Not(inner) => agree(Kind::Logical, kind(scope, inner)?, inner.span),
         Form::Bracket(inner) => kind(scope, inner),
         Form::Level(first, rest) => {
             let mut before = kind(scope, first)?;
             let mut done = first.span;
             for operand in rest {
-                agree_first(operand.operator, before, done)?;
-                let found = kind(scope, &operand.expression)?;
-                agree_second(operand.operator, before, found, operand.expression.span)?;
-                before = result_kind(operand.operator);
+                let (wanted, given) = kinds(operand.operator, before);
+                agree(wanted, before, done)?;
+                agree(
+                    wanted,
+                    kind(scope, &operand.expression)?,
+                    operand.expression.span,
+                )?;
+                before = given;
                 done = Span {
                     from: done.from,
                     to: operand.expression.span.to,
@@ -130,7 +94,7 @@ pub fn kind(scope: &Scope, expression: &Expression) -> Result<Kind, CheckFault>
         Form::Conditional(test, yes, no) => {
             agree(Kind::Logical, kind(scope, test)?, test.span)?;
             let first = kind(scope, yes)?;
-            agreed(first, kind(scope, no)?, no.span)
+            agree(first, kind(scope, no)?, no.span)
         }
     }
 }
@@ -140,5 +104,6 @@ pub fn kind(scope: &Scope, expression: &Expression) -> Result<Kind, CheckFault>
 pub fn expect(scope: &Scope, expression: &Expression, wanted: Kind) -> Result<(), CheckFault>
     ensures { result ≡ verdict (faults_as wanted scope.now expression.now) tt }
 {
-    agree(wanted, kind(scope, expression)?, expression.span)
+    agree(wanted, kind(scope, expression)?, expression.span)?;
+    Ok(())
 }

@@ -2,21 +2,15 @@
 //! reads each channel.
 #![tactic(auto)]
 
-mod argument;
 mod expression;
-mod globals;
 mod laws;
 mod names;
-mod network;
 mod part;
-mod process;
 mod statement;
-mod wires;
 
 pub use kahn_streams::{Channel, CheckFault, Network, NetworkInstance, Side};
 pub use laws::{exact, part_by_part};
-pub use network::check;
-pub use part::every;
+pub use part::{check, every};
 
 // For the crates above.
 pub use names::NameTable;

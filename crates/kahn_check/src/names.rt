@@ -1,11 +1,11 @@
 //! Names, and what each of them stands for.
 
-ghost use Rattle.std.specs.Prelude.{◌≡◌, ◌++◌, ◌∷◌, [], List, ℕ, OnOk, MatchResult, None};
+ghost use Rattle.std.specs.Prelude.{◌≡◌, ◌++◌, ◌∷◌, [], List, ℕ, OnOk};
 ghost use Rattle.std.specs.Map.{lookup};
 ghost use Rattle.std.proofs.Common.{bytes_eq};
 ghost use Rattle.kahn_streams.specs.{View.bytes_of, Faults.Declares};
 
-use kahn_streams::{About, CheckFault, Name, NoMemory, Side, Taking};
+use kahn_streams::{About, CheckFault, Kind, Name, NoMemory, Process, Role, Side, Taking};
 use std::alloc::Global;
 use std::collections::BTreeMap;
 use std::marker::{Model, PhantomData};
@@ -23,6 +23,16 @@ pub type Scope = NameTable<Taking>;
 
 /// By the channel's name, where this side of it is.
 pub type ChannelSides = NameTable<Side>;
+
+/// What a name of a program stands for: a channel, or a process with the number of its declaration.
+#[derive(Clone, Copy)]
+pub enum Entry<'p> {
+    Channel(Kind, Role),
+    Process(usize, &'p Process),
+}
+
+/// What each name that a program declares stands for: its channels and its processes, in one name space.
+pub type Globals<'p> = NameTable<Entry<'p>>;
 
 /// The names in their order. Only contracts use it: no value of it is made.
 pub struct NameList<V> {
@@ -75,18 +85,6 @@ impl<V: Copy> NameTable<V> {
         self.by_text.get(name.text.as_str()).copied()
     }
 
-    /// Adds a name that stands for nothing yet.
-    pub fn add(&mut self, name: &Name, what: V) -> Result<(), CheckFault>
-        requires { lookup (bytes_eq (bytes_of name.now)) self.old ≡ None }
-        ensures { MatchResult result (λ u. self.new ≡ self.old ++ (bytes_of name.now, what) ∷ []) (λ f. f ≡ CheckFault.NoMemory) }
-    {
-        let text = name.text.clone()?;
-        let listed = in_order(self, name, &what);
-        self.by_text.insert(text, what)?;
-        self.listed = listed;
-        Ok(())
-    }
-
     /// Adds a name. What it stands for already it goes on standing for.
     pub fn keep(&mut self, name: &Name, what: V) -> Result<(), NoMemory>
         ensures { OnOk result (self.new ≡ self.old ++ (bytes_of name.now, what) ∷ []) }
@@ -96,7 +94,11 @@ impl<V: Copy> NameTable<V> {
             self.listed = listed;
             return Ok(());
         }
-        self.add(name, what).map_err(|_| NoMemory)
+        let text = name.text.clone()?;
+        let longer = in_order(self, name, &what);
+        self.by_text.insert(text, what)?;
+        self.listed = longer;
+        Ok(())
     }
 
     /// Declares a name, which must stand for nothing yet.
@@ -106,6 +108,6 @@ impl<V: Copy> NameTable<V> {
         if self.find(name).is_some() {
             return Err(CheckFault::DeclaredTwice(name.span));
         }
-        self.add(name, what)
+        self.keep(name, what).map_err(|_| CheckFault::NoMemory)
     }
 }

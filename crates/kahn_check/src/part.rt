@@ -1,31 +1,30 @@
-//! The first fault of each part of a program: of each declared name, each body, each instance; and of each channel's sides.
+//! The walk over a program: the first fault of each part, which is a declared name, a body, an instance, or the sides of a channel.
 
-ghost use Rattle.std.specs.Prelude.{◌≡◌, ◌++◌, ◌∷◌, [], IfOk, OnOk, List, Some, length, slice_get};
+ghost use Rattle.std.specs.Prelude.{◌≡◌, ◌++◌, ◌∷◌, [], IfOk, IfSome, MatchResult, OnOk, List, Some, length, slice_get};
 ghost use Rattle.std.specs.Map.{lookup};
 ghost use Rattle.std.proofs.Common.{bytes_eq};
-ghost use Rattle.kahn_streams.specs.{View.bytes_of, Wiring.declared_of, Wiring.entries, Wiring.handed, Wiring.handed_in, declared.tree.Declaration.Declaration, Faults.miscounted, Faults.most_channels, Faults.most_instances, Faults.process_faults, Faults.repeated, Faults.too_many};
-ghost use Rattle.kahn_check.specs.{Parts.faults_by_part, Parts.name_parts, Parts.unless_empty, inner.Globals.ArePlaced, inner.Globals.known, inner.Tables.HaveGot, inner.Tables.handed_all, inner.Tables.handed_to, inner.Tables.meant, inner.Tables.place_faults, inner.Tables.places_faults, inner.Tables.seat_faults, inner.Tables.seats_parts};
-ghost use Rattle.kahn_check.specs.inner.Firsts.{HasAdded, HasAddedFirst, HasTold, HaveNamesTold, HaveNumbers, IsWalkOf, fault_alone, first_fault, first_then, made_all, made_of, name_faults};
+ghost use Rattle.kahn_streams.specs.{View.bytes_of, Wiring.IsWellWired, Wiring.handed, Wiring.handed_in, Wiring.is_closed, declared.tree.Declaration.Declaration, Faults.IsMet, Faults.faults, Faults.overtaken, Faults.process_faults, Faults.repeated};
+ghost use Rattle.kahn_check.specs.{Parts.faults_by_part, Parts.unless_empty, inner.Globals.ArePlaced, inner.Globals.IsPlaced, inner.Globals.known, inner.Globals.option_global, inner.Tables.HaveGot, inner.Tables.handed_to, inner.Tables.held, inner.Tables.meant, inner.Tables.misplaced_in, inner.Tables.place_faults, inner.Tables.places_faults, inner.Tables.seat_faults, inner.Tables.side_in, inner.Wires.HasWired};
+ghost use Rattle.kahn_check.specs.inner.Firsts.{HasAddedFirst, HasTold, HaveNumbers, IsWalkOf, fault_alone, first_fault, first_then, made_of};
 
-use crate::argument::{fits, keep};
-use crate::globals::{Entry, Globals};
-use crate::names::ChannelSides;
-use crate::process::check_process;
-use crate::wires::all_wires;
+use crate::expression::agree;
+use crate::names::{ChannelSides, Entry, Globals};
+use crate::statement::check_process;
+use kahn_streams::Direction::{In, Out};
 use kahn_streams::{
-    Argument, CheckFault, Declaration, Instance, Kind, Name, NoMemory, Parameter, Process, Program,
-    Role, Side, Taking, Wire,
+    Argument, CheckFault, Declaration, Direction, Instance, Kind, Name, Network, NoMemory,
+    Parameter, Process, Program, Role, Side, Span, Taking, Wire, kept,
 };
 use std::alloc::Global;
 
 /// The most channels of a program.
-pub const MOST_CHANNELS: usize = 1024;
+const MOST_CHANNELS: usize = 1024;
 
 /// The most instances of a program.
-pub const MOST_INSTANCES: usize = 256;
+const MOST_INSTANCES: usize = 256;
 
 /// Adds a fault, if there is one.
-pub fn add(faults: &mut Vec<CheckFault>, found: Option<CheckFault>) -> Result<(), NoMemory>
+fn add(faults: &mut Vec<CheckFault>, found: Option<CheckFault>) -> Result<(), NoMemory>
     ensures { IfOk result (λ u. faults.new.items ≡ faults.old.items ++ fault_alone found) }
 {
     if let Some(fault) = found {
@@ -34,7 +33,17 @@ pub fn add(faults: &mut Vec<CheckFault>, found: Option<CheckFault>) -> Result<()
     Ok(())
 }
 
+/// Returns what a name of a program stands for, if anything.
+#[tactic(auto, using(crate::proofs::Global_names::find_global))]
+fn meaning<'p>(globals: &Globals<'p>, name: &Name) -> Option<Entry<'p>>
+    ensures known { lookup (bytes_eq (bytes_of name.now)) (known globals.now) ≡ option_global result }
+    ensures placed { (ds : List Declaration) → ArePlaced ds globals.now → IfSome result (IsPlaced ds) }
+{
+    globals.find(name)
+}
+
 /// Returns the fault of a name that is declared already.
+#[tactic(auto, using(crate::proofs::Global_names::find_global))]
 fn twice(globals: &Globals, name: &Name) -> Option<CheckFault>
     ensures { result ≡ first_fault (repeated (lookup (bytes_eq (bytes_of name.now)) (known globals.now)) name.now.span) }
 {
@@ -44,39 +53,6 @@ fn twice(globals: &Globals, name: &Name) -> Option<CheckFault>
     }
 }
 
-/// Returns the fault of a channel's name, where `room` channels more may be declared.
-fn name_fault(globals: &Globals, room: usize, name: &Name) -> Option<CheckFault>
-    ensures { result ≡ first_fault (name_faults (known globals.now) room name.now) }
-{
-    if room == 0 {
-        return Some(CheckFault::TooMany(name.span));
-    }
-    twice(globals, name)
-}
-
-/// Adds the faults of the names of a channel declaration, where `room` channels more may be declared. Returns how many may be then.
-#[tactic(auto, using(crate::proofs::Told::names_begin))]
-fn add_names<'p>(
-    globals: &mut Globals<'p>,
-    faults: &mut Vec<CheckFault>,
-    room: usize,
-    kind: Kind,
-    role: Role,
-    names: &[Name],
-) -> Result<usize, NoMemory>
-    ensures told { IfOk result (λ left. HaveNamesTold kind role names.now (known globals.old) room faults.old.items (known globals.new) left faults.new.items) }
-    ensures placed { OnOk result ((ds : List Declaration) → ArePlaced ds globals.old → ArePlaced ds globals.new) }
-{
-    let mut left = room;
-    for name in names {
-        add(faults, name_fault(globals, left, name))?;
-        globals.keep(name, Entry::Channel(kind, role))?;
-        left = left.saturating_sub(1);
-    }
-    Ok(left)
-}
-
-/// Adds the first fault of a body.
 #[tactic(auto, using(crate::proofs::Told::body_right, crate::proofs::Told::body_wrong))]
 fn add_body(alloc: Global, faults: &mut Vec<CheckFault>, process: &Process) -> Result<(), NoMemory>
     ensures { IfOk result (λ u. HasAddedFirst (process_faults process.now) faults.old.items faults.new.items) }
@@ -89,7 +65,7 @@ fn add_body(alloc: Global, faults: &mut Vec<CheckFault>, process: &Process) -> R
 }
 
 /// Adds the faults of declaration `number`, where `room` channels more may be declared. Returns how many may be then.
-#[tactic(auto, using(crate::proofs::Told::channels_told, crate::proofs::Told::process_told))]
+#[tactic(auto, using(crate::proofs::Told::names_begin, crate::proofs::Told::channels_told, crate::proofs::Told::process_told))]
 fn add_declaration<'p>(
     alloc: Global,
     globals: &mut Globals<'p>,
@@ -103,7 +79,14 @@ fn add_declaration<'p>(
 {
     match declaration {
         Declaration::Channels(kind, role, names) => {
-            add_names(globals, faults, room, *kind, *role, names)
+            let mut left = room;
+            for name in names {
+                let full = (left == 0).then_some(CheckFault::TooMany(name.span));
+                add(faults, full.or(twice(globals, name)))?;
+                globals.keep(name, Entry::Channel(*kind, *role))?;
+                left = left.saturating_sub(1);
+            }
+            Ok(left)
         }
         Declaration::Process(process) => {
             add(faults, twice(globals, &process.name))?;
@@ -114,26 +97,49 @@ fn add_declaration<'p>(
     }
 }
 
-/// Adds the faults of the declarations. Returns what the names of the program stand for.
-fn add_declarations<'p>(
-    alloc: Global,
-    program: &'p Program,
-    faults: &mut Vec<CheckFault>,
-) -> Result<Globals<'p>, NoMemory>
-    ensures told { OnOk result (HasAdded (name_parts [] most_channels (declared_of program.now.declarations.items)) faults.old.items faults.new.items) }
-    ensures known { IfOk result (λ g. known g ≡ entries (declared_of program.now.declarations.items)) }
-    ensures placed { IfOk result (λ g. ArePlaced program.now.declarations.items g) }
+/// Returns the fault of a channel that is handed over in a closed direction, or once more in that direction.
+fn overtaken(
+    direction: Direction,
+    role: Role,
+    taken: Option<Side>,
+    span: Span,
+) -> Option<CheckFault>
+    ensures { result ≡ first_fault (overtaken direction (is_closed direction role) (held taken) span) }
 {
-    let mut globals = Globals::new(alloc);
-    let mut room = MOST_CHANNELS;
-    for (number, declaration) in program.declarations.iter().enumerate() {
-        room = add_declaration(alloc, &mut globals, faults, room, number, declaration)?;
+    match (direction, role, taken) {
+        (Out, Role::Inner | Role::Output, None) | (In, Role::Inner | Role::Input, None) => None,
+        (Out, _, _) => Some(CheckFault::TwoWriters(span)),
+        (In, _, _) => Some(CheckFault::TwoReaders(span)),
     }
-    Ok(globals)
 }
 
-/// Returns the first fault so far, or else that of an argument. A channel that is handed over is kept, right or wrong.
-#[tactic(auto, using(crate::proofs::Told::err_first))]
+/// Hands a channel over, right or wrong, and returns its fault. Of those at one side of a channel the first is found.
+#[tactic(auto, using(crate::proofs::Global_names::find_global, crate::proofs::Told::err_first, crate::proofs::Told::or_firsts))]
+fn hand(
+    globals: &Globals,
+    side: &mut ChannelSides,
+    direction: Direction,
+    kind: Kind,
+    name: &Name,
+    end: Side,
+) -> Result<Option<CheckFault>, NoMemory>
+    ensures found { IfOk result (λ f. f ≡ first_fault (misplaced_in (known globals.now) side.old direction kind name.now)) }
+    ensures kept { OnOk result (side.new ≡ side.old ++ (bytes_of name.now, end) ∷ []) }
+{
+    let taken = side.find(name);
+    side.keep(name, end)?;
+    match globals.find(name) {
+        None => Ok(Some(CheckFault::Unknown(name.span))),
+        Some(Entry::Process(_, _)) => Ok(Some(CheckFault::ChannelExpected(name.span))),
+        Some(Entry::Channel(found, role)) => {
+            let wrong = agree(kind, found, name.span).err();
+            Ok(wrong.or(overtaken(direction, role, taken, name.span)))
+        }
+    }
+}
+
+/// Hands an argument over, right or wrong, and returns its fault, if it isn't what its parameter wants.
+#[tactic(auto, using(crate::proofs::Told::err_first, crate::proofs::Told::got_none))]
 fn argument(
     globals: &Globals,
     writers: &mut ChannelSides,
@@ -141,20 +147,37 @@ fn argument(
     taking: Taking,
     argument: &Argument,
     end: Side,
-    first: Option<CheckFault>,
 ) -> Result<Option<CheckFault>, NoMemory>
-    ensures found { IfOk result (λ f. f ≡ first_then first (place_faults (known globals.now) writers.old readers.old taking argument.now)) }
+    ensures found { IfOk result (λ f. f ≡ first_fault (place_faults (known globals.now) writers.old readers.old taking argument.now)) }
     ensures tables { OnOk result (HaveGot (handed end taking argument.now) writers.old readers.old writers.new readers.new) }
 {
-    let found = match first {
-        None => fits(globals, writers, readers, taking, argument).err(),
-        Some(fault) => Some(fault),
-    };
-    keep(writers, readers, taking, argument, end)?;
-    Ok(found)
+    match (taking, argument) {
+        (Taking::Channel(Out, kind), Argument::Channel(name)) => {
+            hand(globals, writers, Out, kind, name, end)
+        }
+        (Taking::Channel(In, kind), Argument::Channel(name)) => {
+            hand(globals, readers, In, kind, name, end)
+        }
+        (Taking::Channel(_, _), Argument::Number(_, span) | Argument::Logical(_, span)) => {
+            Ok(Some(CheckFault::ChannelExpected(*span)))
+        }
+        (Taking::Value(_), Argument::Channel(name)) => Ok(Some(CheckFault::ValueExpected(
+            name.span,
+        ))),
+        (Taking::Value(kind), Argument::Number(_, span)) => Ok(agree(
+            kind,
+            Kind::Integer,
+            *span,
+        ).err()),
+        (Taking::Value(kind), Argument::Logical(_, span)) => Ok(agree(
+            kind,
+            Kind::Logical,
+            *span,
+        ).err()),
+    }
 }
 
-/// Returns the first fault so far, or else that of the arguments.
+/// Hands the arguments of an instance over, and returns the first fault so far, or else theirs.
 #[tactic(auto, using(crate::proofs::Told::arguments_begin, crate::proofs::Told::parameters_end))]
 fn arguments(
     globals: &Globals,
@@ -177,31 +200,9 @@ fn arguments(
             instance,
             parameter: number,
         };
-        found = argument(globals, writers, readers, parameter.taking, it, end, found)?;
+        found = found.or(argument(globals, writers, readers, parameter.taking, it, end)?);
     }
     Ok(found)
-}
-
-/// Returns the fault of an instance that is one too many.
-fn limit(number: usize, instance: &Instance) -> Option<CheckFault>
-    ensures { result ≡ first_fault (too_many most_instances number instance.now.process.span) }
-{
-    if number < MOST_INSTANCES {
-        None
-    } else {
-        Some(CheckFault::TooMany(instance.process.span))
-    }
-}
-
-/// Returns the fault of an instance with more or fewer arguments than its process has parameters.
-fn miscounted(process: &Process, instance: &Instance) -> Option<CheckFault>
-    ensures { result ≡ first_fault (miscounted (length process.now.parameters.items) (length instance.now.arguments.items) instance.now.process.span) }
-{
-    if process.parameters.len() == instance.arguments.len() {
-        None
-    } else {
-        Some(CheckFault::WrongCount(instance.process.span))
-    }
 }
 
 /// Adds the first fault of instance `number`, and where its process is declared. What it hands over is kept, right or wrong.
@@ -219,55 +220,71 @@ fn add_instance(
     ensures tables { OnOk result (HaveGot (handed_to (known globals.now) number instance.now) writers.old readers.old writers.new readers.new) }
     ensures numbers { OnOk result (HaveNumbers globals.now (made_of (meant (known globals.now) instance.now)) processes.old.items processes.new.items) }
 {
-    let limit = limit(number, instance);
-    let unknown = limit.or(Some(CheckFault::Unknown(instance.process.span)));
-    let Some(Entry::Process(declared, process)) = globals.find(&instance.process) else {
-        return add(faults, unknown);
+    let span = instance.process.span;
+    let limit = (number >= MOST_INSTANCES).then_some(CheckFault::TooMany(span));
+    let Some(Entry::Process(declared, process)) = meaning(globals, &instance.process) else {
+        return add(faults, limit.or(Some(CheckFault::Unknown(span))));
     };
     processes.push(declared)?;
-    let first = limit.or(miscounted(process, instance));
-    let found = arguments(
-        globals,
-        writers,
-        readers,
-        number,
-        &process.parameters,
-        &instance.arguments,
-        first,
-    )?;
+    let (wanted, given) = (&process.parameters, &instance.arguments);
+    let count = (wanted.len() != given.len()).then_some(CheckFault::WrongCount(span));
+    let first = limit.or(count);
+    let found = arguments(globals, writers, readers, number, wanted, given, first)?;
     add(faults, found)
 }
 
-/// Adds the first fault of each instance, and where their processes are declared. What they hand over is kept.
-fn add_instances(
-    globals: &Globals,
-    writers: &mut ChannelSides,
-    readers: &mut ChannelSides,
-    processes: &mut Vec<usize>,
-    faults: &mut Vec<CheckFault>,
-    instances: &[Instance],
-) -> Result<(), NoMemory>
-    ensures told { OnOk result (HasAdded (seats_parts (known globals.now) writers.old readers.old 0 instances.now) faults.old.items faults.new.items) }
-    ensures tables { OnOk result (HaveGot (handed_all (known globals.now) 0 instances.now) writers.old readers.old writers.new readers.new) }
-    ensures numbers { OnOk result (HaveNumbers globals.now (made_all (known globals.now) instances.now) processes.old.items processes.new.items) }
+/// Returns the fault of a channel of which a side that must be taken isn't taken.
+fn side(
+    writers: &ChannelSides,
+    readers: &ChannelSides,
+    name: &Name,
+    role: Role,
+) -> Option<CheckFault>
+    ensures { result ≡ first_fault (side_in writers.now readers.now name.now role) }
 {
-    for (number, instance) in instances.iter().enumerate() {
-        add_instance(
-            globals, writers, readers, processes, faults, number, instance,
-        )?;
+    match (role, writers.find(name), readers.find(name)) {
+        (Role::Inner | Role::Output, None, _) => Some(CheckFault::NoWriter(name.span)),
+        (Role::Inner | Role::Input, _, None) => Some(CheckFault::NoReader(name.span)),
+        (_, _, _) => None,
+    }
+}
+
+/// Adds the wires of the channels of a declaration, and the first fault of the sides of each.
+#[tactic(auto, using(crate::proofs::Told::wired_step, crate::proofs::Told::wired_begin, crate::proofs::Told::channels_wired, crate::proofs::Told::process_wired))]
+fn add_wires(
+    wires: &mut Vec<Wire>,
+    faults: &mut Vec<CheckFault>,
+    writers: &ChannelSides,
+    readers: &ChannelSides,
+    declaration: &Declaration,
+) -> Result<(), NoMemory>
+    ensures { OnOk result (HasWired writers.now readers.now declaration.now wires.new.items faults.new.items wires.old.items faults.old.items) }
+{
+    let Declaration::Channels(kind, role, names) = declaration else {
+        return Ok(());
+    };
+    for name in names {
+        add(faults, side(writers, readers, name, *role))?;
+        wires.push(Wire {
+            name: name.text.clone()?,
+            kind: *kind,
+            role: *role,
+            writer: writers.find(name),
+            reader: readers.find(name),
+        })?;
     }
     Ok(())
 }
 
 /// What is wrong with a program, and its tables.
 #[derive(Drop)]
-pub struct CheckWalk {
+struct CheckWalk {
     /// The first fault of each part.
-    pub faults: Vec<CheckFault>,
+    faults: Vec<CheckFault>,
     /// The declared channels, each with its first writer and its first reader.
-    pub wires: Vec<Wire>,
+    wires: Vec<Wire>,
     /// Where the processes of the instances are declared.
-    pub processes: Vec<usize>,
+    processes: Vec<usize>,
 }
 
 /// Returns the faults of the sides of channels, unless something else is wrong.
@@ -278,31 +295,34 @@ fn unless_empty(faults: Vec<CheckFault>, sides: Vec<CheckFault>) -> Vec<CheckFau
 }
 
 /// Returns the first fault of each part of a program, and its tables. The sides of channels are told of only if nothing else is wrong.
-pub fn walk(alloc: Global, program: &Program) -> Result<CheckWalk, NoMemory>
+fn walk(alloc: Global, program: &Program) -> Result<CheckWalk, NoMemory>
     ensures { IfOk result (IsWalkOf program.now) }
 {
+    let mut globals = Globals::new(alloc);
     let mut faults = Vec::new(alloc);
-    let globals = add_declarations(alloc, program, &mut faults)?;
+    let mut room = MOST_CHANNELS;
+    for (number, declaration) in program.declarations.iter().enumerate() {
+        room = add_declaration(alloc, &mut globals, &mut faults, room, number, declaration)?;
+    }
     let mut writers = ChannelSides::new(alloc);
     let mut readers = ChannelSides::new(alloc);
     let mut processes = Vec::new(alloc);
-    add_instances(
-        &globals,
-        &mut writers,
-        &mut readers,
-        &mut processes,
-        &mut faults,
-        &program.instances,
-    )?;
+    for (seat, instance) in program.instances.iter().enumerate() {
+        add_instance(
+            &globals,
+            &mut writers,
+            &mut readers,
+            &mut processes,
+            &mut faults,
+            seat,
+            instance,
+        )?;
+    }
     let mut wires = Vec::new(alloc);
     let mut sides = Vec::new(alloc);
-    all_wires(
-        &mut wires,
-        &mut sides,
-        &writers,
-        &readers,
-        &program.declarations,
-    )?;
+    for channels in &program.declarations {
+        add_wires(&mut wires, &mut sides, &writers, &readers, channels)?;
+    }
     Ok(CheckWalk {
         faults: unless_empty(faults, sides),
         wires,
@@ -317,4 +337,19 @@ pub fn every(alloc: Global, program: &Program) -> Result<Vec<CheckFault>, NoMemo
     ensures { IfOk result (λ faults. faults.items ≡ faults_by_part program.now) }
 {
     Ok(walk(alloc, program)?.faults)
+}
+
+/// Makes the network of a program, or returns the first thing that is wrong with it, in this order: the declarations in
+/// text order, then the instances, then each declared channel that lacks a writer or a reader. Fails with `NoMemory` if
+/// memory was refused.
+pub fn check(alloc: Global, program: Program) -> Result<Network, CheckFault>
+    ensures { MatchResult result (λ n. (n ≡ program) × IsWellWired program) (λ f. IsMet (faults program) f) }
+{
+    let Ok(walked) = walk(alloc, &program) else {
+        return Err(CheckFault::NoMemory);
+    };
+    match walked.faults.first().copied() {
+        Some(fault) => Err(fault),
+        None => Ok(kept(program, walked.wires, walked.processes)),
+    }
 }

@@ -1,15 +1,16 @@
-//! Whether the statements of a body agree with their names.
+//! Whether a process is sound: its names, and then its statements.
 
-ghost use Rattle.std.specs.Prelude.{◌≡◌};
-ghost use Rattle.kahn_streams.specs.Faults.{verdict, faults_of, body_faults};
+ghost use Rattle.std.specs.Prelude.{◌≡◌, [], MatchResult};
+ghost use Rattle.kahn_streams.specs.{Faults.Checks, Faults.IsMet, Faults.body_faults, Faults.faults_of, Faults.process_faults, Faults.twice, Faults.verdict, Wiring.locals_of, Wiring.scope_of};
 
 use crate::expression::{agree, channel, expect, kind, variable};
 use crate::names::Scope;
-use kahn_streams::{Action, CheckFault, Direction, Kind, Statement};
+use kahn_streams::{Action, CheckFault, Direction, Kind, Process, Statement, Taking};
+use std::alloc::Global;
 
 /// Finds the first thing that is wrong in a statement.
 #[tactic(auto, using(crate::proofs::Walk::verdict_ok, crate::proofs::Walk::verdict_err, crate::proofs::Walk::verdict_none, crate::proofs::Walk::verdict_same))]
-pub fn statement(scope: &Scope, it: &Statement) -> Result<(), CheckFault>
+fn statement(scope: &Scope, it: &Statement) -> Result<(), CheckFault>
     ensures { result ≡ verdict (faults_of scope.now it.now.action) tt }
 {
     match &it.action {
@@ -21,7 +22,8 @@ pub fn statement(scope: &Scope, it: &Statement) -> Result<(), CheckFault>
         Action::Send(expression, name) => {
             let found = kind(scope, expression)?;
             let wanted = channel(scope, name, Direction::Out)?;
-            agree(wanted, found, expression.span)
+            agree(wanted, found, expression.span)?;
+            Ok(())
         }
         Action::Print(expression) => {
             kind(scope, expression)?;
@@ -51,11 +53,35 @@ pub fn statement(scope: &Scope, it: &Statement) -> Result<(), CheckFault>
 
 /// Finds the first thing that is wrong in a list of statements.
 #[tactic(auto, using(crate::proofs::Walk::verdict_ok, crate::proofs::Walk::verdict_err, crate::proofs::Walk::verdict_none, crate::proofs::Walk::verdict_same))]
-pub fn body(scope: &Scope, statements: &[Statement]) -> Result<(), CheckFault>
+fn body(scope: &Scope, statements: &[Statement]) -> Result<(), CheckFault>
     ensures { result ≡ verdict (body_faults scope.now statements.now) tt }
 {
     for it in statements {
         statement(scope, it)?;
     }
     Ok(())
+}
+
+/// Returns the names of a process, its parameters first and then its variables.
+#[tactic(auto, using(crate::proofs::Twice::twice_new, crate::proofs::Twice::twice_known, crate::proofs::Twice::more_entries))]
+fn locals(alloc: Global, process: &Process) -> Result<Scope, CheckFault>
+    ensures { Checks (twice [] (locals_of process.now)) (λ s. s ≡ scope_of process.now) result }
+{
+    let mut scope = Scope::new(alloc);
+    for parameter in &process.parameters {
+        scope.declare(&parameter.name, parameter.taking)?;
+    }
+    for variable in &process.variables {
+        scope.declare(&variable.name, Taking::Value(variable.kind))?;
+    }
+    Ok(scope)
+}
+
+/// Finds the first thing that is wrong in a process.
+#[tactic(auto, using(crate::proofs::Walk::verdict_ok, crate::proofs::Walk::verdict_err))]
+pub fn check_process(alloc: Global, process: &Process) -> Result<(), CheckFault>
+    ensures { MatchResult result (λ u. process_faults process.now ≡ []) (λ f. IsMet (process_faults process.now) f) }
+{
+    let scope = locals(alloc, process)?;
+    body(&scope, &process.statements)
 }

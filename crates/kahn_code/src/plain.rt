@@ -48,7 +48,6 @@ impl<'i, A: Allocator + Copy + Drop> Plain<'i, A> {
         Ok(Plain::named(queues, network, input))
     }
 
-    // The plain queues of the network and the input that are named.
     #[tactic(auto, using(crate::proofs::Queued::queued))]
     fn named(queues: Vec<Queue<'i, A>, A>, _network: &Network, _input: &Input) -> Plain<'i, A>
         ghost names: { Names }

@@ -103,7 +103,6 @@ fn token_for<P: Ports>(_ports: &P, line: Line, place: u64, value: Word) -> Token
     Token::of_word(line, place, value)
 }
 
-// The token of a value that stands there.
 pub(crate) fn token_of<P: Ports>(ports: &P, line: Line, place: u64, value: Word) -> Token
     requires { Holds (P.site ports.now).network (P.site ports.now).input line place value }
     ensures here { (result.line ≡ line) × (result.place ≡ place) × (result.value ≡ value) }

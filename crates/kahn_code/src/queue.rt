@@ -225,7 +225,6 @@ fn lifted(
     named_token(network, input, line, place, value)
 }
 
-// The token of a value that stands there, for names that are at hand.
 fn named_token(
     _network: &About<Network>,
     _input: &About<Input>,

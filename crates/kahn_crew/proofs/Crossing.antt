@@ -33,9 +33,9 @@ use Rattle.kahn_board.specs.contracts.rule.Rule as Rule
 use Rattle.kahn_board.specs.contracts.rule.RuleTableRuleOptionSeatViewTerms.TheImpl as rule
 use Rattle.kahn_board.specs.contracts.rule.Terms as Terms
 use Rattle.kahn_board.specs.contracts.view.SeatView as SeatView
-use Rattle.kahn_crew.specs.contracts.boxes.Boxed as Boxed
-use Rattle.kahn_crew.proofs.boxes.Boxed.TheSendSync as boxed
-use Rattle.kahn_crew.specs.contracts.boxes.BoxedReports.TheImpl as told
+use Rattle.kahn_crew.specs.contracts.opening.Boxed as Boxed
+use Rattle.kahn_crew.proofs.opening.Boxed.TheSendSync as boxed
+use Rattle.kahn_crew.specs.contracts.opening.BoxedReports.TheImpl as told
 use Rattle.kahn_crew.specs.contracts.run.Run as Run
 use Rattle.kahn_crew.specs.contracts.worker.Worker as Worker
 use Rattle.kahn_crew.proofs.worker.Worker.TheSendSync as worker

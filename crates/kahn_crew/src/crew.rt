@@ -1,20 +1,18 @@
-//! A crew: all workers of a run, the first in the caller's thread and each other in one of its own.
+//! A crew: all workers of a run, the first in the caller's thread and each other in one of its own; how many come, and for how long.
 
-ghost use Rattle.std.specs.Prelude.{◌≡◌, ◌↔◌, ◌+◌, ◌<◌, ◌≤◌, ◌^◌};
-ghost use Rattle.kahn_crew.specs.inner.Words.{[], true, false, Err, length, map, All, IfErr, OnOk, vec_capacity, events_told, IsLoneSeat, parts_of, raised_of};
-ghost use Rattle.kahn_crew.specs.{inner.Turns.HasCause, inner.Turns.HasGone, inner.Turns.HasSeat, inner.Turns.WantsNone, inner.Turns.seat_of, inner.Turns.table_id_of, inner.Planned.IsCrew, inner.Left.AreUntouched, inner.Left.IsLack, inner.Left.IsLeftOf, inner.Left.IsOver, inner.Tasks.AreReadyTasks, inner.Tasks.told_tale, declared.opening.CrewFault.TheVariants.NoMemory as NoMemoryFault, declared.opening.CrewFault.TheVariants.NoThread as NoThreadFault};
+ghost use Rattle.std.specs.Prelude.{◌≡◌, ◌↔◌, ◌+◌, ◌<◌, ◌≤◌, ◌^◌, ◌⊎◌, max, min};
+ghost use Rattle.kahn_crew.specs.{inner.Words.[], inner.Words.true, inner.Words.false, inner.Words.Err, inner.Words.length, inner.Words.map, inner.Words.All, inner.Words.IfErr, inner.Words.OnOk, inner.Words.vec_capacity, inner.Words.events_told, inner.Words.IsLoneSeat, inner.Words.parts_of, inner.Words.raised_of, inner.Turns.HasCause, inner.Turns.HasGone, inner.Turns.HasSeat, inner.Turns.WantsNone, inner.Turns.seat_of, inner.Turns.table_id_of, inner.Planned.IsCrew, inner.Left.AreUntouched, inner.Left.IsLack, inner.Left.IsLeftOf, inner.Left.IsOver, inner.Tasks.AreReadyTasks, inner.Tasks.told_tale, inner.Planned.crew_of, inner.Planned.plan_of_crew};
+ghost use Rattle.kahn_crew.specs.declared.opening.CrewFault.TheVariants.{NoMemory as NoMemoryFault, NoThread as NoThreadFault};
 
-use crate::boxes::{Boxed, unbox_all};
-use crate::crewing::Crewing;
 use crate::hints::Hints;
-use crate::opening::{CrewFault, Left, open_board};
+use crate::opening::{Boxed, CrewFault, Left, open_board, unbox_all};
 use crate::parallel::{Parallel, run_all};
 use crate::run::Run;
 use crate::worker::{Worker, turns};
 use kahn_board::{Seat, join_all, split_all};
 use kahn_code::Code;
 use kahn_job::Task;
-use kahn_streams::{Gate, Input, Network};
+use kahn_streams::{Config, Gate, Input, Network, Plan};
 use std::alloc::Global;
 use std::marker::Brand;
 use std::sync::Wait;
@@ -216,4 +214,61 @@ pub fn run_tasks<R: Threads + Wait + Sync, G: Gate + Sync>(
         wanted,
     };
     (outcome, left)
+}
+
+/// The workers of a run and their quantum, as a configuration has them: nothing else makes one. At an open gate, where nobody can tell
+/// who works, fewer workers may come than are asked for, and turns may have another length.
+#[derive(Clone, Copy)]
+pub struct Crewing {
+    /// The number of the channel that is watched, if any.
+    pub watch: Option<usize>,
+    workers: usize,
+    quantum: u64,
+    // How many workers come, and the most events of a turn.
+    come: usize,
+    turn: u64,
+}
+
+impl Crewing {
+    /// As the configuration has it. Of the channel that it watches the number is given.
+    pub fn of(config: &Config, watch: Option<usize>) -> Crewing
+        ensures { result ≡ crew_of config.now watch }
+    {
+        Crewing {
+            watch,
+            workers: config.workers as usize,
+            quantum: config.quantum,
+            come: config.workers as usize,
+            turn: config.quantum,
+        }
+    }
+
+    /// At an open gate no more than `most` workers come, with turns of `turn` events. At another gate it stays.
+    pub fn at_open_gate<G: Gate>(self, gate: &G, most: usize, turn: u64) -> Crewing
+        requires { IsCrew self × (0 < turn) }
+        ensures few { (result ≡ self) ⊎ (result ≡ record self { come = min self.come (max most 1); turn = turn }) }
+        ensures crew { IsCrew result }
+        ensures same { (result.watch ≡ self.watch) × (result.workers ≡ self.workers) }
+    {
+        if !gate.is_open() {
+            return self;
+        }
+        Crewing {
+            come: self.come.min(most.max(1)),
+            turn,
+            ..self
+        }
+    }
+
+    /// What those go by that come, for a bound.
+    pub fn plan(&self, bound: u64) -> Plan
+        ensures { result ≡ plan_of_crew self.now bound }
+    {
+        Plan {
+            watch: self.watch,
+            workers: self.come,
+            quantum: self.turn,
+            bound,
+        }
+    }
 }

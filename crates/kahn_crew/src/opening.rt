@@ -1,17 +1,16 @@
-//! How a run begins and ends: its tasks, the board on which they are, and what its workers leave.
+//! How a run begins and ends: its tasks, the board on which they are, in boxes, and what its workers leave.
 
-ghost use Rattle.std.specs.Prelude.{◌≡◌, ◌+◌, ◌<◌, ◌≤◌, ◌^◌};
-ghost use Rattle.kahn_crew.specs.inner.Words.{ℕ, Option, [], All, length, map, IfOk, IfErr, vec_capacity, network_of, events_told, opening_view, AreIdle, HaveSettled, IsJob, rows_of, woken_task};
+ghost use Rattle.std.specs.Prelude.{◌≡◌, ◌+◌, ◌<◌, ◌≤◌, ◌^◌, ◌++◌, [], length, reverse, IfOk, IfErr, vec_capacity};
+ghost use Rattle.kahn_crew.specs.{inner.Words.ℕ, inner.Words.Option, inner.Words.All, inner.Words.map, inner.Words.network_of, inner.Words.events_told, inner.Words.opening_view, inner.Words.AreIdle, inner.Words.HaveSettled, inner.Words.IsJob, inner.Words.rows_of, inner.Words.woken_task, inner.Left.run_fault, inner.Tasks.AreReadyTasks, inner.Tasks.HasBegun, inner.Tasks.IsNumber, inner.Tasks.told_tale, inner.Tasks.work_of};
 ghost use Rattle.kahn_board.specs.Wires.{wires};
-ghost use Rattle.kahn_crew.specs.{inner.Left.run_fault, inner.Tasks.AreReadyTasks, inner.Tasks.HasBegun, inner.Tasks.IsNumber, inner.Tasks.told_tale, inner.Tasks.work_of};
 
-use crate::boxes::{Boxed, box_all, unbox_all};
-use crate::crewing::Crewing;
+use crate::crew::Crewing;
 use crate::hints::{Hints, first_hints};
-use kahn_board::{Board, Seat};
+use kahn_board::{Board, Reports, Seat};
 use kahn_job::{Idle, Task};
 use kahn_streams::{Input, Network, Role, RunFault};
 use std::alloc::Global;
+use std::marker::Model;
 use thiserror::Error;
 
 /// The tasks of all instances in order, once all workers have left; how many events of the bound are left; whether the run
@@ -130,4 +129,67 @@ pub(crate) fn open_board(
         Ok((board, seat)) => Ok((board, seat, hints, room)),
         Err((_fault, boxes)) => Err(unbox_all(boxes, room)),
     }
+}
+
+/// A task in a box of its own, so that it moves as one pointer. Contracts see the task.
+#[derive(Drop)]
+pub struct Boxed {
+    pub(crate) task: Box<Task>,
+}
+
+impl Model for Boxed {
+    ghost use Rattle.kahn_streams.specs.contracts.tree.Action as action;
+    ghost use Rattle.kahn_streams.specs.contracts.tree.Form as form;
+    ghost use Rattle.kahn_crew.specs.inner.Words.{codes, Tasked};
+
+    ghost Value = { Tasked };
+
+    ghost coded = { Prim.hlevel (codes, action.the_row.coded, form.the_row.coded) };
+
+    ghost view = { λ b. b.task.value };
+}
+
+impl Reports for Boxed {
+    ghost use Rattle.kahn_crew.specs.inner.Tasks.{IsLater, told_tale};
+
+    ghost told = { told_tale };
+
+    ghost after = { IsLater };
+}
+
+/// Each task in a box, and the room of their list. If memory is refused, it gives them back as they were.
+pub(crate) fn box_all(
+    alloc: Global,
+    mut tasks: Vec<Task>,
+) -> Result<(Vec<Boxed>, Vec<Task>), Vec<Task>>
+    ensures boxed { IfOk result (λ r. r.0.items ≡ tasks.items) }
+    ensures room { IfOk result (λ r. (r.1.items ≡ []) × (length tasks.items ≤ vec_capacity r.1)) }
+    ensures refused { IfErr result (λ given. given.items ≡ tasks.items) }
+{
+    let Ok(mut boxes) = Vec::with_capacity(alloc, tasks.len()) else {
+        return Err(tasks);
+    };
+    tasks.reverse();
+    while let Some(task) = tasks.pop() {
+        match Box::new(alloc, task) {
+            Ok(task) => boxes.push_reserved(Boxed { task }),
+            Err(refused) => {
+                tasks.push_reserved(refused.value);
+                return Err(unbox_all(boxes, tasks));
+            }
+        }
+    }
+    Ok((boxes, tasks))
+}
+
+/// The tasks out of their boxes, and after them those of a list that is the other way round and has room for all.
+pub(crate) fn unbox_all(mut boxes: Vec<Boxed>, mut tasks: Vec<Task>) -> Vec<Task>
+    requires { length boxes.items + length tasks.items ≤ vec_capacity tasks }
+    ensures { result.items ≡ boxes.items ++ reverse tasks.items }
+{
+    while let Some(boxed) = boxes.pop() {
+        tasks.push_reserved(Box::into_inner(boxed.task));
+    }
+    tasks.reverse();
+    tasks
 }

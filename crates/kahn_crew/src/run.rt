@@ -3,7 +3,7 @@
 ghost use Rattle.std.specs.Prelude.{◌<◌};
 ghost use Rattle.kahn_crew.specs.inner.Tasks.{FitTogether};
 
-use crate::boxes::Boxed;
+use crate::opening::Boxed;
 use kahn_board::Board;
 use kahn_code::Code;
 use kahn_streams::{Input, Network};

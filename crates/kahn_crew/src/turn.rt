@@ -1,17 +1,18 @@
-//! A turn: instances are run one after another for a draw of events, and each is set down where it stands then.
+//! A turn: instances are run one after another for a draw of events, and each is set down where it stands then. The board is told what each
+//! flushed, so that the readers that wait for it go on.
 
-ghost use Rattle.std.specs.Prelude.{◌≡◌, ◌⊎◌, ◌+◌, ◌-◌, ◌≤◌};
-ghost use Rattle.kahn_crew.specs.{inner.Words.ℕ, inner.Words.OnErr, inner.Words.OnOk, inner.Words.wired, inner.Words.NoMemory as IsWant, inner.Words.IsDelivered, inner.Words.IsBetweenTurns, inner.Words.Going as IsGoing, inner.Tasks.IsPublished};
-ghost use Rattle.kahn_crew.specs.inner.Turns.{CanRest, IsDue, IsLeftHinted, IsSetDown, IsShare, MayBegin, HasTask, Heeds, IsAtWork, IsTaskIn, SitsIn, SitsWith, StandsStill};
+ghost use Rattle.std.specs.Prelude.{◌≡◌, ◌⊎◌, ◌+◌, ◌-◌, ◌≤◌, ◌≢◌, ◌<◌};
+ghost use Rattle.kahn_crew.specs.{inner.Words.ℕ, inner.Words.OnErr, inner.Words.OnOk, inner.Words.wired, inner.Words.IsDelivered, inner.Words.IsBetweenTurns, inner.Tasks.IsPublished, inner.Turns.CanRest, inner.Turns.IsDue, inner.Turns.IsLeftHinted, inner.Turns.IsSetDown, inner.Turns.IsShare, inner.Turns.MayBegin, inner.Turns.HasTask, inner.Turns.Heeds, inner.Turns.IsAtWork, inner.Turns.IsTaskIn, inner.Turns.SitsIn, inner.Turns.SitsWith, inner.Turns.StandsStill, inner.Words.IfNone, inner.Words.IfSome, inner.Words.length, inner.Words.network_of, inner.Words.instance_at, inner.Words.actual_at, inner.Words.count, inner.Words.SeesMore, inner.Words.IsSeatOf, inner.Words.width_of, inner.Tasks.written_by, inner.Turns.IsHinted, declared.hints.Order.TheVariants.Last};
+ghost use Rattle.kahn_crew.specs.inner.Words.{NoMemory as IsWant, Going as IsGoing};
 
 use crate::hints::Order;
-use crate::publish::{hint, publish_all};
+use crate::opening::Boxed;
 use crate::run::Run;
 use crate::worker::{Worker, pick_hinted};
-use kahn_board::{Draw, draw_some, rest_dry, rest_over, rest_ready};
-use kahn_code::{Pause, Steps};
+use kahn_board::{Draw, Seat, draw_some, publish, reader_of, rest_dry, rest_over, rest_ready};
+use kahn_code::{Code, Pause, Steps};
 use kahn_job::{Task, TaskStanding};
-use kahn_streams::{Gate, GateEntry, NoMemory, enter_gate};
+use kahn_streams::{Gate, GateEntry, Network, NoMemory, Role, enter_gate};
 use std::sync::ledger::Ledger;
 
 /// How an instance is to be set down.
@@ -23,7 +24,6 @@ pub(crate) enum Due {
     Waits(usize, u64),
 }
 
-// How a task is to be set down.
 fn due_of(run: &Run<'_>, task: &Task, p: usize) -> Due
     requires { IsTaskIn run.now p task.now }
     ensures { IsDue (wired run.now.board.now.table.shared.key) p task.now result }
@@ -187,5 +187,86 @@ pub(crate) fn turn<G: Gate, L: Ledger>(
             hint(run, worker, Some(p), Order::Last);
         }
         Draw::Empty => rest_ready(&mut worker.seat, run.board, p),
+    }
+}
+
+// The channel between processes that a parameter writes.
+fn target(network: &Network, code: &Code, instance: usize, parameter: usize) -> Option<usize>
+    requires code { code.now.network.value ≡ network.now }
+    requires inside { instance < length (network_of network.now).instances }
+    ensures { result ≡ written_by (network_of network.now) (actual_at (instance_at (network_of network.now) instance) parameter) }
+{
+    let _program = network.program();
+    let channel = code.channel(instance, parameter)?;
+    if network.channel(channel).role == Role::Output {
+        return None;
+    }
+    let side = network.writer(channel)?;
+    if side.instance == instance && side.parameter == parameter {
+        Some(channel)
+    } else {
+        None
+    }
+}
+
+// Publishes what was flushed on a parameter, if it is more than before. Returns its reader, which may have waited for it or not.
+pub(crate) fn publish_one(
+    run: &Run<'_>,
+    seat: &mut Seat<Boxed>,
+    task: &mut Task,
+    p: usize,
+    parameter: usize,
+) -> Option<usize>
+    requires works { (n : ℕ) × (k : ℕ) × IsAtWork run.now p n k task.old seat.old }
+    requires inside { parameter < width_of task.old.work }
+    ensures same { IsSeatOf seat.old seat.new }
+    ensures works { (n k : ℕ) → IsAtWork run.now p n k task.old seat.old → IsAtWork run.now p n k task.new seat.new }
+    ensures seen { SeesMore seat.old.seat.me.0.seen seat.new.seat.me.0.seen }
+    ensures task { (task.new.work ≡ task.old.work) × (task.new.standing ≡ task.old.standing) }
+    ensures published { IsPublished task.new parameter }
+    ensures others { (r : ℕ) → r ≢ parameter → count task.new.published r ≡ count task.old.published r }
+{
+    let _program = run.network.program();
+    task.parameters();
+    let count = task.flushed(parameter);
+    if count == task.published(parameter) {
+        return None;
+    }
+    let channel = target(run.network, run.code, p, parameter)?;
+    task.mark(parameter, count);
+    publish(seat, run.board, p, channel, count);
+    reader_of(run.network, channel)
+}
+
+/// Hints at an instance that may be ready, if there is one. If memory is refused, the run is to stop.
+pub(crate) fn hint(run: &Run<'_>, worker: &mut Worker, instance: Option<usize>, order: Order)
+    requires { SitsIn run.now worker.old.seat }
+    ensures same { Heeds worker.old worker.new }
+    ensures still { StandsStill worker.old.seat worker.new.seat }
+    // Nothing is halted if no hint was to be given, and the run is if memory was refused for one.
+    ensures none { IfNone instance (worker.new.seat ≡ worker.old.seat) }
+    ensures refused { (worker.new.hints.wanted ≡ worker.old.hints.wanted) ⊎ (worker.new.seat.seat.me.0.seen ≡ 2) }
+    ensures given { order ≡ Last → IfSome instance (λ _. IsHinted worker.old worker.new) }
+{
+    let Some(instance) = instance else { return };
+    if worker.hints.push(instance, order) {
+        return;
+    }
+    worker.seat.halt(run.board);
+}
+
+/// Publishes all that was flushed on each parameter, and hints at the readers of it, which come next: what they
+/// read is in this processor's cache.
+pub(crate) fn publish_all(run: &Run<'_>, worker: &mut Worker, task: &mut Task, p: usize)
+    requires works { (n : ℕ) × (k : ℕ) × IsAtWork run.now p n k task.old worker.old.seat }
+    ensures same { Heeds worker.old worker.new }
+    ensures works { (n k : ℕ) → IsAtWork run.now p n k task.old worker.old.seat → IsAtWork run.now p n k task.new worker.new.seat }
+    ensures seen { SeesMore worker.old.seat.seat.me.0.seen worker.new.seat.seat.me.0.seen }
+    ensures task { (task.new.work ≡ task.old.work) × (task.new.standing ≡ task.old.standing) }
+    ensures all { (r : ℕ) → IsPublished task.new r }
+{
+    for parameter in 0..task.parameters() {
+        let reader = publish_one(run, &mut worker.seat, task, p, parameter);
+        hint(run, worker, reader, Order::Next);
     }
 }

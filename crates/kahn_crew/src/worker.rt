@@ -1,19 +1,20 @@
-//! A worker: it takes one instance after another, until there is a reason to leave, and which it takes next.
+//! A worker: it takes one instance after another, until there is a reason to leave, and which it takes next; and rests while none is ready.
 
 ghost use Rattle.std.specs.Prelude.{◌≡◌, ◌<◌};
-ghost use Rattle.kahn_crew.specs.inner.Words.{ℕ, false, true, IfSome, IfNone, IsBetweenTurns, IsSeatOf};
-ghost use Rattle.kahn_crew.specs.inner.Turns.{HasPicked, HasTask, Heeds, IsSameWorker, SitsWith, WasNotReady};
+ghost use Rattle.kahn_crew.specs.{inner.Words.ℕ, inner.Words.false, inner.Words.true, inner.Words.IfSome, inner.Words.IfNone, inner.Words.IsBetweenTurns, inner.Words.IsSeatOf, inner.Turns.HasPicked, inner.Turns.HasTask, inner.Turns.Heeds, inner.Turns.IsSameWorker, inner.Turns.SitsWith, inner.Turns.WasNotReady};
 
-use crate::boxes::Boxed;
 use crate::hints::Hints;
-use crate::rest::Idling;
+use crate::opening::Boxed;
 use crate::run::Run;
 use crate::turn::turn;
+use crossbeam_utils::Backoff;
 use kahn_board::{Seat, claim, go_on};
 use kahn_code::Steps;
 use kahn_streams::Gate;
 use std::sync::Wait;
 use std::sync::ledger::{Blank, Ledger};
+use std::thread::Parker;
+use std::time::Duration;
 
 // For how many looks in a row an instance is to look ready, before a worker that didn't wake it takes it.
 const LONG: usize = 8;
@@ -154,5 +155,59 @@ pub(crate) fn turns<R: Wait, G: Gate, L: Ledger>(
             }
             None => rest.sleep(rt),
         }
+    }
+}
+
+// How often a worker without hints of its own pauses before it looks elsewhere: for some tens of microseconds.
+const PAUSES: usize = 64;
+
+// How long a worker sleeps that has found nothing, in microseconds: at least this.
+const SHORTEST: u64 = 50;
+
+// At most this. The end of a run waits for those who sleep.
+const LONGEST: u64 = 4000;
+
+// Between the two, this fraction of the time that it has slept since it found something.
+const PARTS: u64 = 8;
+
+/// How long a worker has rested since it found an instance last: first it pauses, and then it sleeps, for longer the longer it has slept.
+#[derive(Drop)]
+pub(crate) struct Idling {
+    backoff: Backoff,
+    parker: Parker,
+    slept: u64,
+}
+
+impl Idling {
+    /// The rest of a worker that has not rested yet.
+    pub(crate) fn new() -> Idling {
+        Idling {
+            backoff: Backoff::new(),
+            parker: Parker::new(),
+            slept: 0,
+        }
+    }
+
+    /// Something was found: the next rest begins with pauses again.
+    pub(crate) fn over(&mut self) {
+        self.backoff.reset();
+        self.slept = 0;
+    }
+
+    /// How often it pauses before it looks elsewhere. A worker that slept since it found something looks at once.
+    pub(crate) fn pauses(&self) -> usize {
+        if self.slept > 0 { 0 } else { PAUSES }
+    }
+
+    /// Pauses, for a microsecond or less.
+    pub(crate) fn pause(&self) {
+        self.backoff.snooze();
+    }
+
+    /// Sleeps, if nothing was found anywhere.
+    pub(crate) fn sleep<R: Wait>(&mut self, rt: &R) {
+        let time = (self.slept / PARTS).max(SHORTEST).min(LONGEST);
+        self.parker.park_timeout(rt, Duration::from_micros(time));
+        self.slept = self.slept.saturating_add(time);
     }
 }

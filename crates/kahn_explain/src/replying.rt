@@ -24,7 +24,6 @@ pub(crate) struct Reply {
     pub(crate) came: Came,
 }
 
-/// The table of a run: of its counts, or of its histories.
 fn run_table(alloc: Global, network: &Network, counts: bool, run: &Recorded) -> TableText
     requires { IsRecord network.now run.now }
 {

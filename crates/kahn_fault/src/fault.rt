@@ -1,7 +1,7 @@
 //! Why a run has no report, and what the program ends with.
 
 ghost use Rattle.std.specs.Prelude.{◌≡◌};
-ghost use Rattle.kahn_fault.specs.Status.{live_status_of, read_status, work_status, status_of};
+ghost use Rattle.kahn_fault.specs.Status.{live_status_of, work_status, status_of};
 
 use crate::message::{path_words, read_said};
 use crate::work::WorkFault;
@@ -28,17 +28,6 @@ pub enum Fault {
     Work(WorkFault),
 }
 
-/// Returns the status of a text that wasn't read.
-fn read_status(fault: ReadFault) -> u8
-    ensures { result ≡ read_status fault }
-{
-    match fault {
-        ReadFault::TooLong => 1,
-        ReadFault::NoMemory => 4,
-        ReadFault::Failed | ReadFault::NotUtf8 => 5,
-    }
-}
-
 /// Returns the status of a run without a report.
 fn work_status(fault: WorkFault) -> u8
     ensures { result ≡ work_status fault }
@@ -55,9 +44,8 @@ fn work_status(fault: WorkFault) -> u8
     }
 }
 
-/// Returns the exit status: 0 if the run finished, 1 if a text is refused, 3 if the bound stopped the run, 4 if memory
-/// was refused, 5 if a file or standard input couldn't be read or wasn't UTF-8, or if the report couldn't be written,
-/// and 6 if the run is refused. Never allocates.
+/// Returns the exit status: 0 if the run finished, 1 if a text is refused, 3 if the bound stopped the run, 4 if memory was refused, 5 if a
+/// text couldn't be read or wasn't UTF-8, or if the report couldn't be written, and 6 if the run is refused. Never allocates.
 pub fn status(answer: &Result<Verdict, Fault>) -> u8
     ensures { result ≡ status_of answer.now }
 {
@@ -66,13 +54,16 @@ pub fn status(answer: &Result<Verdict, Fault>) -> u8
         Ok(Verdict::Bound) => 3,
         Ok(Verdict::Memory) => 4,
         Err(Fault::Open(_)) => 5,
-        Err(Fault::Program(_, fault) | Fault::InputText(_, fault)) => read_status(*fault),
+        Err(Fault::Program(_, fault) | Fault::InputText(_, fault)) => match fault {
+            ReadFault::TooLong => 1,
+            ReadFault::NoMemory => 4,
+            ReadFault::Failed | ReadFault::NotUtf8 => 5,
+        },
         Err(Fault::Work(fault)) => work_status(*fault),
     }
 }
 
-/// Returns the exit status of a program that takes its input line by line: that of its answer, and 1 in place of 0 if a
-/// line was refused. Never allocates.
+/// Returns the exit status of a program that takes lines: that of its answer, and 1 in place of 0 if a line was refused.
 pub fn live_status(answer: &Result<Verdict, Fault>, refused: bool) -> u8
     ensures { result ≡ live_status_of refused answer.now }
 {

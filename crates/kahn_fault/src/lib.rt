@@ -1,5 +1,4 @@
-//! The texts that a run is given, read from the files that the command line names; why it has no report, the line that reports it, and
-//! the status that the program ends with.
+//! The texts of a run, read from files; why it has no report, the line that reports it, and the status that the program ends with.
 #![tactic(auto)]
 
 mod fault;

@@ -3,39 +3,32 @@
 ghost use Rattle.std.specs.Prelude.{◌≡◌, List, ℕ, Some, decimal};
 ghost use Rattle.kahn_streams.specs.Written.{Writes};
 ghost use Rattle.kahn_texts.specs.Flushes.{FlushesOnce};
-ghost use Rattle.kahn_fault.specs.Message.{WritesCounted, numbered_line, between_line, placed_line, syntax_span, syntax_words, check_span, check_words, entry_line, text_line, run_line, work_line, read_line, path_words, fault_text};
+ghost use Rattle.kahn_fault.specs.Message.{WritesCounted, numbered_line, between_line, placed_line, syntax_span, syntax_words, check_span, check_words, text_line, work_line, read_line, path_words, fault_text};
 ghost use Rattle.kahn_fault.specs.inner.Said.{said_line};
 
 use crate::fault::Fault;
 use crate::work::WorkFault;
 use itoa::Buffer;
 use kahn_check::CheckFault;
+use kahn_streams::InputFault::{GivenTwice, NotAnInput, TooMany, UnknownName, WrongKind};
 use kahn_streams::{InputFault, RunFault, Span};
 use kahn_syntax::{SyntaxFault, What};
 use kahn_texts::{CallCount, ReadFault, TextFault, WriteFault, flush, put_line, uncounted};
-use std::fmt;
-use std::fmt::{Display, Formatter};
 use std::io::Write;
+use thiserror::Error;
 
 /// What a line says.
-#[derive(Clone, Copy)]
+#[derive(Clone, Copy, Debug, Error)]
 pub(crate) enum Says<'a> {
     /// Words, and a path or nothing; or a path and words.
+    #[error("{0}{1}")]
     Words(&'a str, &'a str),
     /// A number between words.
+    #[error("{0}{1}{2}")]
     Numbered(&'static str, usize, &'static str),
     /// A place in the program text, and words.
+    #[error("{1}")]
     Placed(Span, &'static str),
-}
-
-impl Display for Says<'_> {
-    fn fmt<W: fmt::Write>(&self, formatter: &mut Formatter<W>) -> fmt::Result {
-        match self {
-            Says::Words(first, second) => write!(formatter, "{first}{second}"),
-            Says::Numbered(before, number, after) => write!(formatter, "{before}{number}{after}"),
-            Says::Placed(_, words) => write!(formatter, "{words}"),
-        }
-    }
 }
 
 /// Writes a line of words, of what stands between, and of more words.
@@ -102,7 +95,6 @@ fn put_placed<W: Write, C: CallCount>(
     put_place(writer, line, column, words, writes)
 }
 
-/// Writes a line.
 fn put_said<W: Write, C: CallCount>(
     writer: &mut W,
     program: &str,
@@ -190,47 +182,25 @@ pub fn check_words(fault: CheckFault) -> &'static str
     check_told(fault).1
 }
 
-/// Returns what is said of an entry of the input text.
-fn entry_said(fault: InputFault) -> Says<'static>
-    ensures { (program : List ℕ) → said_line program result ≡ entry_line fault }
-{
-    match fault {
-        InputFault::UnknownName(at) => Says::Numbered("input entry ", at, ": no such channel"),
-        InputFault::NotAnInput(at) => Says::Numbered("input entry ", at, ": not an input channel"),
-        InputFault::GivenTwice(at) => Says::Numbered("input entry ", at, ": given twice"),
-        InputFault::WrongKind(at) => Says::Numbered("input entry ", at, ": kind does not agree"),
-        InputFault::TooMany(at) => Says::Numbered("input entry ", at, ": too many values"),
-        InputFault::NoMemory => Says::Words("no memory", ""),
-    }
-}
-
-/// Returns what is said of an input text that is refused.
 fn text_said(fault: TextFault) -> Says<'static>
     ensures { (program : List ℕ) → said_line program result ≡ text_line fault }
 {
     match fault {
         TextFault::BadLine(line) => Says::Numbered("input line ", line, ": not a name and a colon"),
         TextFault::BadValue(line) => Says::Numbered("input line ", line, ": not a value"),
-        TextFault::Input(fault) => entry_said(fault),
+        TextFault::Input(fault) => match fault {
+            UnknownName(at) => Says::Numbered("input entry ", at, ": no such channel"),
+            NotAnInput(at) => Says::Numbered("input entry ", at, ": not an input channel"),
+            GivenTwice(at) => Says::Numbered("input entry ", at, ": given twice"),
+            WrongKind(at) => Says::Numbered("input entry ", at, ": kind does not agree"),
+            TooMany(at) => Says::Numbered("input entry ", at, ": too many values"),
+            InputFault::NoMemory => Says::Words("no memory", ""),
+        },
         TextFault::TooLong => Says::Words("input text is too long", ""),
         TextFault::NoMemory => Says::Words("no memory", ""),
     }
 }
 
-/// Returns what is said of a run that has no answer.
-fn run_said(fault: RunFault) -> Says<'static>
-    ensures { (program : List ℕ) → said_line program result ≡ run_line fault }
-{
-    match fault {
-        RunFault::BadConfig => Says::Words("configuration is out of range", ""),
-        RunFault::UnknownWatch => Says::Words("watched channel is not declared", ""),
-        RunFault::NoMemory => Says::Words("no memory", ""),
-        RunFault::NoThread => Says::Words("no thread", ""),
-        RunFault::Stalled => Says::Words("workers stalled", ""),
-    }
-}
-
-/// Returns what is said of a program text, with its place, if it is one place.
 fn placed_said(place: Option<Span>, words: &'static str) -> Says<'static>
     ensures { (program : List ℕ) → said_line program result ≡ placed_line program place words.now }
 {
@@ -248,7 +218,13 @@ fn work_said(fault: WorkFault) -> Says<'static>
         WorkFault::Syntax(fault) => placed_said(syntax_span(fault), syntax_words(fault)),
         WorkFault::Check(fault) => placed_said(check_span(fault), check_words(fault)),
         WorkFault::Text(fault) => text_said(fault),
-        WorkFault::Run(fault) => run_said(fault),
+        WorkFault::Run(RunFault::BadConfig) => Says::Words("configuration is out of range", ""),
+        WorkFault::Run(RunFault::UnknownWatch) => {
+            Says::Words("watched channel is not declared", "")
+        }
+        WorkFault::Run(RunFault::NoMemory) => Says::Words("no memory", ""),
+        WorkFault::Run(RunFault::NoThread) => Says::Words("no thread", ""),
+        WorkFault::Run(RunFault::Stalled) => Says::Words("workers stalled", ""),
         WorkFault::Write(_) => Says::Words("report could not be written", ""),
     }
 }
@@ -265,7 +241,6 @@ pub(crate) fn read_said<'a>(path: &'a str, long: &'a str, fault: ReadFault) -> S
     }
 }
 
-/// Returns what a path is called.
 pub(crate) fn path_words(path: &Option<String>) -> &str
     ensures { result.now ≡ path_words path.now }
 {
@@ -275,7 +250,6 @@ pub(crate) fn path_words(path: &Option<String>) -> &str
     }
 }
 
-/// Returns what is said of a fault.
 fn fault_said(fault: &Fault) -> Says<'_>
     ensures { (program : List ℕ) → said_line program result ≡ fault_text program fault.now }
 {
@@ -304,8 +278,7 @@ pub fn line_counted<W: Write, C: CallCount, D: CallCount>(
     flush(writer, flushes)
 }
 
-/// Writes the line of a fault and a line feed, and flushes. A span in the fault is one of the program text; one beyond it
-/// is reported as its end. After a fault of the writer a prefix of the line went out. Never allocates.
+/// Writes the line of a fault, and flushes. A span beyond the program text is reported as its end. Never allocates.
 pub fn fault_line<W: Write>(fault: &Fault, program: &str, writer: &mut W) -> Result<(), WriteFault>
     ensures { Writes (W.contents writer.old) (W.contents writer.new) result (fault_text program.now fault.now) }
 {

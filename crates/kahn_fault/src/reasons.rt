@@ -83,7 +83,6 @@ fn shown_or(alloc: Global, path: String) -> String {
     shown_path(alloc, path.as_str()).unwrap_or(path)
 }
 
-/// Returns a fault with its path as it is shown.
 fn shown_fault(alloc: Global, fault: Fault) -> Fault
     ensures { status_of (Err result) ≡ status_of (Err fault) }
 {
@@ -104,8 +103,7 @@ pub fn tell_shown<W: Write>(alloc: Global, fault: Fault, writer: &mut W) -> u8
     tell(&Err(shown_fault(alloc, fault)), "", writer).status
 }
 
-/// Reports why the texts of a run can't be read, as `tell_shown` does, and then, after the name of the program, the reason, if there
-/// is one. Returns the status.
+/// Reports what `tell_shown` does, and then the reason, if there is one, after the name of the program. Returns the status.
 pub fn tell_unread<R: Runtime + AllocGlobal, W: Write>(
     rt: &R,
     name: &str,

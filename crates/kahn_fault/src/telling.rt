@@ -1,7 +1,7 @@
 //! What a program reports of its run at the end.
 
 ghost use Rattle.std.specs.Prelude.{◌≡◌};
-ghost use Rattle.kahn_fault.specs.{Status.status_of, Places.fault_span, Telling.explain_line, Telling.pointer_text, Telling.told_text};
+ghost use Rattle.kahn_fault.specs.{Status.status_of, Places.fault_span, Telling.pointer_text, Telling.told_text};
 ghost use Rattle.kahn_streams.specs.Written.{Writes};
 
 use crate::fault::{Fault, status};
@@ -20,8 +20,7 @@ pub struct Told {
     pub line: Result<(), WriteFault>,
 }
 
-/// Reports the fault of a run, if there is one, in one line, and returns the status. The fault's place is one of the
-/// program text. After a fault of the writer a prefix of the line went out. Never allocates.
+/// Reports the fault of a run over this program text, if there is one, in one line, and returns the status. Never allocates.
 pub fn tell<W: Write>(answer: &Result<Verdict, Fault>, program: &str, writer: &mut W) -> Told
     ensures status { result.status ≡ status_of answer.now }
     ensures line { Writes (W.contents writer.old) (W.contents writer.new) result.line (told_text program.now answer.now) }
@@ -47,21 +46,7 @@ fn fault_span(fault: WorkFault) -> Option<Span>
     }
 }
 
-/// Writes which program says more of a fault.
-fn put_more<W: Write>(fault: WorkFault, path: &str, writer: &mut W) -> Result<(), WriteFault>
-    ensures { Writes (W.contents writer.old) (W.contents writer.new) result (explain_line (fault_span fault) path.now) }
-{
-    match fault_span(fault) {
-        Some(_) => write_line(
-            writer,
-            &[b"kahn_explain ", path.as_bytes(), b" says more\n"],
-        ),
-        None => Ok(()),
-    }
-}
-
-/// Reports, in one line, which program says more of the fault of a run, if it has a place in the program text, which is that of the file
-/// at `path`. After a fault of the writer a prefix of the line went out. Never allocates.
+/// Reports, in one line, which program says more of the fault of a run, if it has a place in the program text, whose path this is.
 pub fn tell_explain<W: Write>(
     answer: &Result<Verdict, Fault>,
     path: &str,
@@ -71,6 +56,12 @@ pub fn tell_explain<W: Write>(
 {
     match answer {
         Ok(_) | Err(Fault::Open(_) | Fault::Program(_, _) | Fault::InputText(_, _)) => Ok(()),
-        Err(Fault::Work(fault)) => put_more(*fault, path, writer),
+        Err(Fault::Work(fault)) => match fault_span(*fault) {
+            Some(_) => write_line(
+                writer,
+                &[b"kahn_explain ", path.as_bytes(), b" says more\n"],
+            ),
+            None => Ok(()),
+        },
     }
 }

@@ -26,8 +26,7 @@ pub struct Texts {
     pub input: String,
 }
 
-/// Reads a program text: all that the reader has, within the limit. A fault names the path that was given, or none for
-/// standard input.
+/// Reads a program text: all that the reader has, within the limit. A fault names the path that was given, if any.
 pub fn program_of<R: Read>(
     alloc: Global,
     reader: &mut R,
@@ -60,7 +59,6 @@ fn program_text<R: Runtime + AllocGlobal>(rt: &R, path: Option<String>) -> Resul
     program_of(rt.alloc(), &mut file, Some(path))
 }
 
-/// Reads the input text from the file of that path.
 fn input_text<R: Runtime + AllocGlobal>(rt: &R, path: Option<String>) -> Result<String, Fault>
     ensures within { MatchResult result (λ text. length (string_bytes text) ≤ most_input_bytes) (IsOfInput path) }
     ensures empty { IfOk result (λ text. path ≡ None → string_bytes text ≡ []) }

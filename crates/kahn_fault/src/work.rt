@@ -41,8 +41,7 @@ impl From<TextFault> for WorkFault {
     }
 }
 
-/// Parses and checks a program text. Fails with `Syntax` if the text isn't of the language, and then with `Check` if the
-/// program isn't well wired.
+/// Parses and checks a program text. Fails with `Syntax` if it isn't of the language, and with `Check` if it isn't well wired.
 pub fn checked(alloc: Global, program: &str) -> Result<Network, WorkFault>
     ensures { MatchResult result (IsChecked program.now) (IsUnchecked program.now) }
 {

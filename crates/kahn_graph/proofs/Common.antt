@@ -1,7 +1,7 @@
 -- The words that most proofs cite, passed on from one place.
 pub use Rattle.kahn_chain.specs.Chain.{AreRings, IsRingMark, LeadsOn, stands}
-pub use Rattle.kahn_chain.specs.declared.standing.Standing.{Standing}
-pub use Rattle.kahn_chain.specs.declared.standing.Standing.TheVariants.{Ended, Faulted, More, Waits}
+pub use Rattle.kahn_chain.specs.declared.reason.Standing.{Standing}
+pub use Rattle.kahn_chain.specs.declared.reason.Standing.TheVariants.{Ended, Faulted, More, Waits}
 pub use Rattle.kahn_graph.specs.Graph.{AreTexts, IsAll, IsEdge, IsNode, IsPortText, edge_text, mark_text, node_text, values_text}
 pub use Rattle.kahn_graph.specs.Ran.{IsWaitMark, carried}
 pub use Rattle.kahn_graph.specs.inner.Adding.{IsWaitAt, is_wait}

@@ -6,8 +6,8 @@ use Rattle.kahn_streams.specs.declared.{answer.End.End, answer.Stream.Stream, tr
 use Rattle.kahn_streams.specs.declared.tree.Kind.TheVariants as K
 use Rattle.kahn_streams.specs.{declared.tree.Role.TheVariants.Inner, declared.tree.Role.TheVariants.Input, declared.tree.Role.TheVariants.Output, Prints.process_prints, View.bytes_of, Made.IsMadeOf, Network.network_of, Network.kind_at, Network.role_at, Network.IsOnly, Network.IsWriter, Network.IsReader, Network.channel_names}
 use Rattle.kahn_streams.specs.declared.tree.Argument.TheVariants as A
-use Rattle.kahn_chain.specs.{declared.standing.Standing.Standing, Chain.IsRingMark, Chain.stands}
-use Rattle.kahn_chain.specs.declared.standing.Standing.TheVariants as Stands
+use Rattle.kahn_chain.specs.{declared.reason.Standing.Standing, Chain.IsRingMark, Chain.stands}
+use Rattle.kahn_chain.specs.declared.reason.Standing.TheVariants as Stands
 use Rattle.kahn_marks.specs.Marks.{spot_text}
 use Rattle.kahn_graph.specs.Ran.{ended_text, carried, count_text, IsWaitMark}
 

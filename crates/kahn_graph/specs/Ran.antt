@@ -3,8 +3,8 @@
 use Rattle.std.specs.Prelude.{◌≡◌, ℕ, ◌==◌, Bool, true, false, List, [], ◌∷◌, Option, None, Some, codes, decimal, if◌then◌else◌, length, slice_get, slice_index_or}
 use Rattle.std.specs.List.{concat}
 use Rattle.kahn_streams.specs.{declared.answer.End.End, declared.answer.Outcome.Outcome, declared.answer.Stream.Stream, declared.tree.Program.Program, declared.value.Line.Line, declared.answer.Outcome.TheVariants.Ended, declared.answer.Outcome.TheVariants.Waits, declared.answer.Outcome.TheVariants.Faulted, declared.answer.Outcome.TheVariants.More, declared.value.Failure.TheVariants.Overflow, declared.value.Failure.TheVariants.Division, declared.value.Line.TheVariants.Channel, declared.value.Line.TheVariants.Print, Network.Schema, Network.channel_names}
-use Rattle.kahn_chain.specs.{Chain.LeadsOn, declared.standing.Standing.Standing}
-use Rattle.kahn_chain.specs.declared.standing.Standing.TheVariants as S
+use Rattle.kahn_chain.specs.{Chain.LeadsOn, declared.reason.Standing.Standing}
+use Rattle.kahn_chain.specs.declared.reason.Standing.TheVariants as S
 
 -- how an instance stood, and on which channel it waited
 abbrev pub outcome_text : Outcome → List ℕ

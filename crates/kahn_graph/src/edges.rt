@@ -6,8 +6,7 @@ ghost use Rattle.kahn_graph.specs.{Graph.place_text, Graph.mark_text, Graph.styl
 ghost use Rattle.kahn_chain.specs.Chain.{AreRings, stands};
 
 use crate::nodes::text_if;
-use crate::ran::{add_count, carried};
-use crate::stands::is_ring_channel;
+use crate::stands::{add_count, carried, is_ring_channel};
 use itoa::Buffer;
 use kahn_marks::add;
 use kahn_streams::{End, Kind, Network, Role, Side, Stream};
@@ -24,7 +23,6 @@ fn add_place(text: &mut String, channel: usize, side: Option<Side>) -> Result<()
     }
 }
 
-// Adds the mark of a channel of that role.
 fn add_mark(text: &mut String, channel: usize, role: Role) -> Result<(), AllocError>
     ensures { IfOk result (λ _. string_bytes text.new ≡ string_bytes text.old ++ mark_text channel role) }
 {
@@ -74,7 +72,6 @@ fn add_line(
     add(text, &["\", style=", style(kind)])
 }
 
-// The name of the parameter at a side.
 fn port_name(network: &Network, side: Side) -> &str
     requires { IsWithin (network_of network.now) side }
     ensures { IsPort network.now side result.now }
@@ -84,7 +81,6 @@ fn port_name(network: &Network, side: Side) -> &str
     parameter.name.text.as_str()
 }
 
-// Adds that name as an attribute, where there is a side.
 fn add_port(
     text: &mut String,
     network: &Network,
@@ -102,7 +98,6 @@ fn add_port(
     Ok(())
 }
 
-// Adds the mark and the edge of a channel.
 fn add_edge(
     text: &mut String,
     network: &Network,
@@ -130,7 +125,6 @@ fn add_edge(
     Ok(())
 }
 
-/// Adds the edges of all channels.
 pub(crate) fn add_edges(
     text: &mut String,
     network: &Network,

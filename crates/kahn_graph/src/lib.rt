@@ -4,7 +4,6 @@
 mod edges;
 mod nodes;
 mod picture;
-mod ran;
 mod stands;
 
 pub use picture::picture_text;

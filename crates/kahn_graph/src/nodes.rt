@@ -2,16 +2,15 @@
 
 ghost use Rattle.std.specs.Prelude.{◌≡◌, ◌<◌, ◌++◌, IfOk, Some, codes, if◌then◌else◌, length, map, option_map, slice_get, string_bytes};
 ghost use Rattle.kahn_streams.specs.{Network.network_of, Prints.declaration_prints, Prints.process_prints, Wires.process_at};
-ghost use Rattle.kahn_graph.specs.Graph.{named_text, values_text, node_text, tip_text, IsNode, AreNodes, colour_text};
+ghost use Rattle.kahn_graph.specs.Graph.{named_text, values_text, node_text, IsNode, AreNodes, colour_text};
 ghost use Rattle.kahn_chain.specs.Chain.{AreRings, stands};
 ghost use Rattle.kahn_graph.specs.inner.Adding.{Adds, AddsValue, IsTip};
 
-use crate::ran::add_ended;
-use crate::stands::is_ring_instance;
+use crate::stands::{add_ended, is_ring_instance};
 use itoa::Buffer;
 use kahn_marks::{add, add_spot};
 use kahn_streams::{
-    Argument, End, Name, Network, NetworkInstance, Outcome, Parameter, Process, declaration_prints,
+    Argument, End, Network, NetworkInstance, Outcome, Parameter, Process, declaration_prints,
 };
 use std::alloc::{AllocError, Global};
 
@@ -58,7 +57,6 @@ fn add_value(
     }
 }
 
-// Adds the values among arguments, by the names of their parameters.
 fn add_values(
     text: &mut String,
     parameters: &[Parameter],
@@ -90,7 +88,6 @@ fn colour(end: Option<End>) -> &'static str
     }
 }
 
-// How an instance ended, where that is known.
 fn end_of(ends: &[End], instance: usize) -> Option<End>
     ensures { result ≡ slice_get ends.now instance }
 {
@@ -125,17 +122,6 @@ fn add_made(
     Ok(())
 }
 
-// Adds where a name stands.
-fn add_name(text: &mut String, source: &str, name: &Name) -> Result<(), AllocError>
-    ensures { IfOk result (λ _. string_bytes text.new ≡ string_bytes text.old ++ tip_text source.now name.now) }
-{
-    add(text, &[", tooltip=\"", name.text.as_str()])?;
-    add_spot(text, " at ", source, name.span.from)?;
-    add(text, &["\""])?;
-    Ok(())
-}
-
-// Adds where an instance stands in the program text.
 fn add_tip(
     text: &mut String,
     network: &Network,
@@ -147,7 +133,9 @@ fn add_tip(
 {
     let program = network.program();
     let placed = &program.instances[instance];
-    add_name(text, source, &placed.process)?;
+    add(text, &[", tooltip=\"", placed.process.text.as_str()])?;
+    add_spot(text, " at ", source, placed.process.span.from)?;
+    add(text, &["\""])?;
     Ok(())
 }
 
@@ -162,7 +150,6 @@ pub(crate) fn printing(alloc: Global, network: &Network) -> Result<Vec<bool>, Al
     Ok(list)
 }
 
-// Whether the process with that declaration prints anywhere.
 #[tactic(auto, using(crate::proofs::Printed::printed_at))]
 fn is_printing(
     _network: &Network,
@@ -180,7 +167,6 @@ fn is_printing(
     }
 }
 
-// Adds the node of an instance.
 fn add_node(
     text: &mut String,
     network: &Network,
@@ -205,7 +191,6 @@ fn add_node(
     Ok(())
 }
 
-/// Adds the nodes of all instances.
 pub(crate) fn add_nodes(
     text: &mut String,
     network: &Network,

@@ -1,290 +1,256 @@
-//! Which change of one word was perhaps meant: each is tried, and the one that leaves the fewest faults is told.
+//! Changes of one or two words that were perhaps meant: each is made in the text, which is checked again, and the one that leaves the fewest
+//! faults is told.
 
-use crate::heads::{end_of, head_before};
-use crate::lost::{joined, longer_of};
-use crate::mending::{found_kind, letters_at};
-use crate::names::{NameKind, counts_of, declared_kind, is_used, names_asked, names_seen};
+use crate::mending::left_by;
+use crate::names::{NameKind, is_free, names_asked, names_seen};
 use crate::near::nearest;
-use crate::place::{NetworkPlace, called_first, is_in, side_of, word_at};
-use crate::trial::{Edit, EditKind, Trial, Tried, faults_behind, is_of_sides, statement_at};
-use kahn_marks::is_within;
-use kahn_streams::{CheckFault, Declaration, Kind, Name, NoMemory, Process, Span};
-use kahn_syntax::{Class, Keyword, Lexeme, Sign};
+use crate::place::{NetworkPlace, side_of};
+use kahn_marks::{Fix, add};
+use kahn_streams::{CheckFault, NoMemory, Span};
+use kahn_syntax::{Class, Keyword, Lexeme};
 
-/// What is written, and what is meant by it.
-type Rows = [(&'static str, &'static str); 4];
+/// Whether memory was there for trying a change.
+type Tried = Result<(), NoMemory>;
 
-/// Values of one kind, and what is meant where the other one is wanted.
-const LITERALS: Rows = [("0", "false"), ("1", "true"), ("false", "0"), ("true", "1")];
+/// The most lexemes of a text in which changes are tried.
+pub(crate) const MOST_LEXEMES: usize = 8192;
 
-/// What is written for truth values.
-const VALUES: Rows = [
-    ("true", "true"),
-    ("false", "false"),
-    ("yes", "true"),
-    ("off", "false"),
-];
+/// The most changes that are tried, and the most bytes that are read for them.
+const MOST_TRIES: usize = 256;
 
-/// Of more names none is known to be used nowhere.
-const MOST_NAMES: usize = 64;
+const MOST_READ: usize = 4_000_000;
 
-/// In a longer statement no names are interchanged.
-const MOST_BYTES: usize = 256;
+/// Of more arguments neighbours alone are interchanged.
+const MOST_MOVED: usize = 8;
+
+/// Which change it is.
+#[derive(Clone, Copy)]
+pub(crate) enum EditKind {
+    /// The nearest of the names in sight is put in the place of another.
+    Near,
+    /// Two neighbours are interchanged.
+    Swap,
+    /// A row of names has another kind, direction or role.
+    Flip,
+    /// A channel is one argument more.
+    Lost,
+    /// The next value of a channel stands in its place.
+    Waited,
+    /// A name in sight that nothing uses, or a channel that doesn't have the side.
+    Unused,
+    /// Any other name in sight.
+    Used,
+}
+
+/// A change that leaves fewer faults.
+#[derive(Drop)]
+pub(crate) struct Edit {
+    pub(crate) way: EditKind,
+    pub(crate) fix: Fix,
+    /// Two parts that are interchanged.
+    pub(crate) parts: (Span, Span),
+    /// How many faults it leaves.
+    pub(crate) left: usize,
+    /// Whether another name leaves as few.
+    is_one_of: bool,
+}
+
+impl Edit {
+    /// The less of it, the better: by the faults that are left, then what is done.
+    fn cost(&self) -> usize {
+        let doubt = match self.way {
+            EditKind::Unused => 1,
+            EditKind::Used => 2,
+            _ => 0,
+        };
+        self.left.saturating_mul(4).saturating_add(doubt)
+    }
+}
+
+pub(crate) fn tries_of(text: &str, lexemes: &[Lexeme]) -> usize {
+    if lexemes.len() > MOST_LEXEMES {
+        return 0;
+    }
+    let tries = MOST_READ.checked_div(text.len()).unwrap_or(0);
+    tries.min(MOST_TRIES)
+}
+
+/// The better of two changes: the one that costs less, or else the first.
+fn better(best: Option<Edit>, change: Edit) -> Edit {
+    let Some(mut best) = best else {
+        return change;
+    };
+    let (least, cost) = (best.cost(), change.cost());
+    if cost < least {
+        return change;
+    }
+    let is_name = matches!(change.way, EditKind::Unused | EditKind::Used);
+    best.is_one_of = best.is_one_of || is_name && cost == least;
+    best
+}
+
+/// What may stand in the place of a word of a head: for a fault of kinds another kind, or else another direction or role, or none.
+fn others_for(class: Class, is_of_kinds: bool) -> &'static [&'static str] {
+    match (class, is_of_kinds) {
+        (Class::Word(Keyword::Integer), true) => &["logical"],
+        (Class::Word(Keyword::Logical), true) => &["integer"],
+        (Class::Word(Keyword::Integer), false) => &["integer in", "integer out"],
+        (Class::Word(Keyword::Logical), false) => &["logical in", "logical out"],
+        (Class::Word(Keyword::In), false) => &["out", ""],
+        (Class::Word(Keyword::Out), false) => &["in", ""],
+        (Class::Word(Keyword::Input), false) => &["output", ""],
+        (Class::Word(Keyword::Output), false) => &["input", ""],
+        _ => &[],
+    }
+}
+
+/// The changes that are tried for a fault, one after another.
+#[derive(Drop)]
+struct Trial<'p> {
+    place: NetworkPlace<'p>,
+    /// The fault there.
+    fault: CheckFault,
+    /// How many may be tried yet.
+    tries: usize,
+    /// The best so far.
+    best: Option<Edit>,
+}
 
 impl<'p> Trial<'p> {
-    /// All those for the fault.
-    fn with_fault(&mut self) -> Tried {
-        let place = self.place;
-        match self.fault {
-            CheckFault::Unknown(_) => return self.with_unknown(),
-            CheckFault::DeclaredTwice(_) => return self.with_twice(),
-            CheckFault::WrongCount(_) => {
-                return match place.called() {
-                    Some(process) => self.with_arranged(process, place.handed_at(place.at.from)),
-                    None => Ok(()),
-                };
-            }
-            CheckFault::NoWriter(_) => return self.with_role("input"),
-            CheckFault::NoReader(_) => return self.with_role("output"),
-            CheckFault::TooMany(_) | CheckFault::NoMemory => return Ok(()),
-            CheckFault::WrongDirection(_) => self.with_names(place.at, true)?,
-            CheckFault::ChannelExpected(_) => self.with_bare()?,
-            CheckFault::ValueExpected(_) => self.with_waited()?,
-            _ => self.with_values(EditKind::Literal, LITERALS, 0)?,
-        }
-        if place.process.is_some() {
-            self.with_statement()?;
-        }
-        self.with_others()
-    }
-
-    /// What is meant by what stands at the place, where it is so many slips away from what is written for that.
-    fn with_values(&mut self, way: EditKind, rows: Rows, slips: usize) -> Tried {
-        let place = self.place;
-        for (written, meant) in rows {
-            if is_within(place.word(), written.as_bytes(), slips) {
-                self.put_one(way, place.at, meant)?;
-            }
-        }
-        Ok(())
-    }
-
-    /// The name at the place without its `wait`, unless that is all that is assigned and a variable is waited on.
-    fn with_bare(&mut self) -> Tried {
-        let place = self.place;
-        let is_all = place.class(-3) == Some(Class::Sign(Sign::Becomes)) && place.is_last(2);
-        match (place.beyond(Sign::Open, -1), place.span(1)) {
-            (Some(wait), Some(close)) if !is_all || place.own_parameter().is_some() => {
-                self.put(EditKind::Bare, (wait, close), &[place.part(place.at)])
-            }
-            _ => Ok(()),
-        }
-    }
-
-    /// The variable that was assigned last before the place what was taken from the channel there, unless that is all that is assigned; and the
-    /// next value of the channel; or, where it is assigned, the name that is waited on, or the value sent on it.
-    fn with_waited(&mut self) -> Tried {
-        let place = self.place;
-        let is_all = place.class(-1) == Some(Class::Sign(Sign::Becomes)) && place.is_last(1);
-        let mut taken = None;
-        for lexeme in place.seen() {
-            if !is_all && place.part(lexeme.span) == place.part(place.at) {
-                let its = place.moved_to(lexeme.span);
-                let is_assigned = its.class(-3) == Some(Class::Sign(Sign::Becomes));
-                let is_before = lexeme.span.from < place.at.from || taken.is_none();
-                if is_before && is_assigned && its.asked() == NameKind::Source {
-                    taken = its.span(-4);
-                }
-            }
-        }
-        if let Some(name) = taken {
-            self.put_one(EditKind::Near, place.at, place.part(name))?;
-        }
-        if let Some((statement, _)) = statement_at(place.lexemes, place.at.from) {
-            let (from, to) = (place.at.from, statement.to);
-            let whole = place.part(Span { from, to }).trim();
-            if let Some((name, value)) = whole.split_once(":=") {
-                let to = from.saturating_add(whole.len());
-                let pieces = ["send ", value.trim(), " on ", name.trim()];
-                let last = Span { from: to, to };
-                self.put(EditKind::Literal, (place.at, last), &pieces)?;
-            }
-        }
-        let pieces = ["wait(", place.part(place.at), ")"];
-        self.put(EditKind::Waited, (place.at, place.at), &pieces)
-    }
-
-    /// Those for a name that is declared twice: in the place of either one that isn't declared, or either left out.
-    fn with_twice(&mut self) -> Tried {
-        let place = self.place;
-        let names = names_seen(place.alloc, place.program, place.process, None)?;
-        let first = called_first(place.word(), &names).map_or(place.at, |first| first.span);
-        let mut parts: Vec<&str> = Vec::new(place.alloc);
-        for lexeme in place.seen().iter().skip(1) {
-            let part = place.part(lexeme.span);
-            let is_name = lexeme.what == Class::Name && !parts.contains(&part);
-            if is_name && called_first(part.as_bytes(), &names).is_none() {
-                if place.moved_to(lexeme.span).asked() == declared_kind(place) {
-                    parts.push(part)?;
-                }
-            }
-        }
-        for at in [place.at, first] {
-            for part in &parts {
-                self.put_one(EditKind::Near, at, part)?;
-            }
-            self.without_name(at)?;
-        }
-        Ok(())
-    }
-
-    /// In the statement at the place its other names interchanged with what stands there, and others that nothing uses; or the channels of the
-    /// first send that ends behind the place and of another one.
-    fn with_statement(&mut self) -> Tried {
-        let (place, all) = (self.place, self.place.seen());
-        match statement_at(place.lexemes, place.at.from) {
-            Some((statement, _)) if statement.to.saturating_sub(statement.from) < MOST_BYTES => {
-                for lexeme in all {
-                    if lexeme.what == Class::Name && is_in(statement, lexeme.span) {
-                        self.with_swap(EditKind::Swap, place.at, lexeme.span)?;
-                        self.with_names(lexeme.span, false)?;
-                    }
-                }
-            }
-            _ => {}
-        }
-        for mark in [Keyword::Wait, Keyword::On] {
-            let (mut first, mut is_marked) = (None, false);
-            let is_open = |lexeme: &Lexeme| lexeme.what == Class::Sign(Sign::Open);
-            for lexeme in all {
-                if is_marked && !is_open(lexeme) && lexeme.span.from >= place.at.from {
-                    match first {
-                        Some(first) => self.with_swap(EditKind::Swap, first, lexeme.span)?,
-                        None => first = Some(lexeme.span),
-                    }
-                }
-                is_marked = lexeme.what == Class::Word(mark) || is_marked && is_open(lexeme);
-            }
-        }
-        Ok(())
-    }
-
-    /// The declaration left out of a channel that nothing uses; an instance of a process that has none and could have the side; or else one
-    /// instance more of any process, or a role in the declaration of the channel at the place.
-    fn with_role(&mut self, role: &str) -> Tried {
-        let (place, side) = (self.place, side_of(self.fault));
-        let source = place.passed(NameKind::Source, place.word());
-        let target = place.passed(NameKind::Target, place.word());
-        if source.or(target).is_none() {
-            self.without_name(place.at)?;
-        }
-        for fault in self.faults {
-            let is_slip = matches!(*fault, CheckFault::NoWriter(_)) && side == NameKind::Source;
-            match place.passed(side, letters_at(place.text, *fault)) {
-                Some(at) if is_slip => self.put_one(EditKind::Near, at, place.part(place.at))?,
-                _ => {}
-            }
-        }
-        if let Some(process) = place.taker(side, true) {
-            return self.with_instance(process, EditKind::Unused);
-        }
-        if let Some(process) = place.taker(side, false) {
-            self.with_instance(process, EditKind::Flip)?;
-        }
-        for declaration in &place.program.declarations {
-            if let Declaration::Process(process) = declaration {
-                self.with_instance(process, EditKind::Unused)?;
-            }
-        }
-        match head_before(place).first() {
-            Some(kind) => {
-                self.with_word(place.at, end_of(kind.span), role, true)?;
-                match side {
-                    NameKind::Target => self.with_word(place.at, end_of(kind.span), role, false),
-                    _ => Ok(()),
-                }
-            }
-            None => Ok(()),
-        }
-    }
-
-    /// Those for a name that isn't declared: a near one, or the parameter for which an instance hands over its channel; or one that nothing
-    /// uses, there or declared so; or a declaration.
-    fn with_unknown(&mut self) -> Tried {
-        let place = self.place;
-        let names = names_asked(place)?;
-        let near = nearest(place.word(), &names);
-        if near.is_none() && longer_of(place).is_some() {
+    /// Tries these pieces in the place of what stands from the first part to the second, if some change may be tried yet.
+    fn put(&mut self, way: EditKind, parts: (Span, Span), pieces: &[&str]) -> Tried {
+        let Some(rest) = self.tries.checked_sub(1) else {
             return Ok(());
+        };
+        self.tries = rest;
+        let place = self.place;
+        let mut put = String::new(place.alloc);
+        add(&mut put, pieces)?;
+        let (from, to) = (parts.0.from, parts.1.to);
+        let (span, beside) = (Span { from, to }, parts.1);
+        let fix = Fix { span, put, beside };
+        if let Some(left) = left_by(place.alloc, place.text, place.faults, self.fault, &fix)? {
+            let change = Edit {
+                way,
+                fix,
+                parts,
+                left,
+                is_one_of: false,
+            };
+            self.best = Some(better(self.best.take(), change));
         }
-        match place.parameter_for() {
-            Some(name) if !matches!(near, Some(near) if near.span == name.span) => {
-                self.put_one(EditKind::Handed, place.at, name.text.as_str())?;
+        Ok(())
+    }
+
+    fn put_one(&mut self, way: EditKind, at: Span, put: &str) -> Tried {
+        self.put(way, (at, at), &[put])
+    }
+
+    /// Two parts interchanged, with what stands between them.
+    fn with_swap(&mut self, way: EditKind, first: Span, last: Span) -> Tried {
+        let place = self.place;
+        let (from, to) = (first.to, last.from);
+        let between = place.part(Span { from, to });
+        let pieces = [place.part(last), between, place.part(first)];
+        self.put(way, (first, last), &pieces)
+    }
+
+    /// Some arguments of the instance at the place interchanged with those behind them; or in a process what stands at the place and a name
+    /// behind it.
+    fn with_swaps(&mut self) -> Tried {
+        let (place, handed) = (self.place, self.place.handed_there());
+        let most = if handed.len() > MOST_MOVED {
+            1
+        } else {
+            MOST_MOVED
+        };
+        for (number, behind) in handed.iter().enumerate().skip(1) {
+            let Some((front, back)) = handed.split_at_checked(number) else {
+                return Ok(());
+            };
+            let (to, from) = (front.last().map_or(0, |one| one.span.to), behind.span.from);
+            for first in front.iter().rev().take(most) {
+                for last in back.iter().take(most) {
+                    let (first, last) = (Span { to, ..first.span }, Span { from, ..last.span });
+                    self.with_swap(EditKind::Swap, first, last)?;
+                }
             }
-            _ => {}
         }
-        let is_short = place.asked() != NameKind::Value || place.word().len() < 3;
-        let is_one = names.len() == 1 && is_short && place.channel().is_none();
-        self.with_names(place.at, is_one && place.process.is_some())?;
-        if place.asked() == NameKind::Value {
-            self.with_values(EditKind::Near, VALUES, 1)?;
-        }
-        for name in &names {
-            let is_meant = near.is_none() || nearest(place.word(), &[*name]).is_some();
-            if is_meant && !is_used(place, name) {
-                let counts = near.map_or((0, 0), |_| counts_of(place, name));
-                self.doubt = if counts.1 < counts.0 { 0 } else { 1 };
-                self.put_one(EditKind::Renamed, name.span, place.part(place.at))?;
-            }
-        }
-        self.with_declared()?;
-        match place.made() {
-            Some(process) if near.is_none() && place.process.is_none() => {
-                self.with_arranged(process, place.handed_at(place.at.from))?;
-                self.with_names(place.at, true)
+        match (place.span(2), place.class(2)) {
+            (Some(last), Some(Class::Name)) if place.process.is_some() => {
+                self.with_swap(EditKind::Swap, place.at, last)
             }
             _ => Ok(()),
         }
     }
 
-    /// A declaration of the name at the place: of a channel; or of a variable that is assigned, with all others like it. None where a comment
-    /// holds one.
-    fn with_declared(&mut self) -> Tried {
-        let place = self.place;
-        let (word, asked, seen) = (place.part(place.at), place.asked(), place.seen());
-        let mut all = seen.iter();
-        let begin = all.find(|lexeme| lexeme.what == Class::Word(Keyword::Begin));
-        let declared = names_seen(place.alloc, place.program, place.process, None)?;
-        let mut words: Vec<&str> = Vec::new(place.alloc);
-        if asked == NameKind::Channel {
-            words.push(word)?;
-        }
-        for (lexeme, behind) in seen.iter().zip(seen.iter().skip(1)) {
-            if asked == NameKind::Value && behind.what == Class::Sign(Sign::Becomes) {
-                let name = place.part(lexeme.span);
-                let is_declared = called_first(name.as_bytes(), &declared).is_some();
-                if !is_declared && !words.contains(&name) {
-                    words.push(name)?;
-                }
+    /// One argument more, of the channels that lack a side; or one less.
+    fn with_count(&mut self) -> Tried {
+        let (place, handed) = (self.place, self.place.handed_there());
+        let names = names_seen(place.alloc, place.program, None, Some(NameKind::Channel))?;
+        let mut spare: Vec<&str> = Vec::new(place.alloc);
+        for name in &names {
+            let source = place.passed(NameKind::Source, name.text.as_bytes());
+            if source.is_none()
+                || place
+                    .passed(NameKind::Target, name.text.as_bytes())
+                    .is_none()
+            {
+                spare.push(name.text.as_str())?;
             }
         }
-        let names = joined(place.alloc, &words)?;
-        match begin {
-            Some(begin) if words.contains(&word) && !is_held(place) => {
-                for kind in ["integer ", "logical "] {
-                    let pieces = [kind, role_for(place), names.as_str(), ";"];
-                    self.put(EditKind::Declared, (begin.span, begin.span), &pieces)?;
-                }
+        for one in handed {
+            let (at, here) = ((one.span, one.span), place.part(one.span));
+            for word in &spare {
+                self.put(EditKind::Lost, at, &[word, ", ", here])?;
+                self.put(EditKind::Lost, at, &[here, ", ", word])?;
             }
-            _ => {}
+        }
+        for (one, next) in handed.iter().zip(handed.iter().skip(1)) {
+            let parts = (one.span, next.span);
+            self.put(EditKind::Flip, parts, &[place.part(one.span)])?;
+            self.put(EditKind::Flip, parts, &[place.part(next.span)])?;
         }
         Ok(())
     }
 
-    /// The other names that may stand at a part of the text, put there: the nearest, those that nothing uses, or all; of channels of the
-    /// program, those that don't have the side that is handed over there.
-    fn with_names(&mut self, at: Span, are_used: bool) -> Tried {
-        let place = self.place.moved_to(at);
+    /// The names that aren't declared, in the place of one that is declared twice.
+    fn with_twice(&mut self, faults: &[CheckFault]) -> Tried {
+        let place = self.place;
+        for fault in faults {
+            if let CheckFault::Unknown(span) = *fault {
+                self.put_one(EditKind::Near, place.at, place.part(span))?;
+            }
+        }
+        Ok(())
+    }
+
+    /// Other words in the heads of the process, or of the channels, or two neighbouring directions interchanged.
+    fn with_heads(&mut self) -> Tried {
+        let place = self.place;
+        let is_of_kinds = matches!(self.fault, CheckFault::WrongKind(_));
+        let (all, mut last) = (place.seen(), None);
+        for (lexeme, next) in all.iter().zip(all.iter().skip(1)) {
+            let is_role = matches!(next.what, Class::Word(Keyword::Input | Keyword::Output));
+            let is_row = is_role || next.what == Class::Word(Keyword::Channel);
+            if place.process.is_some() || is_row {
+                for word in others_for(lexeme.what, is_of_kinds) {
+                    self.put_one(EditKind::Flip, lexeme.span, word)?;
+                }
+            }
+            if matches!(lexeme.what, Class::Word(Keyword::In | Keyword::Out)) {
+                if let Some(last) = last {
+                    self.with_swap(EditKind::Flip, last, lexeme.span)?;
+                }
+                last = Some(lexeme.span);
+            }
+        }
+        Ok(())
+    }
+
+    /// The other names that may stand at the place; of channels of the program, those that don't have the side that is handed over there.
+    fn with_names(&mut self) -> Tried {
+        let place = self.place;
         let (word, side) = (place.word(), place.side());
         let all = names_asked(place)?;
         let mut names = Vec::new(place.alloc);
@@ -295,121 +261,79 @@ impl<'p> Trial<'p> {
             }
         }
         let near = nearest(word, &names);
-        let own = called_first(word, &all).map_or(0, |own| own.span.from);
-        let counts = match (near, self.fault) {
-            (Some(near), CheckFault::Unknown(_)) => counts_of(place, near),
-            _ => (0, 0),
-        };
         for name in &names {
-            let way = match near {
-                Some(near) if near.span == name.span && counts == (1, 1) => EditKind::Tied,
-                Some(near) if near.span == name.span => EditKind::Near,
-                _
-                    if side == NameKind::Channel
-                        && (names.len() > MOST_NAMES || is_used(place, name)) => EditKind::Used,
-                _ => EditKind::Unused,
-            };
-            if self.tries > 0 && (are_used || !matches!(way, EditKind::Used)) {
-                self.doubt = match way {
-                    EditKind::Near if counts.1 < counts.0 => 2,
-                    _ => self.place.doubt_of(at, side, name, own < name.span.from),
+            if self.tries > 0 {
+                let way = match near {
+                    Some(near) if near.span == name.span => EditKind::Near,
+                    _ if is_free(place, name) => EditKind::Unused,
+                    _ => EditKind::Used,
                 };
-                self.put_one(way, at, name.text.as_str())?;
+                self.put_one(way, place.at, name.text.as_str())?;
             }
         }
         Ok(())
     }
 
-    /// Those of several names, of heads, and of other names: of a truth value for a number, if it is used elsewhere too.
-    fn with_others(&mut self) -> Tried {
+    /// A role for the row of the channel at the place, unless a process without an instance could have the side.
+    fn with_role(&mut self, row: &str) -> Tried {
         let place = self.place;
-        let Some(process) = place.process.or(place.made()) else {
-            return Ok(());
-        };
-        let handed = place.handed_at(place.at.from);
-        let spans = handed.iter().map(|one| one.span);
-        let spans = spans.collect::<Vec<Span>>(place.alloc)?;
-        self.with_swaps(EditKind::Swap, &spans)?;
-        self.with_arranged(process, handed)?;
-        self.with_heads(self.fault)?;
-        self.with_directions(process.name.text.as_bytes())?;
-        let all = place.seen().iter();
-        let uses = all.filter(|one| word_at(place.text, one.span) == place.word());
-        let is_asked = match self.fault {
-            CheckFault::WrongKind(_) if place.process.is_some() => {
-                uses.count() > 3 && found_kind(place)? == Some(Kind::Logical)
+        let front = place.lexemes.get(..place.number).unwrap_or(&[]);
+        let mut words = front.iter().rev();
+        let channel = words.find(|lexeme| lexeme.what == Class::Word(Keyword::Channel));
+        match (channel, place.taker(side_of(self.fault))) {
+            (Some(channel), None) => self.put_one(EditKind::Flip, channel.span, row),
+            _ => Ok(()),
+        }
+    }
+
+    fn with_fault(&mut self) -> Tried {
+        let place = self.place;
+        let is_within = place.process.is_some();
+        let is_named = match self.fault {
+            CheckFault::NoWriter(_) => return self.with_role("input channel"),
+            CheckFault::NoReader(_) => return self.with_role("output channel"),
+            CheckFault::DeclaredTwice(_) => return self.with_twice(place.faults),
+            CheckFault::WrongCount(_) => return self.with_count(),
+            CheckFault::Unknown(_) | CheckFault::TooMany(_) | CheckFault::NoMemory => return Ok(()),
+            CheckFault::ValueExpected(_) => {
+                if is_within {
+                    let pieces = ["wait(", place.part(place.at), ")"];
+                    self.put(EditKind::Waited, (place.at, place.at), &pieces)?;
+                }
+                false
             }
-            CheckFault::ValueExpected(_) => place.process.is_some(),
-            CheckFault::WrongDirection(_) => false,
+            CheckFault::WrongKind(_) => !is_within,
+            CheckFault::ChannelExpected(_) => place.asked() != NameKind::Source,
             _ => true,
         };
-        let is_whole = place.span(0).is_some_and(|span| span.to == place.at.to);
-        if is_asked && is_whole && place.class(0) == Some(Class::Name) {
-            self.with_names(place.at, true)?;
-        }
-        match place.passed_before(side_of(self.fault)) {
-            Some(first) => self.with_names(first, true),
-            None => Ok(()),
-        }
+        self.with_swaps()?;
+        self.with_heads()?;
+        if is_named { self.with_names() } else { Ok(()) }
     }
 }
 
-/// The role that a channel has that isn't declared, by the sides for which instances hand it over.
-fn role_for(place: NetworkPlace) -> &'static str {
-    let is_read = place.passed(NameKind::Source, place.word()).is_some();
-    let is_written = place.passed(NameKind::Target, place.word()).is_some();
-    match (place.process, is_read, is_written) {
-        (Some(_), _, _) => "",
-        (None, true, false) => "input channel ",
-        (None, false, true) => "output channel ",
-        _ => "channel ",
-    }
-}
-
-/// Whether a comment has the name at a place, and a kind.
-fn is_held(place: NetworkPlace) -> bool {
-    let word = place.part(place.at);
-    let mut from = 0;
-    for lexeme in place.lexemes {
-        let to = lexeme.span.from;
-        let comment = place.part(Span { from, to });
-        let has_kind = comment.find("integer").is_some() || comment.find("logical").is_some();
-        if has_kind && comment.find(word).is_some() {
-            return true;
-        }
-        from = lexeme.span.to;
-    }
-    false
-}
-
-/// The change that leaves the fewest faults of all, and fewer than there are, of those that may be tried yet.
+/// The change that leaves the fewest faults of all, and fewer than there are, of those that may be tried yet. None of several names that leave
+/// as few; and none of a side that leaves another fault.
 pub(crate) fn change_for<'p>(
     place: NetworkPlace<'p>,
-    faults: &'p [CheckFault],
     tries: &mut usize,
     fault: CheckFault,
 ) -> Result<Option<Edit>, NoMemory> {
     if *tries == 0 {
         return Ok(None);
     }
-    let (behind, tried, best) = (faults_behind(place)?, *tries, None);
+    let (tried, best) = (*tries, None);
     let mut trial = Trial {
         place,
         fault,
-        faults,
-        behind,
         tries: tried,
-        doubt: 0,
         best,
     };
     trial.with_fault()?;
     *tries = trial.tries;
+    let is_side = matches!(fault, CheckFault::NoWriter(_) | CheckFault::NoReader(_));
     match trial.best.take() {
-        Some(change) if change.is_one_of => Ok(None),
-        Some(change)
-            if is_of_sides(fault)
-                && !change.left.is_empty()
-                && !matches!(change.way, EditKind::Near) => Ok(None),
+        Some(change) if change.is_one_of || is_side && change.left > 0 => Ok(None),
         found => Ok(found),
     }
 }

@@ -3,12 +3,16 @@
 use crate::mending::{is_same_fault, letters_at};
 use crate::place::{NetworkPlace, instance_at, side_of, text_of};
 use kahn_fault::check_span;
-use kahn_marks::MOST_NOTES;
 use kahn_streams::{CheckFault, Span};
 
 /// Whether a fault is that a channel has a second reader or writer.
 fn is_side(fault: CheckFault) -> bool {
     matches!(fault, CheckFault::TwoReaders(_) | CheckFault::TwoWriters(_))
+}
+
+/// Whether a fault is that a channel has no reader or writer.
+fn is_lack(fault: CheckFault) -> bool {
+    matches!(fault, CheckFault::NoReader(_) | CheckFault::NoWriter(_))
 }
 
 /// Where the first fault of a limit stands.
@@ -20,8 +24,8 @@ pub(crate) fn limit_of(faults: &[CheckFault]) -> usize {
     limit.unwrap_or(usize::MAX)
 }
 
-/// Whether a fault follows from another one: an instance's from one of its process, one of sides from any that isn't, and that a name isn't
-/// declared from one that has it as declared twice.
+/// Whether a fault follows from another one: an instance's from one of its process, a name that isn't declared from one that is twice, and one
+/// of sides from any that isn't.
 fn follows(
     text: &str,
     process: &[u8],
@@ -29,10 +33,9 @@ fn follows(
     fault: CheckFault,
     other: CheckFault,
 ) -> bool {
+    let is_twice = matches!(other, CheckFault::DeclaredTwice(_));
     let is_unknown = matches!(fault, CheckFault::Unknown(_));
-    let is_same = matches!(other, CheckFault::DeclaredTwice(_))
-        && (letters_at(text, other) == process
-            || is_unknown && letters_at(text, other) == letters_at(text, fault));
+    let is_same = is_twice && (is_unknown || letters_at(text, other) == process);
     let is_within = match (body, check_span(other)) {
         (Some(body), Some(span)) => body.from < span.from && span.from < body.to,
         _ => false,
@@ -40,33 +43,13 @@ fn follows(
     is_within || is_same || is_side(fault) && !is_side(other)
 }
 
-/// Where a process is named that could have the side that a fault is about, and has no instance.
-fn idle_for(place: NetworkPlace, fault: CheckFault) -> usize {
-    match (fault, check_span(fault)) {
-        (CheckFault::NoWriter(_) | CheckFault::NoReader(_), Some(span)) => {
-            let idle = place.moved_to(span).taker(side_of(fault), true);
-            idle.map_or(0, |process| process.name.span.from)
-        }
-        _ => 0,
-    }
-}
-
-/// Whether a fault of a text is held back, where others were told: of an instance one that follows from another one, and nothing twice.
-pub(crate) fn is_held(
-    place: NetworkPlace,
-    faults: &[CheckFault],
-    told: &[CheckFault],
-    fault: CheckFault,
-) -> bool {
-    let (text, tree) = (place.text, place.program);
+/// Whether a fault of a text is held back, where others were told: of an instance one that follows from another one, and nothing twice; and a
+/// channel without a side where one lacks the other side.
+pub(crate) fn is_held(place: NetworkPlace, told: &[CheckFault], fault: CheckFault) -> bool {
+    let (text, tree, faults) = (place.text, place.program, place.faults);
     let from = check_span(fault).map_or(0, |span| span.from);
     let Some(instance) = instance_at(&tree.instances, from) else {
-        if faults.len() > MOST_NOTES {
-            return false;
-        }
-        let idle = idle_for(place, fault);
-        let is_same = told.iter().any(|other| idle_for(place, *other) == idle);
-        return is_same && idle > 0;
+        return is_lack(fault) && told.iter().any(|other| side_of(*other) != side_of(fault));
     };
     let process = instance.process.text.as_bytes();
     let body = text_of(tree, process);

@@ -3,9 +3,7 @@
 #![tactic(auto)]
 
 mod changes;
-mod heads;
 mod kept;
-mod lost;
 mod mending;
 mod names;
 mod near;
@@ -13,7 +11,6 @@ mod notes;
 mod place;
 mod said;
 mod sight;
-mod trial;
 
 pub use near::one_nearest;
 

@@ -4,7 +4,7 @@ ghost use Rattle.std.specs.Prelude.{◌≡◌, ◌<◌, IfOk, IfSome, IsTrue, le
 ghost use Rattle.std.specs.List.{list_all, list_any};
 ghost use Rattle.kahn_hints.specs.Hints.{AreFaultsOf, LessensFaults, are_known, is_known, is_same_fault, letters_at};
 
-use crate::place::{NetworkPlace, is_in, word_at};
+use crate::place::{NetworkPlace, word_at};
 use kahn_check::every;
 use kahn_fault::{check_span, check_words};
 use kahn_marks::{Fix, applied};
@@ -12,7 +12,6 @@ use kahn_streams::{CheckFault, Kind, NoMemory, Span};
 use kahn_syntax::{SyntaxFault, parse};
 use std::alloc::Global;
 
-/// The letters at a fault.
 pub(crate) fn letters_at(text: &str, fault: CheckFault) -> &[u8]
     ensures { result.now ≡ letters_at text.now fault }
 {
@@ -31,7 +30,7 @@ pub(crate) fn is_same_fault(text: &str, fault: CheckFault, other: &str, found: C
 }
 
 /// Whether a fault of a changed text is one of those that were there.
-pub(crate) fn is_known(text: &str, faults: &[CheckFault], other: &str, found: CheckFault) -> bool
+fn is_known(text: &str, faults: &[CheckFault], other: &str, found: CheckFault) -> bool
     ensures { result ≡ is_known text.now faults.now other.now found }
 {
     faults
@@ -39,7 +38,6 @@ pub(crate) fn is_known(text: &str, faults: &[CheckFault], other: &str, found: Ch
         .any(|fault| is_same_fault(text, *fault, other, found))
 }
 
-/// Whether all are.
 fn are_known(text: &str, faults: &[CheckFault], other: &str, left: &[CheckFault]) -> bool
     ensures { result ≡ are_known text.now faults.now other.now left.now }
 {
@@ -48,7 +46,7 @@ fn are_known(text: &str, faults: &[CheckFault], other: &str, left: &[CheckFault]
 }
 
 /// The faults of a text, if it spells a program.
-pub(crate) fn faults_in(alloc: Global, text: &str) -> Result<Option<Vec<CheckFault>>, NoMemory>
+fn faults_in(alloc: Global, text: &str) -> Result<Option<Vec<CheckFault>>, NoMemory>
     ensures { IfOk result (λ found. IfSome found (λ fs. AreFaultsOf text.now fs.items)) }
 {
     match parse(alloc, text) {
@@ -58,31 +56,37 @@ pub(crate) fn faults_in(alloc: Global, text: &str) -> Result<Option<Vec<CheckFau
     }
 }
 
-/// Whether the faults that are left are fewer, and each was there.
-pub(crate) fn are_fewer(text: &str, faults: &[CheckFault], other: &str, left: &[CheckFault]) -> bool
+fn are_fewer(text: &str, faults: &[CheckFault], other: &str, left: &[CheckFault]) -> bool
     ensures fewer { IsTrue result → length left.now < length faults.now }
     ensures known { IsTrue result → are_known text.now faults.now other.now left.now ≡ true }
 {
     left.len() < faults.len() && are_known(text, faults, other, left)
 }
 
-/// Whether a change leaves fewer faults of a text, and none that wasn't there.
-pub(crate) fn is_mended(
+/// How many faults of a text a change leaves, if these are fewer and none wasn't there, and one isn't there any more.
+pub(crate) fn left_by(
     alloc: Global,
     text: &str,
     faults: &[CheckFault],
+    fault: CheckFault,
     fix: &Fix,
-) -> Result<bool, NoMemory>
-    ensures { IfOk result (λ is. IsTrue is → LessensFaults text.now faults.now fix.now) }
+) -> Result<Option<usize>, NoMemory>
+    ensures { IfOk result (λ left. IfSome left (λ _. LessensFaults text.now faults.now fix.now)) }
 {
     let Some(changed) = applied(alloc, text, fix)? else {
-        return Ok(false);
+        return Ok(None);
     };
     let other = changed.as_str();
-    match faults_in(alloc, other)? {
-        Some(left) => Ok(are_fewer(text, faults, other, &left)),
-        None => Ok(false),
+    let Some(left) = faults_in(alloc, other)? else {
+        return Ok(None);
+    };
+    if is_known(other, &left, text, fault) {
+        return Ok(None);
     }
+    if are_fewer(text, faults, other, &left) {
+        return Ok(Some(left.len()));
+    }
+    Ok(None)
 }
 
 /// The kind of what stands at a place where the other one is wanted: that of a channel, or logical where a number is right.
@@ -99,10 +103,10 @@ pub(crate) fn found_kind(place: NetworkPlace) -> Result<Option<Kind>, NoMemory> 
     let Some(faults) = faults_in(alloc, other.as_str())? else {
         return Ok(None);
     };
-    let to = span.from.saturating_add(2);
     for fault in &faults {
         if let CheckFault::WrongKind(at) = fault {
-            if is_in(Span { to, ..span }, *at) && at.to.saturating_sub(at.from) == 1 {
+            let (first, last) = (span.from, span.from.saturating_add(1));
+            if first <= at.from && at.from <= last && at.to.saturating_sub(at.from) == 1 {
                 return Ok(Some(Kind::Integer));
             }
         }

@@ -1,9 +1,9 @@
 //! The names of a process and of a program, by what they stand for.
 
-use crate::heads::head_before;
+use crate::changes::MOST_LEXEMES;
 use crate::place::{NetworkPlace, is_called, word_at};
 use kahn_streams::{Declaration, Direction, Kind, Name, Parameter, Process, Program, Role, Taking};
-use kahn_syntax::{Class, Keyword, Sign};
+use kahn_syntax::{Class, Sign};
 use std::alloc::{AllocError, Global};
 
 /// What a name stands for.
@@ -84,7 +84,7 @@ pub(crate) fn names_seen<'p>(
 
 /// Whether a name stands in the part of a text that sees the names at a place, elsewhere than it is declared: assigned where that at the place
 /// is, or else not. A parameter has a value.
-pub(crate) fn is_used(place: NetworkPlace, name: &Name) -> bool {
+fn is_used(place: NetworkPlace, name: &Name) -> bool {
     let (all, from) = (place.seen(), name.span.from);
     let is_assigned = place.class(1) == Some(Class::Sign(Sign::Becomes));
     let is_given = place.process.is_some_and(|process| {
@@ -99,25 +99,23 @@ pub(crate) fn is_used(place: NetworkPlace, name: &Name) -> bool {
         })
 }
 
-/// What the name that is declared at a place stands for.
-pub(crate) fn declared_kind(place: NetworkPlace) -> NameKind {
-    let last = head_before(place).last().map(|last| last.what);
-    match (place.process, place.class(-1), last) {
-        (None, Some(Class::Word(Keyword::Process)), _) => NameKind::Process,
-        (None, _, _) => NameKind::Channel,
-        (_, _, Some(Class::Word(Keyword::In))) => NameKind::Source,
-        (_, _, Some(Class::Word(Keyword::Out))) => NameKind::Target,
-        _ => NameKind::Value,
+/// Whether nothing has a name that may stand at a place: where a channel is handed over, one that may have the side and doesn't; or else a name
+/// that stands nowhere else. In a long text none is known to be free.
+pub(crate) fn is_free(place: NetworkPlace, name: &Name) -> bool {
+    if place.lexemes.len() > MOST_LEXEMES {
+        return false;
     }
-}
-
-/// How often that at a place and a name stand in a text.
-pub(crate) fn counts_of(place: NetworkPlace, name: &Name) -> (usize, usize) {
-    let (word, letters) = (place.word(), name.text.as_bytes());
-    let count_of = |word: &[u8]| {
-        let all = place.lexemes.iter();
-        all.filter(|lexeme| word_at(place.text, lexeme.span) == word)
-            .count()
+    let Some((side, kind)) = place.parameter().map(taken_by) else {
+        return !is_used(place, name);
     };
-    (count_of(word), count_of(letters))
+    let closed = match side {
+        NameKind::Source => Role::Output,
+        _ => Role::Input,
+    };
+    match place.moved_to(name.span).channel() {
+        Some((found, role)) if found == kind && role != closed => {
+            place.passed(side, name.text.as_bytes()).is_none()
+        }
+        _ => false,
+    }
 }

@@ -4,14 +4,11 @@ ghost use Rattle.std.specs.Prelude.{◌≡◌, [], All, Contains, IfOk, IfSome};
 ghost use Rattle.kahn_fault.specs.Message.{check_span};
 ghost use Rattle.kahn_hints.specs.Hints.{LessensFaults, TellsFault, TellsMore, TellsOne};
 
-use crate::changes::change_for;
+use crate::changes::{Edit, EditKind, change_for, tries_of};
 use crate::kept::{is_held, limit_of};
-use crate::mending::{are_fewer, found_kind, is_mended, is_same_fault};
+use crate::mending::{found_kind, left_by};
 use crate::place::{NetworkPlace, beginning, handed_in};
-use crate::said::{
-    add_advice, add_change, add_found, add_unsure, facts_of, is_elsewhere, others_of,
-};
-use crate::trial::{Edit, EditKind, is_of_sides, tries_of};
+use crate::said::{add_advice, add_change, add_found, facts_of, others_of};
 use kahn_fault::{check_span, check_words};
 use kahn_marks::{Fix, MOST_NOTES, Note, Other, Sort};
 use kahn_streams::{CheckFault, NoMemory, Program, Span};
@@ -48,7 +45,6 @@ fn span_of(fault: CheckFault) -> Span
 /// The words of a fault, with what is wanted and found, and what to do; and the other places that have to do with it.
 fn told_of(
     place: NetworkPlace,
-    faults: &[CheckFault],
     fault: CheckFault,
     change: &Option<Edit>,
 ) -> Result<(String, Vec<Other>), NoMemory> {
@@ -60,44 +56,18 @@ fn told_of(
     let mut words = String::from_str(place.alloc, check_words(fault))?;
     add_found(&mut words, place, fault, &facts)?;
     match change {
-        Some(change) if !is_of_sides(fault) || matches!(change.way, EditKind::Near) => {
-            add_change(&mut words, place, change)?;
-            let is_sure = are_fewer(place.text, faults, change.other.as_str(), &change.left);
-            if change.fix.span.from != place.at.from && is_elsewhere(change, place.at) && !is_sure {
-                add_unsure(&mut words, place, change)?;
-            }
-        }
-        _ => add_advice(&mut words, place, fault, &facts)?,
+        Some(change) => add_change(&mut words, place, fault, change)?,
+        None => add_advice(&mut words, place, fault, &facts)?,
     }
     Ok((words, others_of(place, fault, &facts)?))
 }
 
-/// Adds the faults that a change mends to those that are told.
-fn add_mended(
-    told: &mut Vec<CheckFault>,
-    text: &str,
-    faults: &[CheckFault],
-    change: &Option<Edit>,
-) -> Result<(), NoMemory> {
-    if let Some(change) = change {
-        let (other, left) = (change.other.as_str(), &change.left);
-        let is_sure = are_fewer(text, faults, other, left);
-        for fault in faults.iter().take(MOST_NOTES) {
-            let mut all = left.iter();
-            if is_sure && !all.any(|one| is_same_fault(text, *fault, other, *one)) {
-                told.push(*fault)?;
-            }
-        }
-    }
-    Ok(())
-}
-
-/// The change that is told apart from the words of a fault at a place.
+/// The change that is told apart from the words of a fault: that of a row of names.
 fn fix_of(
     alloc: Global,
     text: &str,
-    at: Span,
     faults: &[CheckFault],
+    fault: CheckFault,
     change: Option<Edit>,
 ) -> Result<Option<Fix>, NoMemory>
     ensures { IfOk result (λ fix. IfSome fix (LessensFaults text.now faults.now)) }
@@ -105,33 +75,30 @@ fn fix_of(
     let Some(change) = change else {
         return Ok(None);
     };
-    if is_elsewhere(&change, at) && is_mended(alloc, text, faults, &change.fix)? {
-        return Ok(Some(change.fix));
+    match left_by(alloc, text, faults, fault, &change.fix)? {
+        Some(_) if matches!(change.way, EditKind::Flip) => Ok(Some(change.fix)),
+        _ => Ok(None),
     }
-    Ok(None)
 }
 
-/// What is told of a fault at a place.
 fn found_at(
     alloc: Global,
     text: &str,
     place: NetworkPlace,
     faults: &[CheckFault],
     fault: CheckFault,
-    told: &mut Vec<CheckFault>,
     tries: &mut usize,
 ) -> Result<ToldFault, NoMemory>
     ensures { IfOk result (λ found. Contains faults.now fault → TellsFault text.now faults.now found.note fault) }
 {
-    let change = change_for(place, faults, tries, fault)?;
-    let is_whole = change.as_ref().is_some_and(|change| change.left.is_empty());
-    add_mended(told, text, faults, &change)?;
-    let (words, others) = told_of(place, faults, fault, &change)?;
+    let change = change_for(place, tries, fault)?;
+    let is_whole = change.as_ref().is_some_and(|change| change.left == 0);
+    let (words, others) = told_of(place, fault, &change)?;
     let note = Note {
         sort: Sort::Error,
         span: span_of(fault),
         words,
-        fix: fix_of(alloc, text, place.at, faults, change)?,
+        fix: fix_of(alloc, text, faults, fault, change)?,
         below: Vec::new(alloc),
         others,
     };
@@ -169,7 +136,7 @@ impl ToldNotes {
         let at = span_of(fault);
         let is_first = self.notes.is_empty();
         let is_within = at.from < self.limit;
-        if !is_first && is_within && is_held(begin, faults, &self.told, fault) {
+        if !is_first && is_within && is_held(begin, &self.told, fault) {
             return Ok(false);
         }
         self.told.push(fault)?;
@@ -178,15 +145,7 @@ impl ToldNotes {
             return Ok(false);
         }
         let place = begin.moved_to(at);
-        let found = found_at(
-            alloc,
-            text,
-            place,
-            faults,
-            fault,
-            &mut self.told,
-            &mut self.tries,
-        )?;
+        let found = found_at(alloc, text, place, faults, fault, &mut self.tries)?;
         if found.is_whole {
             self.notes.clear();
             self.notes.push(found.note)?;
@@ -213,7 +172,7 @@ pub fn fault_notes(
         return Err(NoMemory);
     };
     let handed = handed_in(alloc, program)?;
-    let begin = beginning(alloc, text, &lexemes, program, &handed);
+    let begin = beginning(alloc, text, &lexemes, program, &handed, faults);
     let notes = Vec::new(alloc);
     let told = Vec::new(alloc);
     let mut telling = ToldNotes {

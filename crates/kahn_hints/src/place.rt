@@ -4,7 +4,6 @@ ghost use Rattle.std.specs.Prelude.{◌≡◌};
 ghost use Rattle.kahn_hints.specs.Hints.{word_at};
 
 use crate::names::{NameKind, taken_by};
-use crate::trial::is_edge;
 use kahn_marks::part_of;
 use kahn_streams::{
     Argument, CheckFault, Declaration, Instance, Kind, Name, Parameter, Process, Program, Role,
@@ -26,19 +25,12 @@ pub(crate) fn word_at(text: &str, at: Span) -> &[u8]
     }
 }
 
-/// Whether a name has these letters.
 pub(crate) fn is_called(word: &[u8], name: &Name) -> bool {
     word == name.text.as_bytes()
 }
 
-/// The first of the names with these letters.
 pub(crate) fn called_first<'p>(word: &[u8], names: &[&'p Name]) -> Option<&'p Name> {
     names.iter().find(|name| is_called(word, name)).copied()
-}
-
-/// Whether a part begins within another one.
-pub(crate) fn is_in(part: Span, span: Span) -> bool {
-    part.from <= span.from && span.from < part.to
 }
 
 /// The first process that a program declares under these letters.
@@ -101,9 +93,13 @@ pub(crate) struct Handed<'p> {
 }
 
 impl<'p> Handed<'p> {
-    /// Whether it is the channel of these letters.
     pub(crate) fn is_channel(&self, word: &[u8]) -> bool {
         matches!(self.argument, Argument::Channel(name) if is_called(word, name))
+    }
+
+    /// Whether it is a value.
+    pub(crate) fn is_value(&self) -> bool {
+        !matches!(self.argument, Argument::Channel(_))
     }
 
     /// Whether a parameter takes it that stands for this.
@@ -150,6 +146,8 @@ pub(crate) struct NetworkPlace<'p> {
     pub(crate) program: &'p Program,
     /// What its instances hand over.
     pub(crate) handed: &'p [Handed<'p>],
+    /// All faults of the text.
+    pub(crate) faults: &'p [CheckFault],
     /// The part that is at fault.
     pub(crate) at: Span,
     /// How many lexemes begin before it.
@@ -158,13 +156,13 @@ pub(crate) struct NetworkPlace<'p> {
     pub(crate) process: Option<&'p Process>,
 }
 
-/// The beginning of a text.
 pub(crate) fn beginning<'p>(
     alloc: Global,
     text: &'p str,
     lexemes: &'p [Lexeme],
     program: &'p Program,
     handed: &'p [Handed<'p>],
+    faults: &'p [CheckFault],
 ) -> NetworkPlace<'p> {
     NetworkPlace {
         alloc,
@@ -172,6 +170,7 @@ pub(crate) fn beginning<'p>(
         lexemes,
         program,
         handed,
+        faults,
         at: Span { from: 0, to: 0 },
         number: 0,
         process: None,
@@ -192,66 +191,29 @@ impl<'p> NetworkPlace<'p> {
         }
     }
 
-    /// Where the process or the instance begins in which a byte stands; there where it stands in none.
-    pub(crate) fn begin_of(&self, from: usize) -> usize {
-        match process_at(self.program, from) {
-            Some(process) => process.name.span.from,
-            None => match instance_at(&self.program.instances, from) {
-                Some(instance) => instance.process.span.from,
-                None => from,
-            },
-        }
-    }
-
-    /// The same of the place.
-    pub(crate) fn begin(&self) -> usize {
-        self.begin_of(self.at.from)
-    }
-
-    /// The letters there.
     pub(crate) fn word(&self) -> &'p [u8] {
         word_at(self.text, self.at)
     }
 
-    /// What stands in a part of the text.
     pub(crate) fn part(&self, part: Span) -> &'p str {
         part_of(self.text, part)
     }
 
-    /// The lexeme so many behind the place.
     fn lexeme(&self, behind: isize) -> Option<&'p Lexeme> {
         self.lexemes.get(self.number.checked_add_signed(behind)?)
     }
 
-    /// Where it stands.
     pub(crate) fn span(&self, behind: isize) -> Option<Span> {
         Some(self.lexeme(behind)?.span)
     }
 
-    /// What it is.
     pub(crate) fn class(&self, behind: isize) -> Option<Class> {
         Some(self.lexeme(behind)?.what)
-    }
-
-    /// Whether the lexeme so many behind the place stands between statements.
-    pub(crate) fn is_last(&self, behind: isize) -> bool {
-        self.lexeme(behind).is_some_and(is_edge)
-    }
-
-    /// Where the second lexeme behind the place stands, or before it, if the first one is this sign.
-    pub(crate) fn beyond(&self, sign: Sign, behind: isize) -> Option<Span> {
-        let second = self.span(behind.saturating_mul(2));
-        second.filter(|_| self.class(behind) == Some(Class::Sign(sign)))
     }
 
     /// The instance in whose text it stands.
     pub(crate) fn instance(&self) -> Option<&'p Instance> {
         instance_at(&self.program.instances, self.at.from)
-    }
-
-    /// The process of that instance.
-    pub(crate) fn made(&self) -> Option<&'p Process> {
-        process_called(self.program, self.instance()?.process.text.as_bytes())
     }
 
     /// The first process of its letters.
@@ -261,25 +223,23 @@ impl<'p> NetworkPlace<'p> {
 
     /// The kind of the first channel of its letters, and what the outside has to do with it.
     pub(crate) fn channel(&self) -> Option<(Kind, Role)> {
-        channel_called(self.program, self.word())
+        let mut all = self.program.declarations.iter();
+        all.find_map(|declaration| match declaration {
+            Declaration::Channels(kind, role, names)
+                if names.iter().any(|name| is_called(self.word(), name)) => Some((*kind, *role)),
+            _ => None,
+        })
     }
 
-    /// What the instance in whose text a byte stands hands over.
-    pub(crate) fn handed_at(&self, from: usize) -> &'p [Handed<'p>] {
-        let Some(instance) = instance_at(&self.program.instances, from) else {
+    /// What the instance in whose text it stands hands over.
+    pub(crate) fn handed_there(&self) -> &'p [Handed<'p>] {
+        let Some(instance) = self.instance() else {
             return &[];
         };
         let begin = instance.process.span.from;
         let first = self.handed.partition_point(|one| one.span.from < begin);
         let rest = self.handed.get(first..).unwrap_or(&[]);
         rest.get(..instance.arguments.len()).unwrap_or(&[])
-    }
-
-    /// The instance that begins there, up to its last argument.
-    pub(crate) fn whole(&self, begin: Span) -> &'p str {
-        let last = self.handed_at(begin.from).last();
-        let to = last.map_or(begin.to, |last| last.span.to);
-        self.part(Span { to, ..begin })
     }
 
     /// Where a channel is handed over first for such a parameter.
@@ -289,55 +249,10 @@ impl<'p> NetworkPlace<'p> {
         Some(one.span)
     }
 
-    /// Whether another instance than the one at the place hands over a channel for such a parameter.
-    pub(crate) fn is_had(&self, side: NameKind, word: &[u8]) -> bool {
-        let own = self.instance().map_or(0, |one| one.process.span.from);
-        let mut all = self.handed.iter();
-        all.any(|one| one.process.span.from != own && one.is_for(side) && one.is_channel(word))
-    }
-
     /// Where the channel at the place is handed over first, if not there.
     pub(crate) fn passed_before(&self, side: NameKind) -> Option<Span> {
         let first = self.passed(side, self.word())?;
         Some(first).filter(|first| first.from != self.at.from)
-    }
-
-    /// How doubtful it is that a name stands at a part of the text for a side: three if its channel would go from an instance to the same, or to
-    /// one before it; as many if that at the place, which has the side too, then goes so, and one if the two don't stand as they are declared.
-    pub(crate) fn doubt_of(&self, at: Span, side: NameKind, name: &Name, is_first: bool) -> usize {
-        let old = match side {
-            NameKind::Source | NameKind::Target if at == self.at => self.passed_before(side),
-            NameKind::Source | NameKind::Target => Some(self.at),
-            _ => return 0,
-        };
-        let (is_back, is_turned) = match old {
-            Some(old) => (
-                self.is_backward(old, side, self.word()),
-                (old.from < at.from) != is_first,
-            ),
-            None => (false, false),
-        };
-        let is_new_back = self.is_backward(at, side, name.text.as_bytes());
-        let mut doubt = 0_usize;
-        for (is_less, by) in [(is_new_back, 3), (is_back, 3), (is_turned, 1)] {
-            doubt = doubt.saturating_add(if is_less { by } else { 0 });
-        }
-        doubt
-    }
-
-    /// Whether a channel that has this side at a place goes from an instance to the same, or to one before it.
-    fn is_backward(&self, at: Span, side: NameKind, word: &[u8]) -> bool {
-        let is_written = side == NameKind::Target;
-        let other = if is_written {
-            NameKind::Source
-        } else {
-            NameKind::Target
-        };
-        let Some(beyond) = self.passed(other, word) else {
-            return false;
-        };
-        let (own, beyond) = (self.begin_of(at.from), self.begin_of(beyond.from));
-        own == beyond || is_written == (beyond < own)
     }
 
     /// The parameter that takes what stands at the place.
@@ -366,18 +281,22 @@ impl<'p> NetworkPlace<'p> {
         Some(&one.parameter?.name)
     }
 
-    /// The first process that takes the channel of its letters so: one without an instance, or one that has some and takes no other channel.
-    pub(crate) fn taker(&self, side: NameKind, is_idle: bool) -> Option<&'p Process> {
+    /// Whether an instance of its process hands over more than that has parameters.
+    pub(crate) fn is_short(&self) -> bool {
+        let (mut all, name) = (self.handed.iter(), self.name().as_bytes());
+        all.any(|one| one.parameter.is_none() && is_called(name, one.process))
+    }
+
+    /// The first process without an instance that takes the channel of its letters so.
+    pub(crate) fn taker(&self, side: NameKind) -> Option<&'p Process> {
         let wanted = (side, self.channel()?.0);
         for declaration in &self.program.declarations {
             if let Declaration::Process(process) = declaration {
-                let mut all = process.parameters.iter().map(taken_by);
-                let mut others = process.parameters.iter().map(taken_by);
-                let is_other = |taken: (NameKind, Kind)| taken.0 != NameKind::Value
-                    && taken != wanted;
-                let is_meant = all.any(|taken| taken == wanted)
-                    && (is_idle || !others.any(is_other));
-                if is_meant && instance_of(self.program, process).is_none() == is_idle {
+                let (mut all, name) = (process.parameters.iter(), process.name.text.as_bytes());
+                let mut made = self.program.instances.iter();
+                if all.any(|parameter| taken_by(parameter) == wanted)
+                    && !made.any(|instance| is_called(name, &instance.process))
+                {
                     return Some(process);
                 }
             }
@@ -393,20 +312,15 @@ impl<'p> NetworkPlace<'p> {
         }
     }
 
-    /// The lexemes of the process of these letters, or of the whole text where there is none.
-    pub(crate) fn text_in(&self, word: &[u8]) -> &'p [Lexeme] {
+    /// The lexemes of the part that sees the names at the place: a process, or the whole text.
+    pub(crate) fn seen(&self) -> &'p [Lexeme] {
         let lexemes = self.lexemes;
-        let Some(part) = text_of(self.program, word) else {
+        let Some(part) = text_of(self.program, self.name().as_bytes()) else {
             return lexemes;
         };
         let from = lexemes.partition_point(|lexeme| lexeme.span.from < part.from);
         let to = lexemes.partition_point(|lexeme| lexeme.span.from < part.to);
         lexemes.get(from..to).unwrap_or(&[])
-    }
-
-    /// The lexemes of the part that sees the names at the place: a process, or the whole text.
-    pub(crate) fn seen(&self) -> &'p [Lexeme] {
-        self.text_in(self.name().as_bytes())
     }
 
     /// What the names stand for that may stand at the place.
@@ -420,25 +334,6 @@ impl<'p> NetworkPlace<'p> {
             _ => NameKind::Value,
         }
     }
-}
-
-/// The kind of the channel that a program declares under these letters, and what the outside has to do with it.
-pub(crate) fn channel_called(program: &Program, word: &[u8]) -> Option<(Kind, Role)> {
-    for declaration in &program.declarations {
-        if let Declaration::Channels(kind, role, names) = declaration {
-            if names.iter().any(|name| is_called(word, name)) {
-                return Some((*kind, *role));
-            }
-        }
-    }
-    None
-}
-
-/// The first instance of a process.
-pub(crate) fn instance_of<'p>(program: &'p Program, process: &Process) -> Option<&'p Instance> {
-    let name = process.name.text.as_bytes();
-    let mut all = program.instances.iter();
-    all.find(|instance| is_called(name, &instance.process))
 }
 
 /// The side of a channel that a fault is about, if it is about one.

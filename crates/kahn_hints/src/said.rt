@@ -1,23 +1,19 @@
 //! The words behind those of a fault, by what is known of its place: what is wanted, what is found, and what to do; and another place.
 
-use crate::lost::{arranged, longer_of};
-use crate::names::{NameKind, names_asked, names_seen, taken_by};
+use crate::changes::{Edit, EditKind};
+use crate::names::{NameKind, is_free, names_asked, names_seen, taken_by};
 use crate::near::nearest;
-use crate::place::{NetworkPlace, called_first, is_called, is_in, side_of};
+use crate::place::{NetworkPlace, called_first, is_called, side_of};
 use crate::sight::add_near;
-use crate::trial::{Edit, EditKind};
 use itoa::Buffer;
-use kahn_fault::check_words;
+use kahn_fault::{check_span, check_words};
 use kahn_marks::{Other, add, add_spot};
-use kahn_streams::{CheckFault, Instance, Kind, Process, Role, Span};
+use kahn_streams::{CheckFault, Kind, Role, Span};
 use kahn_syntax::{Class, Keyword, Sign};
 use std::alloc::AllocError;
 
 /// Whether memory was there for adding words.
 pub(crate) type Added = Result<(), AllocError>;
-
-/// How many bytes of an expression stand in a sentence at most.
-const MOST_SHOWN: usize = 40;
 
 /// What is wanted, and what is found: of a fault, the first row of which all facts hold.
 const FOUND: &str = "
@@ -38,6 +34,7 @@ limit is exceeded | - | ; a program has at most 1024 channels and 256 instances
 /// What to do: `#` is what stands at the place, `@` a process.
 const ADVICE: &str = "
 kind does not agree | body conditional | 
+kind does not agree | integer body number | ; truth values are `true` and `false`
 kind does not agree | integer body | ; compare it, as in `# <> 0` or `# = 0`
 kind does not agree | logical body compared | ; a comparison gives a truth value
 kind does not agree | logical body | ; truth values have `and`, `or`, `not`, `=` and `<>`
@@ -52,7 +49,10 @@ name is not declared | channel target integer | ; add `integer out #` to the par
 name is not declared | channel target logical | ; add `logical out #` to the parameters of `@`, and hand `#` to it
 name is not declared | channel body integer | ; add `integer in #` to the parameters of `@`, and hand `#` to it
 name is not declared | channel body logical | ; add `logical in #` to the parameters of `@`, and hand `#` to it
-name is not declared | body value long | ; a constant from outside is a value parameter
+name is not declared | body short | ; `@` has fewer parameters than an instance has arguments
+name is not declared | assigned | ; is a declaration such as `integer #;` missing after `begin`?
+name is not declared | wants-channel | ; is a declaration such as `integer channel #;` missing?
+a channel is expected | body source | ; a value is read without `wait`
 name is declared twice | channel is-process | ; channels and processes share one name space: give one of them another name
 channel has two writers | - | ; give each writer a channel of its own, and join these in a process, as in examples/merge.kahn
 channel has two readers | - | ; let a process take from it and send each value on a channel for each reader
@@ -61,7 +61,6 @@ channel has no reader | idle | ; `@` has no instance, and could read it
 channel has no writer | inner unread | ; it is handed to no process: leave its declaration out
 channel has no writer | inner | ; hand it to an `out` parameter, or declare it `input` where its values come from outside
 channel has no writer | - | ; hand it to an `out` parameter
-channel has no reader | inner sink | ; hand it to one more instance of `@`, or declare it `output` where its values are to be reported
 channel has no reader | inner | ; hand it to an `in` parameter, or declare it `output` where its values are to be reported
 channel has no reader | - | ; hand it to an `in` parameter, or leave its declaration out
 ";
@@ -71,8 +70,10 @@ const ELSEWHERE: &str = "
 name is declared twice | - | declared here first
 name is not declared | body | declared here, outside of the process, which sees its own names alone
 name is not declared | - | declared here as a channel, and not as a process
-channel has no writer | - | this process has no instance
-channel has no reader | - | this process has no instance
+channel has no writer | idle | this process has no instance
+channel has no reader | idle | this process has no instance
+channel has no writer | - | this one has no reader
+channel has no reader | - | this one has no writer
 channel has two writers | passed | handed over here first, to be written
 channel has two readers | passed | handed over here first, to be read
 channel has two writers | - | declared here as an input, which is written from outside: without `input` a process writes it
@@ -80,9 +81,6 @@ channel has two readers | - | declared here as an output, which is read from out
 a channel is expected | named | declared here
 a channel is expected | - | its parameter is declared here
 ";
-
-/// A fact that always holds.
-const ALWAYS: &str = "-";
 
 /// The sentence of the first row of a fault of which all facts hold.
 fn sentence_of(table: &'static str, fault: CheckFault, facts: &[&str]) -> Option<&'static str> {
@@ -97,7 +95,6 @@ fn sentence_of(table: &'static str, fault: CheckFault, facts: &[&str]) -> Option
     None
 }
 
-/// What is known of the place of a fault; of one of kinds, which was found.
 pub(crate) fn facts_of(
     place: NetworkPlace,
     fault: CheckFault,
@@ -110,27 +107,28 @@ pub(crate) fn facts_of(
     let (own, next) = (place.class(0), place.class(1));
     let mut facts = Vec::new(place.alloc);
     for (holds, fact) in [
-        (true, ALWAYS),
+        (true, "-"),
         (place.process.is_some(), "body"),
         (place.process.is_none(), "outside"),
         (channel.is_some(), "channel"),
         (matches!(channel, Some((_, Role::Inner))), "inner"),
         (place.called().is_some(), "is-process"),
         (own == Some(Class::Name), "named"),
+        (matches!(own, Some(Class::Number(_))), "number"),
         (kind == Some(Kind::Integer), "integer"),
         (kind == Some(Kind::Logical), "logical"),
         (asked == NameKind::Process, "wants-process"),
+        (asked == NameKind::Channel, "wants-channel"),
         (asked == NameKind::Source, "source"),
         (asked == NameKind::Target, "target"),
         (asked == NameKind::Value, "value"),
         (next == Some(Class::Sign(Sign::Becomes)), "assigned"),
-        (word.len() > 1, "long"),
         (own == Some(Class::Word(Keyword::If)), "conditional"),
         (word.iter().any(|byte| b"<=>".contains(byte)), "compared"),
         (parameter == Some(NameKind::Source), "from-channel"),
         (parameter == Some(NameKind::Target), "to-channel"),
-        (place.taker(side, true).is_some(), "idle"),
-        (place.taker(side, false).is_some(), "sink"),
+        (place.is_short(), "short"),
+        (place.taker(side).is_some(), "idle"),
         (place.passed(NameKind::Source, word).is_none(), "unread"),
         (place.passed_before(side).is_some(), "passed"),
     ] {
@@ -141,39 +139,24 @@ pub(crate) fn facts_of(
     Ok(facts)
 }
 
-/// Adds how many parameters a process has and how many arguments an instance, each behind some words.
-fn add_numbers(words: &mut String, lead: (&str, &str), of: &Process, one: &Instance) -> Added {
-    let (mut first, mut second) = (Buffer::new(), Buffer::new());
-    add(words, &[lead.0, first.format(of.parameters.len())])?;
-    add(words, &[lead.1, second.format(one.arguments.len())])
-}
-
-/// Adds how many arguments are wanted and found at an instance, and which of two parameters at most has none.
+/// Adds how many arguments are wanted and found at an instance, and which value is missing, if some are.
 fn add_counts(words: &mut String, place: NetworkPlace) -> Added {
-    let (Some(process), Some(instance)) = (place.called(), place.instance()) else {
+    let (Some(process), handed) = (place.called(), place.handed_there()) else {
         return Ok(());
     };
-    add_numbers(words, (": wanted ", ", found "), process, instance)?;
-    let handed = place.handed_at(place.at.from);
-    let parameters = &process.parameters;
-    let given = arranged(place, parameters, handed, true)?;
-    if handed.len() >= parameters.len() {
-        return Ok(());
-    }
-    for word in &given {
-        if !handed.iter().any(|one| place.part(one.span) == *word) {
-            return add(words, &["; is `", word, "` missing?"]);
-        }
-    }
-    match parameters.get(given.len()) {
-        Some(one) if taken_by(one).0 == NameKind::Value => {
-            add(words, &["; `", one.name.text.as_str(), "` is missing"])
-        }
+    let (wanted, found) = (process.parameters.len(), handed.len());
+    let (mut first, mut second) = (Buffer::new(), Buffer::new());
+    add(words, &[": wanted ", first.format(wanted)])?;
+    add(words, &[", found ", second.format(found)])?;
+    let given = handed.iter().filter(|one| one.is_value()).count();
+    let all = process.parameters.iter();
+    let mut values = all.filter(|one| taken_by(one).0 == NameKind::Value);
+    match values.nth(given) {
+        Some(one) if found < wanted => add(words, &["; `", one.name.text.as_str(), "` is missing"]),
         _ => Ok(()),
     }
 }
 
-/// Adds what is wanted and what is found.
 pub(crate) fn add_found(
     words: &mut String,
     place: NetworkPlace,
@@ -186,54 +169,46 @@ pub(crate) fn add_found(
     }
 }
 
-/// What stands at a place, where a sentence has room for it.
+/// What stands at a place, where it is on one line.
 fn shown<'p>(place: NetworkPlace<'p>) -> &'p str {
     let whole = place.part(place.at);
-    let is_alone = matches!(place.span(0), Some(span) if span.to == place.at.to);
-    let is_long = whole.len() > MOST_SHOWN && !is_alone;
-    let is_if = place.class(0) == Some(Class::Word(Keyword::If));
-    if is_if || is_long || whole.find("\n").is_some() {
+    if whole.find("\n").is_some() {
         "E"
     } else {
         whole
     }
 }
 
-/// Adds which name was perhaps meant: the nearest of those that may stand there, unless it is the very name, declared a second time; or
-/// else how it can be one of them, or the first five of them, each once.
+/// Adds which name was perhaps meant: the nearest of those that nothing has, or of all, or the only one that nothing has, unless it is the very
+/// name, declared a second time; or else the first five of all, and what to do.
 fn add_unknown(words: &mut String, place: NetworkPlace, advice: &str) -> Added {
-    if let Some((process, instance)) = longer_of(place) {
-        add(words, &["; `", process.name.text.as_str()])?;
-        let lead = "` has fewer parameters than an instance has arguments: ";
-        return add_numbers(words, (lead, " and "), process, instance);
-    }
     if let Some(name) = place.parameter_for().filter(|_| !advice.is_empty()) {
         let its = name.text.as_str();
         return add(words, &["; `", place.name(), "` has it as `", its, "`"]);
     }
-    let names = names_asked(place)?;
-    let near = nearest(place.word(), &names);
-    let is_own = near.is_some_and(|name| is_called(place.word(), name));
-    let is_listed = place.process.is_none() || place.channel().is_none();
-    if !is_own && (is_listed || near.is_some()) {
-        add_near(words, place.word(), "; in sight: ", &names)?;
+    let (names, mut free) = (names_asked(place)?, Vec::new(place.alloc));
+    for name in &names {
+        if is_free(place, name) {
+            free.push(*name)?;
+        }
     }
-    match near {
-        None => add_filled(words, place, advice, place.name()),
-        Some(_) => Ok(()),
+    let near = nearest(place.word(), &free).or(nearest(place.word(), &names));
+    let only = match free.as_slice() {
+        [only] if !place.is_short() => Some(*only),
+        _ => None,
+    };
+    match near.or(only) {
+        Some(name) if is_called(place.word(), name) => Ok(()),
+        Some(name) => add(words, &["; did you mean `", name.text.as_str(), "`?"]),
+        None => {
+            if place.process.is_none() || place.channel().is_none() {
+                add_near(words, place.word(), "; in sight: ", &names)?;
+            }
+            add_filled(words, place, advice, place.name())
+        }
     }
 }
 
-/// The first instance that begins as the one at a place does and hands over the same, if it isn't that one.
-fn alike_before(place: NetworkPlace) -> Option<Span> {
-    let at = place.instance()?.process.span;
-    let whole = place.whole(at);
-    let mut all = place.program.instances.iter();
-    let first = all.find(|one| place.whole(one.process.span) == whole)?;
-    Some(first.process.span).filter(|first| first.from < at.from)
-}
-
-/// Adds a sentence.
 fn add_filled(words: &mut String, place: NetworkPlace, sentence: &str, process: &str) -> Added {
     for (number, piece) in sentence.split("#").enumerate() {
         words.push_str(if number == 0 { "" } else { shown(place) })?;
@@ -256,21 +231,24 @@ pub(crate) fn add_advice(
     facts: &[&str],
 ) -> Added {
     let sentence = sentence_of(ADVICE, fault, facts).unwrap_or("");
-    let first = match fault {
-        CheckFault::TwoWriters(_) | CheckFault::TwoReaders(_) => alike_before(place),
-        CheckFault::Unknown(_) | CheckFault::WrongDirection(_) => {
-            return add_unknown(words, place, sentence);
-        }
-        _ => None,
+    let is_named = match fault {
+        CheckFault::Unknown(_) | CheckFault::WrongDirection(_) => true,
+        CheckFault::ChannelExpected(_) => place.process.is_some(),
+        _ => false,
     };
-    if let Some(first) = first {
-        let lead = "; this instance is the same as the one at ";
-        return add_spot(words, lead, place.text, first.from);
+    if is_named {
+        return add_unknown(words, place, sentence);
     }
-    let side = side_of(fault);
-    let taker = place.taker(side, true).or(place.taker(side, false));
+    let taker = place.taker(side_of(fault));
     let process = taker.map_or("", |taker| taker.name.text.as_str());
     add_filled(words, place, sentence, process)
+}
+
+/// The first channel that lacks the other side than one does.
+fn lacking(place: NetworkPlace, fault: CheckFault) -> Option<Span> {
+    let side = side_of(fault);
+    let mut others = place.faults.iter().filter(|other| side_of(**other) != side);
+    check_span(*others.next()?)
 }
 
 /// The other place that has to do with a fault, if there is one: a process that could have the side, where the channel is handed over first,
@@ -289,7 +267,8 @@ pub(crate) fn others_of(
     let declared = called_first(place.word(), &names);
     let second = match fault {
         CheckFault::NoWriter(_) | CheckFault::NoReader(_) => {
-            place.taker(side, true).map(|process| process.name.span)
+            let taker = place.taker(side).map(|process| process.name.span);
+            taker.or(lacking(place, fault))
         }
         CheckFault::TooMany(_) | CheckFault::NoMemory => None,
         CheckFault::ChannelExpected(_) if declared.is_none() => {
@@ -305,44 +284,35 @@ pub(crate) fn others_of(
     Ok(others)
 }
 
-/// Whether a change is told apart from the words of a fault at a place: it is made elsewhere.
-pub(crate) fn is_elsewhere(change: &Edit, at: Span) -> bool {
-    match change.way {
-        EditKind::Near | EditKind::Tied | EditKind::Literal | EditKind::Unused | EditKind::Used => {
-            change.fix.span != at
-        }
-        EditKind::Swap => false,
-        _ => true,
-    }
-}
-
 /// Adds a change to the words of a fault, unless it is made elsewhere.
-pub(crate) fn add_change(words: &mut String, place: NetworkPlace, change: &Edit) -> Added {
+pub(crate) fn add_change(
+    words: &mut String,
+    place: NetworkPlace,
+    fault: CheckFault,
+    change: &Edit,
+) -> Added {
     let (first, last) = (place.part(change.parts.0), place.part(change.parts.1));
     let put = change.fix.put.as_str();
-    match change.way {
-        EditKind::Renamed => add(words, &["; nothing uses `", first, "`"]),
-        EditKind::Swap => {
+    match (change.way, side_of(fault)) {
+        (EditKind::Flip, _) => Ok(()),
+        (EditKind::Swap, _) => {
             add(words, &["; are `", first, "` and `", last])?;
             words.push_str("` interchanged?")
         }
-        EditKind::Waited => add(words, &["; its next value is `", put, "`"]),
-        EditKind::Tied => add(words, &["; did you mean `", put, "`? nothing uses it"]),
-        EditKind::Handed => add(words, &["; `", place.name(), "` has it as `", put, "`"]),
-        _ if is_elsewhere(change, place.at) => Ok(()),
+        (EditKind::Lost, _) => {
+            let (one, other) = put.split_once(", ").unwrap_or((put, ""));
+            add(
+                words,
+                &[
+                    "; is `",
+                    if one == first { other } else { one },
+                    "` missing?",
+                ],
+            )
+        }
+        (EditKind::Waited, _) => add(words, &["; its next value is `", put, "`"]),
+        (_, NameKind::Source) => add(words, &["; nothing reads `", put, "`"]),
+        (_, NameKind::Target) => add(words, &["; nothing writes `", put, "`"]),
         _ => add(words, &["; did you mean `", put, "`?"]),
     }
-}
-
-/// Adds a change that is made elsewhere, and may leave a fault that wasn't looked for.
-pub(crate) fn add_unsure(words: &mut String, place: NetworkPlace, change: &Edit) -> Added {
-    let (old, put) = (place.part(change.fix.span), change.fix.put.as_str());
-    if put.is_empty() {
-        add(words, &["; remove `", old, "`"])?;
-    } else if old.is_empty() {
-        add(words, &["; insert `", put, "`"])?;
-    } else {
-        add(words, &["; replace `", old, "` with `", put, "`"])?;
-    }
-    add_spot(words, " at ", place.text, change.fix.span.from)
 }

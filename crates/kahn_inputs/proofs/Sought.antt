@@ -1,36 +1,57 @@
 -- The lines before the one that is looked for, one after another.
-use Rattle.kahn_inputs.proofs.Common.{◌≡◌, inl, inr, ℕ, ◌+◌, ◌≤◌, List, [], ◌∷◌, ◌++◌, length, take, arith, subst, sym, length_push, Entry, AreBlanks, AreEntries, IsEntry, content, IsNotSought, IsLineKind, entries_in, Blank, NoHead, NoValues}
-use Rattle.kahn_inputs.specs.declared.seeking.LineKind.{LineKind}
-use Rattle.kahn_inputs.specs.declared.seeking.LineKind.TheVariants as kind
+use Rattle.kahn_inputs.proofs.Common.{◌≡◌, ◌∙◌, inl, inr, ◌⊎◌, ℕ, suc, ◌+◌, ◌<◌, Bool, true, false, List, [], ◌∷◌, ◌++◌, length, ap, arith, refl, subst, length_push, Entry, AreBlanks, AreEntries, HasHead, IsEntry, content, CountsAs, CountTo}
 
-with_entry : (xs : List (List ℕ)) (line : List ℕ) (es : List Entry) (e : Entry) → AreEntries xs es → IsEntry (content line) e → AreEntries (xs ++ (line ∷ [])) (es ++ (e ∷ []))
-with_entry [] line [] e h is = inr (is, tt)
-with_entry [] line (f ∷ es) e h is = absurd h
-with_entry (x ∷ xs) line [] e h is = inl (h.0, with_entry xs line [] e h.1 is)
-with_entry (x ∷ xs) line (f ∷ es) e (inl h) is = inl (h.0, with_entry xs line (f ∷ es) e h.1 is)
-with_entry (x ∷ xs) line (f ∷ es) e (inr h) is = inr (h.0, with_entry xs line es e h.1 is)
+rest_blank : (xs ys : List ℕ) → AreBlanks (xs ++ ys) → AreBlanks ys
+rest_blank [] ys h = h
+rest_blank (x ∷ xs) ys h = rest_blank xs ys (λ k d below. h (suc k) d (omega (arith, below)))
 
-with_blank : (xs : List (List ℕ)) (line : List ℕ) (es : List Entry) → AreEntries xs es → AreBlanks (content line) → AreEntries (xs ++ (line ∷ [])) es
-with_blank [] line [] h blank = (blank, tt)
-with_blank [] line (f ∷ es) h blank = absurd h
-with_blank (x ∷ xs) line [] h blank = (h.0, with_blank xs line [] h.1 blank)
-with_blank (x ∷ xs) line (f ∷ es) (inl h) blank = inl (h.0, with_blank xs line (f ∷ es) h.1 blank)
-with_blank (x ∷ xs) line (f ∷ es) (inr h) blank = inr (h.0, with_blank xs line es h.1 blank)
+no_colon : (rest : List ℕ) → AreBlanks (58 ∷ rest) → ⊥
+no_colon rest h = never (h 0 0 (omega arith))
+  where
+    never : false ≡ true → ⊥
+    never e = cc
 
--- a line that is passed adds its entry, where it is one
-pub one_on : (lines : List (List ℕ)) (k m : ℕ) (line : List ℕ) → take m lines ≡ take k lines ++ (line ∷ []) → (s : LineKind) → IsLineKind (content line) s → (n number : ℕ) → IsNotSought s n number
-    → (es : List Entry) × AreEntries (take k lines) es × (length es ≡ n) → (fs : List Entry) × AreEntries (take m lines) fs × (length fs ≡ n + entries_in s)
-one_on lines k m line more Blank is n number passed (es, h, len) =
-    (es, subst (λ l. AreEntries l es) (sym more) (with_blank (take k lines) line es h is), omega (arith, len))
-one_on lines k m line more kind.Entry (e, is) n number passed (es, h, len) =
-    let longer = length_push es e in
-    (es ++ (e ∷ []), subst (λ l. AreEntries l (es ++ (e ∷ []))) (sym more) (with_entry (take k lines) line es e h is), omega (arith, len, longer))
-one_on lines k m line more NoHead is n number passed count = absurd passed
-one_on lines k m line more NoValues is n number passed count = absurd passed
+no_head : (line name rest : List ℕ) → AreBlanks line → HasHead line name rest → ⊥
+no_head line name rest blank (before, between, whole, blanks, named, more) =
+    no_colon rest (rest_blank between (58 ∷ rest) (rest_blank name (between ++ (58 ∷ rest)) (rest_blank before (name ++ (between ++ (58 ∷ rest))) (subst AreBlanks whole blank))))
 
--- and there are no more than are looked for
-pub still : (s : LineKind) (n number : ℕ) → IsNotSought s n number → n ≤ number → n + entries_in s ≤ number
-still Blank n number passed few = omega (arith, few)
-still kind.Entry n number passed few = omega (arith, few, passed)
-still NoHead n number passed few = absurd passed
-still NoValues n number passed few = absurd passed
+-- entries of lines, of which the last is blank or spells the last of them
+abbrev Parted : List (List ℕ) → List ℕ → List Entry → Type 0
+Parted xs line es =
+    (AreBlanks (content line) × AreEntries xs es) ⊎ ((fs : List Entry) × (e : Entry) × IsEntry (content line) e × AreEntries xs fs × (length es ≡ length fs + 1))
+
+past_blank : (x : List ℕ) (xs : List (List ℕ)) (line : List ℕ) (es : List Entry) → AreBlanks (content x) → Parted xs line es → Parted (x ∷ xs) line es
+past_blank x xs line [] blank (inl h) = inl (h.0, (blank, h.1))
+past_blank x xs line (e ∷ es) blank (inl h) = inl (h.0, inl (blank, h.1))
+past_blank x xs line es blank (inr ([], e, is, h, len)) = inr ([], e, is, (blank, h), len)
+past_blank x xs line es blank (inr (f ∷ fs, e, is, h, len)) = inr (f ∷ fs, e, is, inl (blank, h), len)
+
+past_entry : (x : List ℕ) (xs : List (List ℕ)) (line : List ℕ) (e : Entry) (es : List Entry) → IsEntry (content x) e → Parted xs line es → Parted (x ∷ xs) line (e ∷ es)
+past_entry x xs line e es is (inl h) = inl (h.0, inr (is, h.1))
+past_entry x xs line e es is (inr (fs, f, last, h, len)) = inr (e ∷ fs, f, last, inr (is, h), omega (arith, len))
+
+parted : (xs : List (List ℕ)) (line : List ℕ) (es : List Entry) → AreEntries (xs ++ (line ∷ [])) es → Parted xs line es
+parted [] line [] h = inl (h.0, tt)
+parted [] line (e ∷ es) (inl h) = absurd h.1
+parted [] line (e ∷ []) (inr h) = inr ([], e, h.0, tt, refl)
+parted [] line (e ∷ (f ∷ es)) (inr h) = absurd h.1
+parted (x ∷ xs) line [] h = past_blank x xs line [] h.0 (parted xs line [] h.1)
+parted (x ∷ xs) line (e ∷ es) (inl h) = past_blank x xs line (e ∷ es) h.0 (parted xs line (e ∷ es) h.1)
+parted (x ∷ xs) line (e ∷ es) (inr h) = past_entry x xs line e es h.0 (parted xs line es h.1)
+
+counted : (xs : List (List ℕ)) (line : List ℕ) (a n : ℕ) → CountsAs true (content line) a → CountTo true xs n → (es : List Entry) → Parted xs line es → length es ≡ n + a
+counted xs line a n (inl (none, blank)) count es (inl h) = let is = count es h.1 in omega (arith, is, none)
+counted xs line a n (inl (none, blank)) count es (inr (fs, e, (rest, head, values), h, len)) = absurd (no_head (content line) e.0 rest blank head)
+counted xs line a n (inr (one, dark)) count es (inl h) = absurd (dark h.0)
+counted xs line a n (inr (one, dark)) count es (inr (fs, e, is, h, len)) = let before = count fs h in omega (arith, before, one, len)
+
+-- a line adds how much it counts
+pub one_on : (entries : Bool) (xs ys : List (List ℕ)) (line : List ℕ) (a n : ℕ) → ys ≡ xs ++ (line ∷ []) → CountsAs entries (content line) a → CountTo entries xs n → CountTo entries ys (n + a)
+one_on true xs ys line a n more is count = λ es h. counted xs line a n is count es (parted xs line es (subst (λ l. AreEntries l es) more h))
+one_on false xs ys line a n more is count = let longer = ap length more ∙ length_push xs line in omega (arith, longer, is, count)
+
+-- one that counts more than are left counts as one, and none are left
+pub reached : (entries : Bool) (line : List ℕ) (a left : ℕ) → CountsAs entries line a → left < a → (a ≡ 1) × (left ≡ 0)
+reached true line a left (inl (none, blank)) less = absurd (omega (arith, none, less))
+reached true line a left (inr (one, dark)) less = (one, omega (arith, one, less))
+reached false line a left one less = (one, omega (arith, one, less))

@@ -1,9 +1,8 @@
 -- Believed. Where the words of a line of an input text stand, and which of them is at fault.
-use Rattle.std.specs.Prelude.{◌≡◌, ◌⊎◌, ◌+◌, ◌-◌, ◌<◌, ℕ, Bool, false, List, [], ◌∷◌, ◌++◌, All, Option, Some, None, drop, if◌then◌else◌, length, nat_lt, not, slice_get, slice_range}
+use Rattle.std.specs.Prelude.{◌≡◌, ◌⊎◌, ◌+◌, ◌-◌, ◌<◌, ℕ, Bool, false, List, [], ◌∷◌, ◌++◌, All, Option, Some, None, drop, if◌then◌else◌, length, min, nat_lt, not, slice_get, slice_range}
 use Rattle.std.specs.{List.position_or_len, List.slice_split, Char.is_ascii_alphabetic}
 use Rattle.kahn_streams.specs.{declared.span.Span.Span, declared.tree.Kind.Kind, declared.value.Value.Value, Inputs.kind_of_value}
 use Rattle.kahn_texts.specs.Formats.{IsValue, is_blank, is_word_byte, most_name_bytes}
-use Rattle.kahn_inputs.specs.{declared.fitting.Lack.Lack, declared.fitting.Lack.TheVariants.Name, declared.fitting.Lack.TheVariants.ShortName, declared.fitting.Lack.TheVariants.Colon}
 
 -- where the name of a line begins and ends, and where its colon stands
 abbrev pub name_from : List ℕ → ℕ
@@ -36,15 +35,10 @@ abbrev pub is_letter : Option ℕ → Bool
 is_letter (Some b) = is_ascii_alphabetic b
 is_letter None = false
 
--- what a line that doesn't begin with a name and a colon lacks first, and the part at fault
-abbrev pub lack_of : List ℕ → Lack
-lack_of line =
-    if not (is_letter (slice_get line (name_from line))) then Name else if nat_lt most_name_bytes (name_to line - name_from line) then ShortName else Colon
-
-abbrev pub lack_span : List ℕ → Lack → Span
-lack_span line Name = dark_span line (name_from line)
-lack_span line ShortName = name_span line
-lack_span line Colon = dark_span line (colon_at line)
+-- where a line goes wrong that doesn't begin with a name and a colon: where the name or the colon is wanted, or a name that is too long
+abbrev pub lack_place : List ℕ → Span
+lack_place line =
+    if not (is_letter (slice_get line (name_from line))) then dark_span line (name_from line) else if nat_lt most_name_bytes (name_to line - name_from line) then name_span line else dark_span line (colon_at line)
 
 -- a value of the kind, or any where none is asked for
 abbrev pub IsOfAsked : Option Kind → Value → Type 0
@@ -75,3 +69,13 @@ IsUnfit asked bytes span = (before : List (List ℕ)) × (word : List ℕ) × (a
 -- all words are
 abbrev pub AreAllFit : Option Kind → List ℕ → Type 0
 AreAllFit asked bytes = All (IsFitPart asked) (slice_split is_blank bytes)
+
+-- what stands behind the colon of a line begins here
+abbrev pub rest_from : List ℕ → ℕ
+rest_from line = min (colon_at line + 1) (length line)
+
+-- the first word there that is no such value, or the name where all are
+abbrev pub IsUnfitSpan : Option Kind → List ℕ → Span → Type 0
+IsUnfitSpan asked line span =
+    ((s : Span) × IsUnfit asked (drop (rest_from line) line) s × (span ≡ moved_by (rest_from line) s))
+    ⊎ (AreAllFit asked (drop (rest_from line) line) × (span ≡ name_span line))

@@ -1,7 +1,7 @@
 -- Believed. The part of a line that isn't taken which is at fault, with whatever words.
 use Rattle.std.specs.Prelude.{◌≡◌, ℕ, List, Option, None}
 use Rattle.kahn_streams.specs.{declared.span.Span.Span, declared.tree.Kind.Kind, declared.tree.Program.Program}
-use Rattle.kahn_inputs.specs.{Feeding.IsKindFor, Feeding.IsUnfitSpan, Feeding.lack_place, Fitting.line_name, Fitting.part_of}
+use Rattle.kahn_inputs.specs.{Feeding.IsKindFor, Fitting.IsUnfitSpan, Fitting.lack_place, Fitting.line_name, Fitting.part_of}
 
 -- where a line goes wrong that doesn't begin with a name and a colon
 abbrev pub IsHeadPart : List ℕ → List ℕ → List ℕ → Type 0

@@ -1,46 +1,28 @@
 -- Believed. Which line of an input text is at fault.
-use Rattle.std.specs.Prelude.{◌≡◌, ◌+◌, ◌≤◌, ℕ, Bool, true, false, List, ◌∷◌, ◌++◌, All, bytes_eq, length}
+use Rattle.std.specs.Prelude.{◌≡◌, ◌⊎◌, ◌+◌, ◌≤◌, ℕ, Bool, true, false, List, ◌∷◌, ◌++◌, All, bytes_eq, length}
 use Rattle.kahn_streams.specs.{declared.span.Span.Span, Inputs.Entry}
-use Rattle.kahn_texts.specs.Formats.{AreBlanks, AreEntries, HasNoHead, HasNoValues, IsEntry, content, text_lines}
-use Rattle.kahn_inputs.specs.{Fitting.moved_by, Fitting.line_name, Fitting.name_span, Fitting.parts_length, declared.seeking.LineKind.LineKind, declared.seeking.LineKind.TheVariants.Blank, declared.seeking.LineKind.TheVariants.NoHead, declared.seeking.LineKind.TheVariants.NoValues}
-use Rattle.kahn_inputs.specs.declared.seeking.LineKind.TheVariants as kind
+use Rattle.kahn_texts.specs.Formats.{AreBlanks, AreEntries, content, text_lines}
+use Rattle.kahn_inputs.specs.Fitting.{moved_by, line_name, name_span, parts_length}
 
--- what a line is
-abbrev pub IsLineKind : List ℕ → LineKind → Type 0
-IsLineKind line Blank = AreBlanks line
-IsLineKind line kind.Entry = (e : Entry) × IsEntry line e
-IsLineKind line NoHead = HasNoHead line
-IsLineKind line NoValues = HasNoValues line
+-- how much a line counts: each one, or entries alone, which aren't blank
+abbrev pub CountsAs : Bool → List ℕ → ℕ → Type 0
+CountsAs true line n = ((n ≡ 0) × AreBlanks line) ⊎ ((n ≡ 1) × ¬ AreBlanks line)
+CountsAs false line n = n ≡ 1
 
--- which is looked for, with so many entries before it: that of this number, counted from 0, or one that is neither blank nor an entry
-abbrev pub IsSought : LineKind → ℕ → ℕ → Type 0
-IsSought Blank count number = ⊥
-IsSought kind.Entry count number = count ≡ number
-IsSought NoHead count number = Unit {0}
-IsSought NoValues count number = Unit {0}
+-- how many lines these are, or entries that they spell
+abbrev pub CountTo : Bool → List (List ℕ) → ℕ → Type 0
+CountTo true lines n = (es : List Entry) → AreEntries lines es → length es ≡ n
+CountTo false lines n = length lines ≡ n
 
--- which isn't, and how many entries it is
-abbrev pub IsNotSought : LineKind → ℕ → ℕ → Type 0
-IsNotSought Blank count number = Unit {0}
-IsNotSought kind.Entry count number = ¬ (count ≡ number)
-IsNotSought NoHead count number = ⊥
-IsNotSought NoValues count number = ⊥
-
-abbrev pub entries_in : LineKind → ℕ
-entries_in Blank = 0
-entries_in kind.Entry = 1
-entries_in NoHead = 0
-entries_in NoValues = 0
-
--- a line that begins at this byte, where those before it spell entries
-abbrev pub IsFound : List ℕ → ℕ → ℕ → List ℕ → LineKind → Type 0
-IsFound text number from line s = (before : List (List ℕ)) × (whole : List ℕ) × (after : List (List ℕ)) × (es : List Entry)
-    × (text_lines text ≡ before ++ (whole ∷ after)) × AreEntries before es × IsSought s (length es) number × IsLineKind (content whole) s
+-- a line that begins at this byte, and has this number, from 0
+abbrev pub IsFound : List ℕ → Bool → ℕ → ℕ → List ℕ → Type 0
+IsFound text entries number from line = (before : List (List ℕ)) × (whole : List ℕ) × (after : List (List ℕ))
+    × (text_lines text ≡ before ++ (whole ∷ after)) × CountTo entries before number × CountsAs entries (content whole) 1
     × (line ≡ content whole) × (from ≡ parts_length before) × (from + length line ≤ length text)
 
--- all lines spell entries, and no more than that
-abbrev pub IsUnfound : List ℕ → ℕ → Type 0
-IsUnfound text number = (es : List Entry) × AreEntries (text_lines text) es × (length es ≤ number)
+-- there are no more than that
+abbrev pub IsUnfound : List ℕ → Bool → ℕ → Type 0
+IsUnfound text entries number = (n : ℕ) × CountTo entries (text_lines text) n × (n ≤ number)
 
 -- the first line that begins with this name, and where the name stands
 abbrev pub has_line_name : List ℕ → List ℕ → Bool

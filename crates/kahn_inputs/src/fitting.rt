@@ -1,28 +1,16 @@
 //! Where the words of a line of an input text stand, and which of them is at fault.
 
-ghost use Rattle.std.specs.Prelude.{◌≡◌, ◌↔◌, ◌+◌, ◌<◌, ◌≤◌, IfSome, IsFalse, IsTrue, MatchOption, drop, length, slice_get};
+ghost use Rattle.std.specs.Prelude.{◌≡◌, ◌+◌, ◌<◌, ◌≤◌, IfSome, IsFalse, IsTrue, MatchOption, length, slice_get};
 ghost use Rattle.std.specs.List.{position, position_or_len};
 ghost use Rattle.kahn_texts.specs.Formats.{is_blank};
-ghost use Rattle.kahn_inputs.specs.Fitting.{AreAllFit, IsOfAsked, IsFitValue, IsFitPart, IsUnfitWord, IsUnfit, colon_at, dark_span, is_letter, lack_of, lack_span, moved_by, line_name, name_span, part_of};
+ghost use Rattle.kahn_inputs.specs.Fitting.{AreAllFit, IsFitPart, IsUnfitWord, IsUnfit, IsUnfitSpan, colon_at, dark_span, is_letter, lack_place, moved_by, line_name, name_span, part_of};
 
-use kahn_streams::{Kind, Span, Value};
+use kahn_streams::{Kind, Span};
 use kahn_texts::{blanks, is_blank, value_of, word_bytes};
 
 /// The most bytes of a name.
 const MOST_NAME_BYTES: usize = 64;
 
-/// What a line lacks, to begin with a name and a colon.
-#[derive(Clone, Copy)]
-pub(crate) enum Lack {
-    /// A letter, with which a name begins.
-    Name,
-    /// A name that isn't too long.
-    ShortName,
-    /// The colon behind the name.
-    Colon,
-}
-
-/// The first blank.
 fn first_blank(bytes: &[u8]) -> Option<usize>
     ensures { result ≡ position is_blank bytes.now }
 {
@@ -38,7 +26,6 @@ fn dark_bytes(bytes: &[u8]) -> usize
     first_blank(bytes).unwrap_or(bytes.len())
 }
 
-/// Where the name of a line stands.
 pub(crate) fn name_span(line: &[u8]) -> Span
     ensures order { result.from ≤ result.to }
     ensures within { result.to ≤ length line.now }
@@ -49,7 +36,6 @@ pub(crate) fn name_span(line: &[u8]) -> Span
     Span { from, to }
 }
 
-/// A part of a line.
 pub(crate) fn part_of(line: &[u8], span: Span) -> &[u8]
     requires order { span.from ≤ span.to }
     requires within { span.to ≤ length line.now }
@@ -58,16 +44,6 @@ pub(crate) fn part_of(line: &[u8], span: Span) -> &[u8]
     &line[span.from..span.to]
 }
 
-/// What stands from a byte of a line on.
-pub(crate) fn behind(line: &[u8], at: usize) -> &[u8]
-    requires { at ≤ length line.now }
-    ensures rest { result.now ≡ drop at line.now }
-    ensures long { length result.now + at ≡ length line.now }
-{
-    &line[at..]
-}
-
-/// The name of a line.
 pub(crate) fn line_name(line: &[u8]) -> &[u8]
     ensures { result.now ≡ line_name line.now }
 {
@@ -110,7 +86,6 @@ fn dark_span(line: &[u8], at: usize) -> Span
     }
 }
 
-/// Whether a letter stands at a byte.
 fn has_letter(line: &[u8], at: usize) -> bool
     ensures { result ≡ is_letter (slice_get line.now at) }
 {
@@ -120,55 +95,25 @@ fn has_letter(line: &[u8], at: usize) -> bool
     }
 }
 
-/// What a line lacks first, to begin with a name and a colon.
-pub(crate) fn lack_of(line: &[u8]) -> Lack
-    ensures { result ≡ lack_of line.now }
+/// Where a line goes wrong that doesn't begin with a name and a colon, and what is wanted there.
+pub(crate) fn lack_of(line: &[u8]) -> (Span, &'static str)
+    ensures order { result.0.from ≤ result.0.to }
+    ensures within { result.0.to ≤ length line.now }
+    ensures span { result.0 ≡ lack_place line.now }
 {
     let name = name_span(line);
     if !has_letter(line, name.from) {
-        Lack::Name
-    } else if name.to - name.from > MOST_NAME_BYTES {
-        Lack::ShortName
-    } else {
-        Lack::Colon
+        let span = dark_span(line, name.from);
+        return (span, "; a line begins with the name of a channel");
     }
+    if name.to - name.from > MOST_NAME_BYTES {
+        return (name, "; a name has at most 64 characters");
+    }
+    let span = dark_span(line, colon_at(line));
+    (span, "; a colon stands behind the name")
 }
 
-/// The part at fault.
-pub(crate) fn lack_span(line: &[u8], lack: Lack) -> Span
-    ensures order { result.from ≤ result.to }
-    ensures within { result.to ≤ length line.now }
-    ensures span { result ≡ lack_span line.now lack }
-{
-    match lack {
-        Lack::Name => dark_span(line, name_span(line).from),
-        Lack::ShortName => name_span(line),
-        Lack::Colon => dark_span(line, colon_at(line)),
-    }
-}
-
-/// Whether a value is of the kind, or any where none is asked for.
-fn is_of_asked(asked: Option<Kind>, value: Value) -> bool
-    ensures { IsTrue result ↔ IsOfAsked asked value }
-{
-    match asked {
-        Some(kind) => value.kind() == kind,
-        None => true,
-    }
-}
-
-/// Whether a word is such a value.
-fn is_fit_value(asked: Option<Kind>, word: &[u8]) -> bool
-    ensures fit { IsTrue result → IsFitValue asked word.now }
-    ensures unfit { IsFalse result → IsUnfitWord asked word.now }
-{
-    match value_of(word) {
-        Some(value) => is_of_asked(asked, value),
-        None => false,
-    }
-}
-
-/// Whether a part between blanks is such a value, or nothing.
+/// Whether a part between blanks is a value of the kind, or any where none is asked for, or nothing.
 fn is_fit_part(asked: Option<Kind>, part: &[u8]) -> bool
     ensures fit { IsTrue result → IsFitPart asked part.now }
     ensures unfit { IsFalse result → (0 < length part.now) × IsUnfitWord asked part.now }
@@ -176,7 +121,11 @@ fn is_fit_part(asked: Option<Kind>, part: &[u8]) -> bool
     if part.is_empty() {
         return true;
     }
-    is_fit_value(asked, part)
+    match (value_of(part), asked) {
+        (None, _) => false,
+        (Some(_), None) => true,
+        (Some(value), Some(kind)) => value.kind() == kind,
+    }
 }
 
 /// Where what follows on a piece of some bytes begins, which begins at one of them: behind a byte that ends it.
@@ -203,4 +152,17 @@ pub(crate) fn first_unfit(asked: Option<Kind>, bytes: &[u8]) -> Option<Span>
         from = further;
     }
     None
+}
+
+/// The first word behind the colon that is no such value, or the name where all are.
+pub(crate) fn unfit_span(asked: Option<Kind>, line: &[u8]) -> Span
+    ensures order { result.from ≤ result.to }
+    ensures within { result.to ≤ length line.now }
+    ensures span { IsUnfitSpan asked line.now result }
+{
+    let from = (colon_at(line) + 1).min(line.len());
+    match first_unfit(asked, &line[from..]) {
+        Some(span) => moved_by(from, span),
+        None => name_span(line),
+    }
 }

@@ -4,15 +4,12 @@
 mod feeding;
 mod fitting;
 mod laws;
-mod meant;
 mod refused;
 mod seeking;
 mod strange;
 
-pub use laws::always_placed;
-
-// For the crates above.
 pub use feeding::input_note;
+pub use laws::always_placed;
 pub use refused::{
     RefusedPart, head_part, inputs_words, kind_part, name_part, unknown_words, value_part,
 };

@@ -4,10 +4,10 @@ ghost use Rattle.std.specs.Prelude.{◌≡◌};
 ghost use Rattle.kahn_texts.specs.Formats.{content as content_of};
 ghost use Rattle.kahn_inputs.specs.{Fitting.line_name, Refused.IsHeadPart, Refused.IsKindPart, Refused.IsValuePart};
 
-use crate::feeding::{kind_for, kind_words, lack_words, unfit_span};
-use crate::fitting::{lack_of, lack_span, line_name, part_of};
+use crate::feeding::{kind_for, kind_words};
+use crate::fitting::{lack_of, line_name, part_of, unfit_span};
 use crate::seeking::content;
-use crate::strange::{COMMENTS, first_words, numeral_words, words_of};
+use crate::strange::{PARTS, first_words, strange_words, value_words, words_of};
 use kahn_hints::add_unknown_input;
 use kahn_streams::Network;
 use std::alloc::{AllocError, Global};
@@ -21,13 +21,12 @@ pub struct RefusedPart<'a> {
     pub words: &'a str,
 }
 
-/// What is wanted in the place of a word that is no value.
 fn value_wanted(word: &[u8]) -> &'static str {
     if word.contains(&b':') {
         return "; a name stands before the values alone, and with --plain nowhere";
     }
     first_words(&[
-        numeral_words(word),
+        value_words(None, word),
         "; values are numbers, `true` and `false`",
     ])
 }
@@ -37,9 +36,9 @@ pub fn head_part(line: &[u8]) -> RefusedPart<'_>
     ensures { IsHeadPart (content_of line.now) result.word.now result.words.now }
 {
     let line = content(line);
-    let lack = lack_of(line);
-    let word = part_of(line, lack_span(line, lack));
-    let words = first_words(&[words_of(COMMENTS, word), lack_words(lack).1]);
+    let (span, wanted) = lack_of(line);
+    let word = part_of(line, span);
+    let words = first_words(&[strange_words(word), words_of(PARTS, word), wanted]);
     RefusedPart { word, words }
 }
 
@@ -84,6 +83,6 @@ pub fn kind_part<'l>(network: &Network, line: &'l [u8]) -> RefusedPart<'l>
     let kind = kind_for(network, line_name(line));
     let span = unfit_span(kind, line);
     let word = part_of(line, span);
-    let words = kind_words(kind).1;
+    let words = kind_words(kind);
     RefusedPart { word, words }
 }

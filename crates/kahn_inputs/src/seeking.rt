@@ -1,27 +1,13 @@
 //! Which line of an input text is at fault.
 
-ghost use Rattle.std.specs.Prelude.{◌≡◌, ◌+◌, ◌≤◌, IfOk, IsFalse, IsTrue, MatchOption, length};
-ghost use Rattle.kahn_texts.specs.Formats.{content as content_of};
+ghost use Rattle.std.specs.Prelude.{◌≡◌, ◌↔◌, ◌+◌, ◌≤◌, IsTrue, MatchOption, length};
+ghost use Rattle.kahn_texts.specs.Formats.{AreBlanks, content as content_of};
 ghost use Rattle.kahn_inputs.specs.Fitting.{moved_by, name_span};
-ghost use Rattle.kahn_inputs.specs.Seeking.{IsFirstNamed, IsFound, IsNamedNowhere, IsNotSought, IsLineKind, IsSought, IsUnfound, entries_in, has_line_name};
+ghost use Rattle.kahn_inputs.specs.Seeking.{CountsAs, IsFirstNamed, IsFound, IsNamedNowhere, IsUnfound, has_line_name};
 
 use crate::fitting::{line_name, moved_by, name_span, past};
-use kahn_streams::{NoMemory, Span};
-use kahn_texts::{EntryFault, read_line};
-use std::alloc::Global;
-
-/// What a line is.
-#[derive(Clone, Copy)]
-pub(crate) enum LineKind {
-    /// It has blanks alone, or nothing.
-    Blank,
-    /// An entry.
-    Entry,
-    /// It doesn't begin with a name and a colon.
-    NoHead,
-    /// It has a word behind its colon that is no value.
-    NoValues,
-}
+use kahn_streams::Span;
+use kahn_texts::is_blank;
 
 /// A line of an input text.
 #[derive(Clone, Copy)]
@@ -30,8 +16,6 @@ pub(crate) struct FoundLine<'a> {
     pub from: usize,
     /// The line without its end.
     pub line: &'a [u8],
-    /// What it is.
-    pub kind: LineKind,
 }
 
 /// A line without one carriage return before its end.
@@ -45,68 +29,42 @@ pub(crate) fn content(line: &[u8]) -> &[u8]
     }
 }
 
-/// What a line is.
-fn kind_of(alloc: Global, line: &[u8]) -> Result<LineKind, NoMemory>
-    ensures { IfOk result (IsLineKind (content_of line.now)) }
+/// Whether a line has blanks alone, or nothing.
+fn is_blank_line(line: &[u8]) -> bool
+    ensures { IsTrue result ↔ AreBlanks line.now }
 {
-    match read_line(alloc, line) {
-        Ok(None) => Ok(LineKind::Blank),
-        Ok(Some(_entry)) => Ok(LineKind::Entry),
-        Err(EntryFault::NoHead) => Ok(LineKind::NoHead),
-        Err(EntryFault::NoValues) => Ok(LineKind::NoValues),
-        Err(EntryFault::NoMemory) => Err(NoMemory),
-    }
+    line.iter().all(|byte| is_blank(*byte))
 }
 
-/// Whether a line is looked for, with so many entries before it: the entry of this number, or one that is neither blank nor an
-/// entry.
-fn is_sought(kind: LineKind, before: usize, number: usize) -> bool
-    ensures sought { IsTrue result → IsSought kind before number }
-    ensures passed { IsFalse result → IsNotSought kind before number }
+/// How much a line counts: each one, or entries alone, which aren't blank.
+fn count_in(entries: bool, line: &[u8]) -> usize
+    ensures { CountsAs entries line.now result }
 {
-    match kind {
-        LineKind::Blank => false,
-        LineKind::Entry => before == number,
-        LineKind::NoHead => true,
-        LineKind::NoValues => true,
+    if !entries {
+        return 1;
     }
+    if is_blank_line(line) { 0 } else { 1 }
 }
 
-/// How many entries a line is that isn't looked for.
-fn entries_in(kind: LineKind) -> usize
-    ensures { result ≡ entries_in kind }
-{
-    match kind {
-        LineKind::Entry => 1,
-        LineKind::Blank | LineKind::NoHead | LineKind::NoValues => 0,
-    }
-}
-
-/// The first line of an input text that is neither blank nor an entry, or the entry of this number, counted from 0, where that
-/// comes first.
-pub(crate) fn find_line(
-    alloc: Global,
-    text: &str,
-    number: usize,
-) -> Result<Option<FoundLine<'_>>, NoMemory>
-    ensures { IfOk result (λ found. MatchOption found (IsUnfound text.now number) (λ f. IsFound text.now number f.from f.line.now f.kind)) }
+/// The line of this number, or the entry where entries alone count, from 0.
+pub(crate) fn find_line(text: &str, entries: bool, number: usize) -> Option<FoundLine<'_>>
+    ensures { MatchOption result (IsUnfound text.now entries number) (λ f. IsFound text.now entries number f.from f.line.now) }
 {
     let mut from = 0;
-    let mut entries = 0;
+    let mut left = number;
     for whole in text.as_bytes().split(|byte| *byte == b'\n') {
-        let kind = kind_of(alloc, whole)?;
+        let line = content(whole);
+        let more = count_in(entries, line);
         let further = past(text.as_bytes(), from, whole);
-        if is_sought(kind, entries, number) {
-            let line = content(whole);
-            return Ok(Some(FoundLine { from, line, kind }));
+        if more > left {
+            return Some(FoundLine { from, line });
         }
-        entries += entries_in(kind);
+        left -= more;
         from = further;
     }
-    Ok(None)
+    None
 }
 
-/// Whether a line begins with this name.
 fn has_line_name(line: &[u8], name: &[u8]) -> bool
     ensures { result ≡ has_line_name name.now line.now }
 {

@@ -39,7 +39,6 @@ impl Feed {
         self.input = About::named();
     }
 
-    /// Whether there is a next token.
     pub(crate) fn is_ready(&self, input: &Input) -> bool
         requires { self.now.input.value ≡ input.now }
         ensures { IsTrue result ↔ (self.now.next < length (inputs_of self.now.input.value self.now.channel)) }

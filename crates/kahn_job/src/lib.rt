@@ -3,14 +3,11 @@
 
 mod feed;
 mod handing;
-mod idle;
 mod port;
-mod ports;
 mod settling;
 mod task;
 
 // For the crates above.
 pub use handing::{jobs_at, seat, unseat};
-pub use idle::Idle;
 pub use settling::{meet, settle};
-pub use task::{Task, TaskStanding};
+pub use task::{Idle, Task, TaskStanding};

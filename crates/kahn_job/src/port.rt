@@ -39,7 +39,6 @@ impl Model for TaskPort {
     ghost view = { λ p. end_of p.0 };
 }
 
-// A number that the caller names.
 fn named_count(_receiver: &Receiver) -> About<u64>
     ghost number: { ℕ }
     ensures { result.value ≡ number }

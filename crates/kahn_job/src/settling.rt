@@ -5,8 +5,8 @@ ghost use Rattle.std.specs.Prelude.{◌≡◌, ◌<◌};
 ghost use Rattle.kahn_job.specs.{inner.Words.ℕ, inner.Words.length, inner.Words.OnOk, inner.Words.network_of, inner.Words.Lists, inner.Idles.HaveMet, inner.Idles.HaveSettled, inner.Idles.cells_of, inner.Idles.rows_of, inner.Berths.AreBehindOn, inner.Berths.HasPlace, inner.Berths.end_of_side, inner.Settling.GoesOrStays, inner.Settling.AreResting, inner.Settling.AreSettled, inner.Settling.CanFeed, inner.Settling.CanSettle, inner.Settling.HasExchanged, inner.Settling.HaveExchanged, inner.Settling.HaveStood};
 
 use crate::handing::{exchange, exchange_two};
-use crate::idle::Idle;
 use crate::port::TaskPort;
+use crate::task::Idle;
 use kahn_streams::{Input, Network, NoMemory, Side};
 
 // Moves the lane between two parameters on to the input.

@@ -6,6 +6,7 @@ ghost use Rattle.crossbeam_deque.specs.Handles.{worker_capacity, worker_flavor, 
 use crossbeam_deque::Worker;
 use crossbeam_deque::protocol::Protocol;
 use std::alloc::{AllocError, Allocator};
+use thiserror::Error;
 
 // How often a steal that met another one is tried again. Clauses of relays and lanes count this.
 pub(crate) const TRIES: usize = 64;
@@ -19,4 +20,18 @@ pub(crate) fn small_deque<T: Drop, A: Allocator + Clone + Drop, V, P: Protocol<T
     ensures first { IfOk result (λ w. (worker_flavor w ≡ 0) × (worker_index w ≡ 0) × (worker_view w ≡ P.first)) }
 {
     Worker::<T, A, V, P>::fifo_as(alloc, 1)
+}
+
+/// Why a lane or a relay couldn't be made.
+#[derive(PartialEq, Eq, Debug, Drop, Error)]
+pub enum LaneFault {
+    /// Memory was refused.
+    #[error("no memory")]
+    NoMemory,
+}
+
+impl From<AllocError> for LaneFault {
+    fn from(_error: AllocError) -> LaneFault {
+        LaneFault::NoMemory
+    }
 }

@@ -3,12 +3,11 @@
 //!
 //! A taker that finds nothing returns at once. No call ever blocks.
 
-ghost use Rattle.std.specs.Prelude.{◌≡◌, ◌+◌, ◌<◌, ◌≤◌, List, [], ◌∷◌, ◌++◌, length, true, IfOk, MatchResult, MatchOption};
+ghost use Rattle.std.specs.Prelude.{◌≡◌, ◌+◌, ◌<◌, ◌≤◌, List, [], ◌∷◌, ◌++◌, length, IfOk, MatchResult, MatchOption};
 ghost use Rattle.kahn_lane.specs.RelayEnds.{giver_relay, taker_relay, given, got, known_given, ComesBack, SameRelay, WasEmpty};
 
-use crate::deque::{TRIES, small_deque};
+use crate::deque::{LaneFault, TRIES, small_deque};
 use crate::ends::{Blank, Giver, Got, InOrder, Log, Roles, Sent, Taker, Total};
-use crate::fault::LaneFault;
 use crossbeam_deque::Steal;
 use kahn_streams::{NoMemory, Steps};
 use std::alloc::Allocator;

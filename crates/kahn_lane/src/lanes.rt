@@ -8,8 +8,7 @@ ghost use Rattle.crossbeam_deque.specs.Handles.{worker_view, worker_deque, worke
 ghost use Rattle.kahn_lane.specs.Places.{lane_name, token_name, tag_name, owner};
 ghost use Rattle.kahn_lane.specs.LaneEnds.{sender_lane, receiver_lane, sender_name, filled, flushed, sent, CanPut, received, waiting, CanTake, heard, left, SameSender, SameReceiver, AreEndsNamed, HavePassed, TakesNext, WasDry};
 
-use crate::deque::{TRIES, small_deque};
-use crate::fault::LaneFault;
+use crate::deque::{LaneFault, TRIES, small_deque};
 use crate::name::{Tag, make_tag};
 use crate::segments::{
     Bare, Behind, Flushed, InPlaces, LaneStealer, LaneWorker, Mark, Receiver, Segment, Sender,

@@ -7,7 +7,6 @@
 
 mod deque;
 mod ends;
-mod fault;
 mod handover;
 mod lanes;
 mod lifted;
@@ -15,8 +14,8 @@ mod name;
 mod segments;
 mod settling;
 
+pub use deque::LaneFault;
 pub use ends::{Giver, Taker};
-pub use fault::LaneFault;
 pub use handover::relay;
 pub use lanes::{lane, lane_at, meet};
 pub use segments::{Receiver, Sender};

@@ -9,7 +9,7 @@ ghost use Rattle.crossbeam_deque.specs.Handles.{worker_view, worker_flavor};
 ghost use Rattle.kahn_lane.specs.{Places.StandFrom, Places.moved_to, Places.tag_name, Places.token_name, inner.LaneRule.size, inner.LaneRule.tokens_of, inner.Settles.HasBothRights, inner.Settles.HasStolen, inner.Settles.IsGrown, inner.Settles.LiftsTo, inner.Settles.SameLifted, declared.name.LaneName.LaneName};
 ghost use Rattle.kahn_lane.specs.LaneEnds.{sender_lane, receiver_lane, sender_name, flushed, sent, received, CanTake, heard, AreEndsNamed, HavePassed};
 
-use crate::fault::LaneFault;
+use crate::deque::LaneFault;
 use crate::lanes::lane_from;
 use crate::lifted::Lifted;
 use crate::name::move_tag;

@@ -1,5 +1,5 @@
 -- Believed. What the words of the command line of the program that explains ask for.
-use Rattle.std.specs.Prelude.{◌≡◌, ℕ, List, Bool, codes, option_map, string_bytes}
+use Rattle.std.specs.Prelude.{◌≡◌, List, codes, option_map, string_bytes}
 use Rattle.clap.specs.Words.{App, Text, new_rule, with_rule}
 use Rattle.kahn_line.specs.{Line.IsSetBy, Line.bare_app, Line.file_of, Line.flag_rule, Line.is_flagged, Line.number_rule, Line.text_of, Line.text_rule, declared.explain.ExplainOptions.ExplainOptions}
 

@@ -1,5 +1,5 @@
 -- Believed. What the words of the command line of the program that is fed line by line ask for.
-use Rattle.std.specs.Prelude.{◌≡◌, ℕ, List, map, Bool, true, Some, codes, option_map, string_bytes}
+use Rattle.std.specs.Prelude.{◌≡◌, List, map, true, Some, codes, option_map, string_bytes}
 use Rattle.clap.specs.Words.{App, Rule, Text, matches_of, new_rule, with_rule}
 use Rattle.clap.specs.declared.builder.ArgAction.TheVariants.{Append}
 use Rattle.kahn_streams.specs.Answers.{IsInRange}

@@ -4,7 +4,9 @@ ghost use Rattle.std.specs.Prelude.{◌≡◌, IfOk, map};
 ghost use Rattle.clap.specs.Words.{app_of};
 ghost use Rattle.kahn_line.specs.{Draw.IsDraw, Draw.draw_app, Line.IsRead};
 
-use crate::line::{LineFault, bare, bound_arg, file_copied, input_arg, number_or, program_arg};
+use crate::line::{
+    BOUND, INPUT, LineFault, bare, file_copied, number_arg, number_or, program_arg, text_arg,
+};
 use clap::Command;
 use std::alloc::{AllocError, Global};
 use std::convert::AsStr;
@@ -40,7 +42,6 @@ pub struct DrawOptions {
     pub bound: u64,
 }
 
-/// Returns the rules of the command line.
 fn draw_command<'a>(alloc: Global) -> Result<Command<'a>, AllocError>
     ensures { IfOk result (λ c. app_of c ≡ draw_app) }
 {
@@ -48,12 +49,11 @@ fn draw_command<'a>(alloc: Global) -> Result<Command<'a>, AllocError>
     let about = "Draws the network of a program, in the language of Graphviz.";
     bare(alloc, "kahn_draw", usage, about, MORE)?
         .arg(program_arg(alloc))?
-        .arg(input_arg(alloc))?
-        .arg(bound_arg(alloc))
+        .arg(text_arg(alloc, "input", "FILE", INPUT))?
+        .arg(number_arg(alloc, "bound", 0, 281_474_976_710_655, "1000000", BOUND))
 }
 
-/// Reads the words of a command line, the first of which is the name of the program. Fails with `Refused` if clap
-/// refuses the words or they ask for the help or the version, and with `NoMemory` if memory was refused.
+/// Reads the words of a command line, as `read_line` does.
 pub fn read_draw_line<'a, S: AsStr>(alloc: Global, words: &'a [S]) -> Result<DrawOptions, LineFault>
     ensures { IsRead draw_app IsDraw (map S.text words.now) result }
 {

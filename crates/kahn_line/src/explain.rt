@@ -5,8 +5,8 @@ ghost use Rattle.clap.specs.Words.{app_of};
 ghost use Rattle.kahn_line.specs.{Explain.IsExplain, Explain.explain_app, Line.IsRead};
 
 use crate::line::{
-    LineFault, bare, bound_arg, config_of, copied, file_copied, flag_arg, input_arg, number_arg,
-    program_arg, quantum_arg, text_arg, was_given,
+    BOUND, INPUT, LineFault, QUANTUM, bare, config_of, copied, file_copied, flag_arg, number_arg,
+    program_arg, text_arg, was_given,
 };
 use clap::Command;
 use kahn_streams::Config;
@@ -115,7 +115,6 @@ pub struct ExplainOptions {
     pub json: bool,
 }
 
-/// Returns the rules of the command line.
 fn explain_command<'a>(alloc: Global) -> Result<Command<'a>, AllocError>
     ensures { IfOk result (λ c. app_of c ≡ explain_app) }
 {
@@ -132,10 +131,10 @@ fn explain_command<'a>(alloc: Global) -> Result<Command<'a>, AllocError>
     let json = "As --check, and writes each note as an object of JSON, for editors";
     bare(alloc, "kahn_explain", usage, about, MORE)?
         .arg(program_arg(alloc))?
-        .arg(input_arg(alloc))?
+        .arg(text_arg(alloc, "input", "FILE", INPUT))?
         .arg(number_arg(alloc, "workers", 1, 16, "4", workers))?
-        .arg(quantum_arg(alloc))?
-        .arg(bound_arg(alloc))?
+        .arg(number_arg(alloc, "quantum", 1, 1_000_000, "1000", QUANTUM))?
+        .arg(number_arg(alloc, "bound", 0, 281_474_976_710_655, "1000000", BOUND))?
         .arg(flag_arg(alloc, "all", "Tells each process that hasn't ended"))?
         .arg(flag_arg(alloc, "strict", "Refuses a program with a warning"))?
         .arg(flag_arg(alloc, "trace", trace))?
@@ -146,8 +145,7 @@ fn explain_command<'a>(alloc: Global) -> Result<Command<'a>, AllocError>
         .arg(flag_arg(alloc, "json", json))
 }
 
-/// Reads the words of a command line, the first of which is the name of the program. Fails with `Refused` if clap
-/// refuses the words or they ask for the help or the version, and with `NoMemory` if memory was refused.
+/// Reads the words of a command line, as `read_line` does.
 pub fn read_explain_line<'a, S: AsStr>(
     alloc: Global,
     words: &'a [S],

@@ -13,6 +13,14 @@ use std::alloc::{AllocError, Global};
 use std::convert::AsStr;
 use thiserror::Error;
 
+// The help of options that several programs have.
+pub(crate) static INPUT: &str =
+    "File of the input text, with lines such as `A: 1 2 3` (an input channel and its values); /dev/stdin is standard input";
+
+pub(crate) static BOUND: &str = "Events after which the run is stopped, 0 to 281474976710655";
+
+pub(crate) static QUANTUM: &str = "Events that a process does at a time, 1 to 1000000";
+
 /// The version of the programs, which `--version` prints after the name of the program. CHANGELOG.md has it as its newest heading.
 static VERSION: &str = "0.9.0";
 
@@ -94,7 +102,6 @@ impl From<AllocError> for LineFault {
     }
 }
 
-/// Makes an option with a text.
 pub(crate) fn text_arg<'a>(alloc: Global, name: &'a str, value: &'a str, help: &'a str) -> Arg<'a>
     ensures rule { rule_of result ≡ text_rule name.entry.now }
     ensures local { result.global ≡ false }
@@ -105,7 +112,6 @@ pub(crate) fn text_arg<'a>(alloc: Global, name: &'a str, value: &'a str, help: &
         .help(help)
 }
 
-/// Makes an option with a number from `least` to `most`, and its default.
 pub(crate) fn number_arg<'a>(
     alloc: Global,
     name: &'a str,
@@ -128,34 +134,6 @@ pub(crate) fn program_arg<'a>(alloc: Global) -> Arg<'a>
     ensures local { result.global ≡ false }
 {
     Arg::new(alloc, "PROGRAM").help("File of the program text; without it, standard input")
-}
-
-/// Makes the option of the input text's path.
-pub(crate) fn input_arg<'a>(alloc: Global) -> Arg<'a>
-    ensures rule { rule_of result ≡ text_rule (codes "input") }
-    ensures local { result.global ≡ false }
-{
-    let help =
-        "File of the input text, with lines such as `A: 1 2 3` (an input channel and its values); /dev/stdin is standard input";
-    text_arg(alloc, "input", "FILE", help)
-}
-
-/// Makes the option of the bound on events.
-pub(crate) fn bound_arg<'a>(alloc: Global) -> Arg<'a>
-    ensures rule { rule_of result ≡ number_rule (codes "bound") 0 281474976710655 (codes "1000000") }
-    ensures local { result.global ≡ false }
-{
-    let help = "Events after which the run is stopped, 0 to 281474976710655";
-    number_arg(alloc, "bound", 0, 281_474_976_710_655, "1000000", help)
-}
-
-/// Makes the option of the quantum.
-pub(crate) fn quantum_arg<'a>(alloc: Global) -> Arg<'a>
-    ensures rule { rule_of result ≡ number_rule (codes "quantum") 1 1000000 (codes "1000") }
-    ensures local { result.global ≡ false }
-{
-    let help = "Events that a process does at a time, 1 to 1000000";
-    number_arg(alloc, "quantum", 1, 1_000_000, "1000", help)
 }
 
 /// Makes an option without a text.
@@ -199,7 +177,6 @@ pub(crate) fn bare<'a>(
     )
 }
 
-/// Returns the rules of the command line.
 fn command<'a>(alloc: Global) -> Result<Command<'a>, AllocError>
     ensures { IfOk result (λ c. app_of c ≡ kahn_app) }
 {
@@ -211,10 +188,10 @@ fn command<'a>(alloc: Global) -> Result<Command<'a>, AllocError>
         "Reports one more channel besides the output channels; kahn_explain --trace shows all";
     bare(alloc, "kahn", usage, about, MORE)?
         .arg(program_arg(alloc))?
-        .arg(input_arg(alloc))?
+        .arg(text_arg(alloc, "input", "FILE", INPUT))?
         .arg(number_arg(alloc, "workers", 1, 16, "4", workers))?
-        .arg(quantum_arg(alloc))?
-        .arg(bound_arg(alloc))?
+        .arg(number_arg(alloc, "quantum", 1, 1_000_000, "1000", QUANTUM))?
+        .arg(number_arg(alloc, "bound", 0, 281_474_976_710_655, "1000000", BOUND))?
         .arg(text_arg(alloc, "watch", "NAME", watch))
 }
 
@@ -239,10 +216,7 @@ fn file_named(word: &str) -> &str
 pub(crate) fn file_copied(alloc: Global, word: Option<&str>) -> Result<Option<String>, AllocError>
     ensures { IfOk result (λ copy. option_map string_bytes copy ≡ option_map file_named (option_map (λ t. t.now) word.entry)) }
 {
-    match word {
-        Some(word) => Ok(Some(String::from_str(alloc, file_named(word))?)),
-        None => Ok(None),
-    }
+    copied(alloc, word.map(file_named))
 }
 
 /// The number that was found for a name, or another one where none was.

@@ -1,11 +1,11 @@
 //! The command line of the program that is fed line by line.
 
-ghost use Rattle.std.specs.Prelude.{◌≡◌, IfOk, codes, false, map, string_bytes};
-ghost use Rattle.clap.specs.Words.{app_of, found_of, rule_of};
-ghost use Rattle.kahn_line.specs.{Line.IsRead, Live.IsLive, Live.at_end_rule, Live.live_app, Parts.found_texts, Parts.input_named, Parts.joined_words, Parts.set_line};
+ghost use Rattle.std.specs.Prelude.{◌≡◌, IfOk, codes, map, string_bytes};
+ghost use Rattle.clap.specs.Words.{app_of, found_of};
+ghost use Rattle.kahn_line.specs.{Line.IsRead, Live.IsLive, Live.live_app, Parts.found_texts, Parts.input_named, Parts.joined_words, Parts.set_line};
 
 use crate::line::{
-    LineFault, bare, config_of, file_copied, flag_arg, number_arg, quantum_arg, text_arg, was_given,
+    LineFault, QUANTUM, bare, config_of, file_copied, flag_arg, number_arg, text_arg, was_given,
 };
 use crate::parts::{PlainNames, input_named, joined_words, plain_of, set_line};
 use clap::{Arg, ArgAction, ArgMatches, Command};
@@ -75,23 +75,13 @@ pub struct LiveOptions {
     pub plain: Option<PlainNames>,
 }
 
-/// Makes the option of a line that is fed at the end of the input, which may be repeated.
-fn at_end_arg<'a>(alloc: Global) -> Arg<'a>
-    ensures rule { rule_of result ≡ at_end_rule }
-    ensures local { result.global ≡ false }
-{
-    let help =
-        "Feeds the line `NAME: VALUE` when the input has ended; with --plain, VALUE alone, such as -1; may be repeated";
-    text_arg(alloc, "at-end", "NAME=VALUE", help).action(ArgAction::Append)
-}
-
-/// Returns the rules of the command line.
 fn live_command<'a>(alloc: Global) -> Result<Command<'a>, AllocError>
     ensures { IfOk result (λ c. app_of c ≡ live_app) }
 {
     let usage = "kahn_live PROGRAM [--in NAMES] [--out NAMES] [OPTIONS] < LINES";
     let about =
         "Runs a network of processes on the lines of its standard input, and shows after each line what is new.";
+    let program = "File of the program text";
     let step =
         "Limit of events after each line, 1 to 281474976710655; if one needs more, its answers come late";
     let watch =
@@ -99,29 +89,26 @@ fn live_command<'a>(alloc: Global) -> Result<Command<'a>, AllocError>
     let keep_going = "Leaves the status 0 even if lines were refused";
     let strict =
         "Ends with 8 if a process has a fault of arithmetic, and else with 7 if processes wait on one another";
+    let at_end =
+        "Feeds the line `NAME: VALUE` when the input has ended; with --plain, VALUE alone, such as -1; may be repeated";
     let inputs =
         "Reads bare values of this input channel alone, or rows with one value for each of these";
     let outputs =
         "Writes bare values of this channel alone, one a line, or rows of these; with --in alone, those of the first stream";
     let plain = "Is short for --in INPUT --out OUTPUT";
     bare(alloc, "kahn_live", usage, about, MORE)?
-        .arg(
-            Arg::new(alloc, "PROGRAM")
-                .required(true)
-                .help("File of the program text"),
-        )?
-        .arg(quantum_arg(alloc))?
+        .arg(Arg::new(alloc, "PROGRAM").required(true).help(program))?
+        .arg(number_arg(alloc, "quantum", 1, 1_000_000, "1000", QUANTUM))?
         .arg(number_arg(alloc, "step", 1, 281_474_976_710_655, "1000000", step))?
         .arg(text_arg(alloc, "watch", "NAME", watch))?
         .arg(flag_arg(alloc, "keep-going", keep_going))?
         .arg(flag_arg(alloc, "strict", strict))?
-        .arg(at_end_arg(alloc))?
+        .arg(text_arg(alloc, "at-end", "NAME=VALUE", at_end).action(ArgAction::Append))?
         .arg(text_arg(alloc, "in", "NAME[,NAME..]", inputs))?
         .arg(text_arg(alloc, "out", "NAME[,NAME..]", outputs))?
         .arg(text_arg(alloc, "plain", "INPUT[,OUTPUT]", plain))
 }
 
-/// Returns the lines that are fed at the end of the input.
 fn lines_at_end(
     alloc: Global,
     matches: &ArgMatches<'_>,
@@ -138,9 +125,7 @@ fn lines_at_end(
     Ok(lines)
 }
 
-/// Reads the words of a command line, the first of which is the name of the program. Fails with `Refused` if clap refuses the
-/// words, which have to name a program text, or they ask for the help or the version, and with `NoMemory` if memory was
-/// refused.
+/// Reads the words of a command line, which have to name a program text, as `read_line` does.
 pub fn read_live_line<'a, S: AsStr>(alloc: Global, words: &'a [S]) -> Result<LiveOptions, LineFault>
     ensures { IsRead live_app IsLive (joined_words (map S.text words.now)) result }
 {

@@ -35,7 +35,6 @@ fn takes_behind(word: &str, value: &str) -> bool
     word == "--at-end" && matches!(value.as_bytes(), [b'-', digit, ..] if digit.is_ascii_digit())
 }
 
-/// Joins a word and its value, with a sign between.
 fn joined(alloc: Global, word: &str, sign: &str, value: &str) -> Result<String, AllocError>
     ensures { IfOk result (λ text. string_bytes text ≡ word.now ++ (sign.now ++ value.now)) }
 {
@@ -79,8 +78,7 @@ pub(crate) fn joined_words<S: AsStr>(alloc: Global, words: &[S]) -> Result<Vec<S
     Ok(all)
 }
 
-/// Returns the line for a word `NAME=VALUE`, `NAME: VALUE`. A word without `=` is values of the input channel whose values
-/// stand alone, if they do, and else the line itself.
+/// Returns the line `NAME: VALUE` of a word `NAME=VALUE`. A word without `=` is values of the input channel that is given, or the line.
 pub(crate) fn set_line(alloc: Global, input: Option<&str>, word: &str) -> Result<String, AllocError>
     ensures { IfOk result (λ line. string_bytes line ≡ set_line (option_copied input.entry) word.now) }
 {
@@ -102,7 +100,6 @@ pub fn input_named(plain: &Option<PlainNames>) -> Option<&str>
     }
 }
 
-/// Makes the channels of these names.
 fn named(alloc: Global, input: &str, output: Option<&str>) -> Result<Option<PlainNames>, AllocError>
     ensures { IfOk result (λ p. option_map plain_parts p ≡ Some (input.now, option_map (λ t. t.now) output.entry)) }
 {

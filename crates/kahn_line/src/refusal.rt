@@ -34,8 +34,7 @@ fn owners_of(text: &str) -> Option<&'static str> {
     }
 }
 
-/// Reports that a word isn't expected, as the option parser says it, but without its advice to pass the word as a value, which no
-/// program takes. Of an option of other programs it says which have it.
+/// Reports that a word isn't expected, as clap says it, but in place of its advice to pass the word as a value, who has that option.
 fn tell_unexpected(rt: &impl Eprint, text: &str) {
     let owners = owners_of(text);
     let mut is_apart = false;
@@ -52,8 +51,7 @@ fn tell_unexpected(rt: &impl Eprint, text: &str) {
     }
 }
 
-/// Reports why a command line asks for no run, and returns the status: 0 if it asks for the help or the version, which
-/// goes to standard output, 2 if it is refused, and 4 if memory was.
+/// Reports why a command line asks for no run. Returns the status: 0 for the help and the version, 2 if it is refused, 4 if memory was.
 pub fn tell_line(rt: &(impl Print + Eprint + AllocGlobal), fault: &LineFault) -> u8
     ensures { result ≡ line_status fault.now }
 {
@@ -74,8 +72,7 @@ pub fn tell_line(rt: &(impl Print + Eprint + AllocGlobal), fault: &LineFault) ->
     }
 }
 
-/// Reports why the words of the command line couldn't be read, and returns the status: 2 if one isn't UTF-8, and 4 if
-/// memory was refused.
+/// Reports why the words of the command line couldn't be read. Returns the status: 2 if one isn't UTF-8, 4 if memory was refused.
 pub fn tell_words(rt: &impl Eprint, error: &Error) -> u8
     ensures memory { error_kind error.now ≡ ErrorKind.OutOfMemory → result ≡ 4 }
     ensures refused { error_kind error.now ≢ ErrorKind.OutOfMemory → result ≡ 2 }

@@ -90,7 +90,6 @@ fn read_part<B: BufRead>(reader: &mut B, line: &mut Vec<u8>) -> Option<Next>
     Some(Next::Line)
 }
 
-/// Where the first line feed stands.
 fn first_feed(bytes: &[u8]) -> Option<usize>
     ensures { result ≡ position (λ b. b == 10) bytes.now }
 {

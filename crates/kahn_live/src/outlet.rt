@@ -19,7 +19,6 @@ pub(crate) struct DeferredWriter<W: Write> {
 }
 
 impl<W: Write> DeferredWriter<W> {
-    /// Sends what was written.
     pub(crate) fn send(&mut self) -> Result<(), Fault>
         ensures kept { Keeps (W.contents self.old.writer) (W.contents self.new.writer) }
         ensures sent { self.new.due ≡ false }

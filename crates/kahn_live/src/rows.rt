@@ -34,7 +34,6 @@ fn is_row_gap(byte: u8) -> bool
     byte == b' ' || byte == b'\t' || byte == b',' || byte == b'\r'
 }
 
-/// Where the first byte of a word stands.
 fn first_of_word(bytes: &[u8]) -> Option<usize>
     ensures { result ≡ position (λ b. not (is_row_gap b)) bytes.now }
 {
@@ -66,7 +65,6 @@ fn word_length(bytes: &[u8]) -> usize
     first_between(bytes).unwrap_or(bytes.len())
 }
 
-/// The first word, or nothing.
 fn first_word(bytes: &[u8]) -> &[u8]
     ensures { result.now ≡ first_word bytes.now }
 {
@@ -82,7 +80,6 @@ fn behind_word(bytes: &[u8]) -> &[u8]
     &bytes[word_length(bytes)..]
 }
 
-/// A line of a name and a word.
 fn cell_of(alloc: Global, name: &[u8], word: &[u8]) -> Result<Vec<u8>, AllocError>
     ensures { IfOk result (λ cell. bytes_in cell ≡ row_line name.now word.now) }
 {

@@ -34,7 +34,6 @@ pub(crate) enum RunEnding {
     Refused,
 }
 
-/// What is amiss with the run of a session, where it is to be judged.
 fn judged(session: &Session<'_>, strict: bool) -> Option<Amiss>
     requires { HasVerdict session.now }
     ensures { IsJudged strict session.now.flow.run result }

@@ -4,18 +4,12 @@
 mod applying;
 mod columns;
 mod near;
-mod note;
 mod pieces;
-mod places;
 mod rendering;
-mod sentence;
-mod told;
 
 // For the crates above.
 pub use applying::{applied, padded};
+pub use columns::{add_shown_text, shown_part};
 pub use near::is_within;
-pub use pieces::{add, add_repeated};
-pub use places::{add_spot, place};
+pub use pieces::{MOST_NOTES, add, add_more, add_repeated, add_spot, first_ones, place};
 pub use rendering::{Fix, Note, Other, Sort, part_of, render, simple};
-pub use sentence::{add_shown_text, shown_part};
-pub use told::{MOST_NOTES, add_more, first_ones};

@@ -13,7 +13,6 @@ use std::alloc::Global;
 use std::marker::{Brand, Model};
 use std::sync::ledger::Blank;
 
-// The line of which what is sent is kept, if it is a channel.
 fn kept_of(line: Line) -> Option<usize>
     ensures { result ≡ watch_of line }
 {

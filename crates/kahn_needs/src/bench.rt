@@ -38,7 +38,6 @@ impl<'n> Model for Bench<'n> {
     ghost invariant = { λ b. HaveSeats (seats_of b.network.now b.input.value b.watch b.code.network.value b.cells.items b.queues) };
 }
 
-// The cells of all instances at their openings, for the input that is named.
 fn named_cells(
     alloc: Global,
     network: &Network,
@@ -77,7 +76,6 @@ impl<'n> Bench<'n> {
         Ok(Bench::named(network, input, watch, code, cells, queues))
     }
 
-    // The bench for the input that is named.
     fn named(
         network: &'n Network,
         _input: &Input,
@@ -112,7 +110,6 @@ impl<'n> Bench<'n> {
         pause
     }
 
-    /// How many events an instance has done.
     pub(crate) fn events(&self, instance: usize) -> u64
         requires { instance < length (network_of self.now.network).instances }
         ensures { result ≡ events_seen (slice_get self.now.cells instance) }
@@ -127,7 +124,6 @@ impl<'n> Bench<'n> {
         self.queues.taken(channel)
     }
 
-    /// The channel that a parameter reads.
     pub(crate) fn channel(&self, instance: usize, parameter: usize) -> usize
         requires here { instance < length (network_of self.now.network).instances }
         requires reads { (c : ℕ) × (actual_at (instance_at (network_of self.now.network) instance) parameter ≡ Reads c) }
@@ -146,7 +142,6 @@ impl<'n> Bench<'n> {
         let _watch = self.watch;
     }
 
-    /// The number of instances.
     pub(crate) fn instances(&self) -> usize
         ensures { result ≡ length (network_of self.now.network).instances }
     {
@@ -194,14 +189,12 @@ impl<'n> Bench<'n> {
         }
     }
 
-    /// The number of channels.
     pub(crate) fn channels(&self) -> usize
         ensures { result ≡ length (network_of self.now.network).channels }
     {
         self.network.channels()
     }
 
-    /// The value that was sent at a place of a line.
     pub(crate) fn value(&self, line: Line, place: u64) -> Value
         requires line { IsNetworkLine (network_of self.now.network) line }
         requires watch { self.now.watch ≡ watch_of line }
@@ -255,7 +248,6 @@ pub(crate) fn all_events(alloc: Global, bench: &Bench<'_>) -> Result<Vec<u64>, C
     Ok(counts)
 }
 
-// The value of the token at a place, if there is one.
 fn value_at(tokens: &Tokens, place: u64) -> Value
     ensures { (t : Token) → slice_get tokens.now.items place ≡ Some t → result ≡ t.value }
 {

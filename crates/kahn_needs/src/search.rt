@@ -104,7 +104,6 @@ fn act<L: Ledger>(bench: &mut Bench<'_>, root: Demand, demand: Demand, steps: &m
     told(bench, root, demand, instance, pause)
 }
 
-// A chain that begins with a demand.
 fn begun(bench: &Bench<'_>, root: Demand, demand: Demand) -> Chain
     requires { IsDemand bench.now root.line root.place demand.line demand.place }
     ensures { IsWaitChain bench.now root.line root.place result }
@@ -145,7 +144,6 @@ fn longer(bench: &Bench<'_>, root: Demand, chain: Chain, demand: Demand) -> Chai
     }
 }
 
-// Whether two values are the same one.
 fn is_same(first: Demand, second: Demand) -> bool
     ensures { result ≡ true → first ≡ second }
 {
@@ -185,7 +183,6 @@ fn next_chain(bench: &Bench<'_>, root: Demand, chain: Chain, turn: Turn) -> Resu
     }
 }
 
-// Whether the value of a demand was sent.
 fn has_come(bench: &Bench<'_>, demand: Demand) -> bool
     requires { IsNetworkLine (network_of bench.now.network) demand.line }
     ensures { result ≡ true → HasCome bench.now demand.line demand.place }

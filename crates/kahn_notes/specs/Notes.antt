@@ -18,7 +18,6 @@ wanted_words group.SimpleStatement = codes "a simple statement"
 wanted_words group.Declaration = codes "a declaration"
 wanted_words group.Operator = codes "an operator"
 wanted_words group.Arithmetic = codes "an arithmetic operator"
-wanted_words group.Comparison = codes "a comparison"
 
 -- the end of the text may stand behind a whole program
 abbrev pub text_end_words : What → List (List ℕ)

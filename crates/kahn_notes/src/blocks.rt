@@ -1,16 +1,10 @@
 //! What is said of blocks where a text has more `begin`s than `end`s, or fewer, by the indentation of their lines.
 
-ghost use Rattle.std.specs.Prelude.{Contains, IfSome};
-
-use crate::characters::foreign_word;
-use crate::mending::{Fixed, mending};
-use crate::place::{Place, before, front, near, offered};
-use crate::said::{Saying, Words, line_of, put_at, put_behind, sentence, spot_words};
-use crate::table::{cell, finds, has_word, may_stand};
-use crate::words::class_word;
+use crate::mending::{Fixed, Saying, mending, placed, put_at, put_behind};
+use crate::place::{Place, finds, front, has_word, near};
+use crate::unexpected::class_word;
 use kahn_marks::part_of;
-use kahn_syntax::{Lexeme, Span};
-use kahn_wanted::open_behind;
+use kahn_syntax::Span;
 use std::alloc::AllocError;
 
 /// How many lexemes before an `end` are looked at.
@@ -84,9 +78,6 @@ fn guard_of(seats: &[LineLexeme], number: usize, end: LineLexeme) -> Option<usiz
         if leads && (is_level || !end.first) {
             found = Some(number);
         }
-        if is_level && (seat.first || found.is_some()) {
-            return found;
-        }
     }
     found
 }
@@ -94,8 +85,7 @@ fn guard_of(seats: &[LineLexeme], number: usize, end: LineLexeme) -> Option<usiz
 /// Whether a block had to end before a line: before a process, an `end` that is less deep than its `begin`, and what is no deeper than this,
 /// where the first line within is.
 fn is_past(seats: &[LineLexeme], begin: usize, seat: LineLexeme) -> bool {
-    let inside = seats.get(begin.saturating_add(1));
-    let (Some(begin), Some(inside)) = (seats.get(begin), inside) else {
+    let Some([begin, inside, ..]) = seats.get(begin..) else {
         return false;
     };
     let is_within = inside.line == begin.line || begin.deep < inside.deep;
@@ -138,16 +128,15 @@ fn surplus_at(place: Place, seats: &[LineLexeme]) -> Result<Option<usize>, Alloc
     for (at, seat) in seen.iter().enumerate() {
         match seat.word {
             "begin" => open.push(*seat)?,
-            "process" => doubt = None,
             "end" => {
-                let (begin, guard) = (open.pop(), guard_of(seats, at, *seat));
+                let begin = open.pop();
                 let is_far = begin.is_some_and(|begin| begin.line != seat.line);
                 let is_deep = seat.first && begin.is_some_and(|begin| begin.deep < seat.deep);
-                if is_deep || open.is_empty() || (is_far && !seat.first && guard.is_some()) {
+                if is_deep || open.is_empty() {
                     return Ok(doubt.or(Some(at)));
                 }
-                let is_several = guard_before(seats, at).is_some();
-                if (is_far && !seat.first) || (!is_far && doubt.is_none() && is_several) {
+                let is_several = doubt.is_none() && guard_before(seats, at).is_some();
+                if (is_far && !seat.first) || (!is_far && is_several) {
                     doubt = Some(at);
                 }
             }
@@ -157,18 +146,6 @@ fn surplus_at(place: Place, seats: &[LineLexeme]) -> Result<Option<usize>, Alloc
     Ok(doubt)
 }
 
-/// The `begin` there, if its block is open.
-fn open_there(begins: &[Lexeme], span: Span) -> Option<Lexeme>
-    ensures { IfSome result (Contains begins.now) }
-{
-    for begin in begins {
-        if begin.span == span {
-            return Some(*begin);
-        }
-    }
-    None
-}
-
 /// The `end` before a lexeme with which a place is mended, before a semicolon there or with one.
 fn closing(place: Place, seats: &[LineLexeme], number: usize) -> Fixed {
     let last = number.saturating_sub(1);
@@ -176,7 +153,7 @@ fn closing(place: Place, seats: &[LineLexeme], number: usize) -> Fixed {
     let first = last.saturating_sub(if is_ended { 1 } else { 0 });
     for (at, put) in [(first, "end"), (last, "end"), (last, "end;")] {
         let part = seats.get(at).map_or(place.span, |seat| seat.span);
-        let fix = put_behind(place.alloc, place.text, part, put)?;
+        let fix = put_behind(place.alloc, part, put)?;
         let fix = mending(place.alloc, place.text, place.span, Some(fix))?;
         if fix.is_some() {
             return Ok(fix);
@@ -185,47 +162,41 @@ fn closing(place: Place, seats: &[LineLexeme], number: usize) -> Fixed {
     Ok(None)
 }
 
-/// What is said of the `begin` that has no `end`: by its indentation its block ends before a line, or on that of the `begin`, where another
-/// one may be meant; one that stands beside another one is left out.
+/// What is said of the `begin` that has no `end`: where its block ends by its indentation; one that stands beside another one is left out.
 fn unclosed(place: Place, seats: &[LineLexeme]) -> Saying {
     let (alloc, text) = (place.alloc, place.text);
     let Some((number, end)) = unclosed_at(place, seats)? else {
         return Ok(None);
     };
-    let open = open_behind(alloc, front(place.lexemes, end))?;
-    let Some(one) = seats
-        .get(number)
-        .and_then(|begin| open_there(&open, begin.span))
-    else {
+    let Some(one) = seats.get(number) else {
         return Ok(None);
     };
     let is_second = word_of(seats, number.wrapping_sub(1)) == "begin"
         || word_of(seats, number.wrapping_add(1)) == "begin";
-    let out = put_at(alloc, text, one.span, one.span, "")?;
+    let out = put_at(alloc, one.span, one.span, "")?;
     let out = if is_second { Some(out) } else { None };
     if let Some(fix) = mending(alloc, text, place.span, out)? {
         let words = String::from_str(alloc, "the second `begin` has no `end`")?;
         return Ok(Some((Some((one.span, words)), Some(fix), None)));
     }
-    let line = seats.get(number).map_or(0, |begin| begin.line);
+    let line = one.line;
     let (words, from) = match seats.get(end) {
         Some(end) if line == end.line => ("it ends before #", end.span.from),
-        Some(end) => ("by its indentation it ends before line @", end.span.from),
+        Some(end) => ("by its indentation it ends before line %", end.span.from),
         None => ("by its indentation it ends at the end of the text", 0),
     };
-    let at = spot_words(alloc, text, from)?;
-    let ending = sentence(alloc, words, line_of(at.as_str()), at.as_str())?;
+    let ending = placed(alloc, text, words, "", from)?;
     let mut inner = seats
         .get(number.saturating_add(1)..end)
         .unwrap_or(&[])
         .iter();
     let inner = inner.find(|seat| seat.word == "begin" && seat.line == line);
-    let spot = spot_words(alloc, text, inner.map_or(0, |inner| inner.span.from))?;
     let words = match inner {
         Some(_) => "`begin` has no `end`, or that at # has none: @",
         None => "`begin` has no `end`: @",
     };
-    let words = sentence(alloc, words, ending.as_str(), spot.as_str())?;
+    let at = inner.map_or(0, |inner| inner.span.from);
+    let words = placed(alloc, text, words, ending.as_str(), at)?;
     let fix = closing(place, seats, end)?;
     Ok(Some((Some((one.span, words)), fix, None)))
 }
@@ -234,20 +205,11 @@ fn unclosed(place: Place, seats: &[LineLexeme]) -> Saying {
 fn guard_before(seats: &[LineLexeme], number: usize) -> Option<LineLexeme> {
     let guard = guard_of(seats, number, *seats.get(number)?)?;
     let mut between = seats.get(guard..number)?.iter();
-    if between.any(|seat| seat.word == ";") {
-        return seats.get(guard).copied();
-    }
-    None
+    let is_several = between.any(|seat| seat.word == ";");
+    seats.get(guard).copied().filter(|_| is_several)
 }
 
-/// What is said of the lexeme that leads to several statements, to an `end`.
-fn led_words(place: Place, sentence_of: &str, guard: LineLexeme, at: usize) -> Words {
-    let at = spot_words(place.alloc, place.text, at)?;
-    sentence(place.alloc, sentence_of, guard.word, at.as_str())
-}
-
-/// What is said of the `end` that is one too many, with a word behind it that says what it ends, or that closes several statements without a
-/// block behind what leads to them.
+/// What is said of the `end` that is one too many, or that closes several statements without a block behind what leads to them.
 fn surplus(place: Place, seats: &[LineLexeme]) -> Saying {
     let (alloc, text) = (place.alloc, place.text);
     let number = surplus_at(place, seats)?.unwrap_or(usize::MAX);
@@ -256,66 +218,26 @@ fn surplus(place: Place, seats: &[LineLexeme]) -> Saying {
     };
     if let Some(guard) = guard_before(seats, number) {
         let words = "several statements stand behind `@` without `begin`, to the `end` at #";
-        let words = led_words(place, words, guard, end.span.from)?;
-        let fix = put_behind(alloc, text, guard.span, "begin")?;
+        let words = placed(alloc, text, words, guard.word, end.span.from)?;
+        let fix = put_behind(alloc, guard.span, "begin")?;
         return Ok(Some((Some((guard.span, words)), Some(fix), None)));
     }
     let words = "`end` has no `begin`: an `if`, a `while` or a `repeat` has no `end` of its own";
     let words = String::from_str(alloc, words)?;
-    let part = match seats.get(number..) {
-        Some([_, word, behind, ..])
-            if has_word("if while repeat process name", word.word)
-                && has_word("; end else", behind.word) => {
-            let from = end.span.from;
-            Span { from, ..word.span }
-        }
-        _ => end.span,
-    };
-    let fix = put_at(alloc, text, part, part, "")?;
+    let fix = put_at(alloc, end.span, end.span, "")?;
     Ok(Some((Some((end.span, words)), Some(fix), None)))
-}
-
-/// What is said of a word that ends a block elsewhere, at a place or before it, or of an `else`, behind several statements without a block.
-pub(crate) fn closer_said(place: Place) -> Saying {
-    let (alloc, text) = (place.alloc, place.text);
-    let is_else = finds("else", near(place, 0)) && may_stand("end", place.wanted);
-    let is_late = finds(";", near(place, -1)) && offered(before(place, 1), 1, "nothing").is_some();
-    let word = foreign_word(place).filter(|(_, row)| cell(row, 1) == "end");
-    let number = match word {
-        Some((at, _)) => at.number,
-        None if !is_else || is_late => return Ok(None),
-        None => place.number,
-    };
-    let all = seats(place)?;
-    let (Some(guard), Some(end)) = (guard_before(&all, number), all.get(number)) else {
-        return Ok(None);
-    };
-    let words = if is_else {
-        "one statement stands between `@` and `else`: insert `begin` behind `@` at #, and `end` before `else`"
-    } else {
-        "insert `begin` after `@` at #: it makes one statement of several, to its `end`"
-    };
-    let words = led_words(place, words, guard, guard.span.from)?;
-    let end = put_at(alloc, text, end.span, end.span, "end")?;
-    let fix = if is_else { None } else { Some(end) };
-    let fix = mending(alloc, text, place.span, fix)?;
-    Ok(Some((None, fix, Some(words))))
 }
 
 /// What is said of blocks at a place, by the indentation of the lines up to it.
 pub(crate) fn blocks_said(place: Place) -> Saying {
-    let count_of = |word| {
-        let lexemes = place.lexemes.iter();
-        lexemes.filter(|one| finds(word, Some(**one))).count()
-    };
-    let (begins, ends) = (count_of("begin"), count_of("end"));
-    if begins == ends {
-        return Ok(None);
-    }
     let all = seats(place)?;
+    let begins = all.iter().filter(|seat| seat.word == "begin").count();
+    let ends = all.iter().filter(|seat| seat.word == "end").count();
     if ends < begins {
         unclosed(place, &all)
-    } else {
+    } else if begins < ends {
         surplus(place, &all)
+    } else {
+        Ok(None)
     }
 }

@@ -4,17 +4,10 @@
 
 mod blocks;
 mod characters;
-mod habits;
 mod mending;
-mod patterns;
 mod place;
-mod rewriting;
 mod rules;
-mod said;
-mod spaced;
-mod table;
 mod unexpected;
-mod words;
 
 // For the crates above.
 pub use characters::character_help;

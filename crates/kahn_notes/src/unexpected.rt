@@ -1,41 +1,109 @@
 //! What is said of a lexeme that can't stand where it stands, or of a text that ends too early; of a comment before that; and of what goes
 //! wrong before a character that isn't of the language.
 
-ghost use Rattle.std.specs.Prelude.{◌≡◌, ◌++◌, IfOk, IfSome, string_bytes};
+ghost use Rattle.std.specs.Prelude.{◌≡◌, ◌++◌, IfOk, IfSome, length, string_bytes};
+ghost use Rattle.std.specs.List.{concat};
 ghost use Rattle.kahn_streams.specs.declared.span.Span.{Span};
 ghost use Rattle.kahn_syntax.specs.{declared.fault.SyntaxFault.TheVariants.Expected, Texts.IsTextFault};
-ghost use Rattle.kahn_notes.specs.Notes.{IsExpected, IsNoteAt, IsThereOrFixed, IsToldAt, Mends};
+ghost use Rattle.kahn_notes.specs.{Notes.IsExpected, Notes.IsNoteAt, Notes.IsThereOrFixed, Notes.IsToldAt, Notes.Mends, Notes.listed, Notes.pieces_of, Notes.text_end_words, Notes.wanted_words, Words.any_words, Words.separator};
 
 use crate::characters::character_fix;
-use crate::mending::mending;
-use crate::place::{MOST, Place, front, names_of, offers_of};
-use crate::rewriting::rewritten;
+use crate::mending::{Heading, Saying, Words, mending, placed, put_behind, sentence};
+use crate::place::{MOST, Place};
 use crate::rules::{FAR, grammar_said};
-use crate::said::{
-    Heading, Saying, Words, changed_words, line_of, put_behind, sentence, spot_words,
-};
-use crate::words::add_wanted;
 use kahn_marks::{Fix, Note, Other, Sort, add, add_repeated, part_of, simple};
 use kahn_streams::NoMemory;
-use kahn_syntax::{Lexeme, Span, SyntaxFault, What, lex, parse};
+use kahn_syntax::{Class, Lexeme, Span, SyntaxFault, What, lex};
 use kahn_wanted::{
-    FaultPlace, Unexpected, comment_before, has_word, is_of_word, place_at, reaches, swallows,
+    FaultPlace, LexemeGroup, Unexpected, Wanted, comment_before, has_word, is_of_word, place_at,
+    reaches, sign_letters, swallows,
 };
 use std::alloc::{AllocError, Global};
+
+/// What any lexeme of a class is called: what stands before its letters, these, and what stands behind them.
+fn class_parts(class: Class) -> ((&'static str, &'static str), &'static str)
+    ensures { result.0.0.now ++ (result.0.1.now ++ result.1.now) ≡ any_words class }
+{
+    match class {
+        Class::Word(keyword) => (("`", keyword.letters()), "`"),
+        Class::Name => (("a ", "name"), ""),
+        Class::Number(_) => (("a ", "number"), ""),
+        Class::Sign(sign) => (("`", sign_letters(sign)), "`"),
+    }
+}
+
+/// How a class is written in the tables: the letters of a keyword or a sign, or what any of the class is.
+pub(crate) fn class_word(class: Class) -> &'static str {
+    let ((_, word), _) = class_parts(class);
+    word
+}
+
+fn group_words(group: LexemeGroup) -> &'static str
+    ensures { result.now ≡ wanted_words group }
+{
+    match group {
+        LexemeGroup::Expression => "an expression",
+        LexemeGroup::Operand => "an operand",
+        LexemeGroup::Statement => "a statement",
+        LexemeGroup::SimpleStatement => "a simple statement",
+        LexemeGroup::Declaration => "a declaration",
+        LexemeGroup::Operator => "an operator",
+        LexemeGroup::Arithmetic => "an arithmetic operator",
+    }
+}
+
+/// What stands behind a piece where so many are left.
+fn separator(left: usize) -> &'static str
+    ensures { result.now ≡ separator left }
+{
+    match left {
+        0 => "",
+        1 => " or ",
+        _ => ", ",
+    }
+}
+
+/// The end of the text, where it may stand: behind a whole program; and how many pieces that is.
+fn end_piece(what: What) -> (&'static str, usize)
+    ensures words { result.0.now ≡ concat (text_end_words what) }
+    ensures count { result.1 ≡ length (text_end_words what) }
+{
+    match what {
+        What::Nothing => ("the end of the text", 1),
+        What::More | What::Other => ("", 0),
+    }
+}
+
+/// Adds what may stand at a place, with commas between, and `or` before the last.
+pub(crate) fn add_wanted(words: &mut String, wanted: &Wanted, what: What) -> Result<(), AllocError>
+    ensures { IfOk result (λ _. string_bytes words.new ≡ string_bytes words.old ++ listed (pieces_of wanted.now what)) }
+{
+    let (end, ends) = end_piece(what);
+    let mut left = wanted.groups.len() + wanted.others.len() + ends;
+    for group in &wanted.groups {
+        left -= 1;
+        add(words, &[group_words(*group), separator(left)])?;
+    }
+    for class in &wanted.others {
+        left -= 1;
+        let ((open, word), close) = class_parts(*class);
+        add(words, &[open, word, close, separator(left)])?;
+    }
+    add(words, &[end])
+}
 
 /// How many characters that aren't of the language are passed over at most.
 const PASSED: usize = 16;
 
 /// What is said of a comment: where it begins, and where it ends, on the same line or further on.
 pub(crate) fn comment_words(alloc: Global, text: &str, comment: Span) -> Words {
-    let from = spot_words(alloc, text, comment.from)?;
-    let to = spot_words(alloc, text, comment.to.saturating_sub(1))?;
-    let words = if line_of(from.as_str()) == line_of(to.as_str()) {
-        "the comment at @ ends with the `;` at #"
+    let words = if part_of(text, comment).contains('\n') {
+        "the comment at # goes on to the `;` at @"
     } else {
-        "the comment at @ goes on to the `;` at #"
+        "the comment at # ends with the `;` at @"
     };
-    sentence(alloc, words, from.as_str(), to.as_str())
+    let to = placed(alloc, text, "#", "", comment.to.saturating_sub(1))?;
+    placed(alloc, text, words, to.as_str(), comment.from)
 }
 
 /// What is said of a comment that goes on over lines, if the text goes on with a `;` at the end of its first line.
@@ -45,7 +113,7 @@ pub(crate) fn unended_said(alloc: Global, text: &str, span: Span, comment: Span)
     };
     let to = comment.from.saturating_add(line.trim_end().len());
     let first = Span { to, ..comment };
-    let fix = put_behind(alloc, text, first, ";")?;
+    let fix = put_behind(alloc, first, ";")?;
     let Some(fix) = mending(alloc, text, span, Some(fix))? else {
         return Ok(None);
     };
@@ -53,7 +121,6 @@ pub(crate) fn unended_said(alloc: Global, text: &str, span: Span, comment: Span)
     Ok(Some((Some((first, words)), Some(fix), None)))
 }
 
-/// What stands at a place, in words.
 fn found_words(alloc: Global, text: &str, found: Option<Lexeme>) -> Words {
     match found {
         Some(lexeme) => sentence(alloc, "`@`", part_of(text, lexeme.span), ""),
@@ -61,7 +128,6 @@ fn found_words(alloc: Global, text: &str, found: Option<Lexeme>) -> Words {
     }
 }
 
-/// What was expected at a place, and what was found there.
 fn expected_words(alloc: Global, text: &str, what: What, unexpected: &Unexpected) -> Words
     ensures { IfOk result (λ words. IsExpected what unexpected.now (string_bytes words)) }
 {
@@ -73,32 +139,22 @@ fn expected_words(alloc: Global, text: &str, what: What, unexpected: &Unexpected
 }
 
 /// What is said of a place, beside what was expected there; nothing where the comment before it is what is wrong: it goes on over what reads
-/// like a part of a program, or nothing but comments stands before the place, and no change of one lexeme makes a program.
+/// like a part of a program.
 fn said_of(alloc: Global, text: &str, span: Span, at: &FaultPlace, before: Option<Span>) -> Saying {
     let all = if at.lexemes.len() <= MOST {
         reaches(alloc, &at.lexemes, at.number, FAR)?
     } else {
         Vec::new(alloc)
     };
-    let offers = offers_of(alloc, all, at.number)?;
+    let far = all.iter().map(|reach| reach.to).max().unwrap_or(0);
     if let Some(it) = before {
         if let Some(said) = unended_said(alloc, text, span, it)? {
             return Ok(Some(said));
-        }
-        if at.number == 0 && !offers.far {
-            let fix = mending(alloc, text, span, rewritten(alloc, text, text, span.from)?)?;
-            return Ok(fix.map(|fix| (None, Some(fix), None)));
         }
         if swallows(text.as_bytes(), it.from, it.to.min(text.len()), true) {
             return Ok(None);
         }
     }
-    let earlier = front(&at.lexemes, at.number.saturating_sub(1)).iter();
-    let earlier = earlier
-        .map(|lexeme| lexeme.span)
-        .collect::<Vec<Span>>(alloc)?;
-    let declaring = "integer logical in out channel process";
-    let declared = names_of(alloc, text, &earlier, declaring)?;
     grammar_said(Place {
         alloc,
         text,
@@ -107,8 +163,9 @@ fn said_of(alloc: Global, text: &str, span: Span, at: &FaultPlace, before: Optio
         back: 0,
         span,
         wanted: &at.unexpected.wanted,
-        offers: &offers,
-        declared: &declared,
+        reaches: &all,
+        whole: all.iter().any(|reach| reach.whole),
+        to: far.max(at.number.saturating_add(3)),
     })
 }
 
@@ -161,8 +218,7 @@ fn note_at(
     }
 }
 
-/// What a note has beside what was expected: a heading of its own, a change, and sentences, of which one is on the comment before it. A
-/// heading that would stand at the place itself stands below.
+/// What a note has beside what was expected: a heading of its own, a change, and sentences, of which one is on the comment before it.
 fn parts_at(
     alloc: Global,
     text: &str,
@@ -171,15 +227,8 @@ fn parts_at(
 ) -> Result<(Heading, Option<Fix>, Vec<String>), NoMemory> {
     let comment = comment_before(alloc, text, span.from)?;
     let said = said_of(alloc, text, span, place, comment)?;
-    let (mut head, fix, sentence) = said.unwrap_or((None, None, None));
+    let (head, fix, sentence) = said.unwrap_or((None, None, None));
     let mut below = Vec::new(alloc);
-    if let Some((at, words)) = head.take() {
-        if at == span {
-            below.push(words)?;
-        } else {
-            head = Some((at, words));
-        }
-    }
     if let Some(comment) = comment {
         below.push(comment_words(alloc, text, comment)?)?;
     }
@@ -227,39 +276,8 @@ fn blanked(alloc: Global, text: &str) -> Result<String, NoMemory> {
     Ok(plain)
 }
 
-/// What a note says in a line: what it puts in the place of something, or else its heading, and what it puts in or its first sentence.
-fn words_of(alloc: Global, plain: &str, note: &Note) -> Words {
-    let (words, more) = match (&note.fix, note.below.first()) {
-        (Some(fix), _) if fix.span.from < fix.span.to => {
-            return changed_words(alloc, part_of(plain, fix.span), fix.put.as_str());
-        }
-        (Some(fix), _) => ("@; `#` is missing", fix.put.as_str()),
-        (None, Some(below)) => ("@: #", below.as_str()),
-        (None, None) => ("@", ""),
-    };
-    sentence(alloc, words, note.words.as_str(), more)
-}
-
-/// What is said of the first lexeme that can't stand, where it stands before a place.
-fn said_before(alloc: Global, plain: &str, place: Span) -> Result<Vec<Other>, NoMemory> {
-    let mut others = Vec::new(alloc);
-    match parse(alloc, plain) {
-        Err(SyntaxFault::Expected(span, what)) => {
-            if span.from < place.from {
-                let note = unexpected_note(alloc, plain, span, what)?;
-                let (span, words) = (note.span, words_of(alloc, plain, &note)?);
-                others.push(Other { span, words })?;
-            }
-            Ok(others)
-        }
-        Err(SyntaxFault::NoMemory) => Err(NoMemory),
-        _ => Ok(others),
-    }
-}
-
 /// A note on a part of a text where its lexemes go wrong, with these words; and below it the comment before the part that ends right
-/// before it or on its line, or goes on over what reads like a statement; and the first lexeme that can't stand, if that is before the part
-/// and no change mends this. It refuses only where memory was refused.
+/// before it or on its line, or goes on over what reads like a statement. It refuses only where memory was refused.
 pub fn commented_note(alloc: Global, text: &str, span: Span, words: &str) -> Result<Note, NoMemory>
     ensures span { IfOk result (λ note. note.span ≡ span) }
     ensures words { IfOk result (λ note. string_bytes note.words ≡ words.now) }
@@ -270,9 +288,6 @@ pub fn commented_note(alloc: Global, text: &str, span: Span, words: &str) -> Res
     note.fix = character_fix(alloc, text, plain.as_str(), span)?;
     if let Some(comment) = comment_before(alloc, text, span.from)? {
         note.below.push(comment_words(alloc, text, comment)?)?;
-    }
-    if note.fix.is_none() {
-        note.others = said_before(alloc, plain.as_str(), span)?;
     }
     Ok(note)
 }
@@ -297,8 +312,8 @@ pub fn held_remark(alloc: Global, text: &str, span: Span, comments: &[Span]) -> 
         .filter(|comment| holds_name(text, name, **comment));
     if let Some(comment) = holding.next() {
         let words = comment_words(alloc, text, *comment)?;
-        let spot = spot_words(alloc, text, span.from)?;
-        add_repeated(&mut remark, " ", line_of(spot.as_str()).len())?;
+        let line = placed(alloc, text, "%", "", span.from)?;
+        add_repeated(&mut remark, " ", line.len())?;
         add(&mut remark, &["  = ", words.as_str(), "\n"])?;
     }
     Ok(remark)

@@ -12,7 +12,7 @@ pub use Rattle.kahn_code.specs.inner.Tapped.{Tapped}
 pub use Rattle.kahn_crew.proofs.Ended.{all_told}
 pub use Rattle.kahn_crew.proofs.Started.{at_mapped, woken_ready}
 pub use Rattle.kahn_streams.proofs.By_number.{mapped_at}
-pub use Rattle.kahn_crew.specs.declared.{crewing.Crewing.Crewing, opening.CrewFault.CrewFault, opening.CrewFault.TheVariants.NoMemory, opening.CrewFault.TheVariants.NoThread}
+pub use Rattle.kahn_crew.specs.declared.{crew.Crewing.Crewing, opening.CrewFault.CrewFault, opening.CrewFault.TheVariants.NoMemory, opening.CrewFault.TheVariants.NoThread}
 pub use Rattle.kahn_streams.specs.declared.plan.Plan.{Plan}
 pub use Rattle.kahn_crew.specs.inner.Planned.{IsAsConfigured, IsCrew}
 pub use Rattle.kahn_crew.specs.inner.Left.{AreAll, AreUntouched, HaveGone, IsLack, IsOver, IsQuietTask, task_events}
@@ -35,7 +35,7 @@ pub use Rattle.kahn_sequential.specs.inner.Gathered.{IsFrom, IsGiven, IsOutcomeO
 pub use Rattle.kahn_sequential.specs.inner.Parts.{AreEnded, HasRisen, HaveRisen}
 pub use Rattle.kahn_pool.specs.inner.Holding.{AreHeld, AreHeldBy, HasEnded, HasStopped, HasStoppedPart, IsHolding, cell_alone, cell_for, held_state, planned, run_of, IsRoomFor}
 pub use Rattle.kahn_pool.specs.inner.Rested.{AreEndsOfTasks, AreTold, IsDryOf, IsEndOf, IsSaid, IsSettledTask, IsToldAs, SettlesTo, cell_of}
-pub use Rattle.kahn_sequential.specs.inner.Streams.{AreAllGiven, AreGiven, AreLists, HaveChanged}
+pub use Rattle.kahn_sequential.specs.inner.Streams.{AreAllGiven, AreLists, HaveChanged}
 pub use Rattle.kahn_sequential.specs.inner.Workbench.{AllStandBy, AreKeptOf, AreWhole, IsLaid, IsWide, MayRun, Table, gone_in, seated_with, sight_of, told_in, vacant_of}
 pub use Rattle.kahn_streams.proofs.Dry.{dry_reads}
 pub use Rattle.kahn_streams.proofs.Entered.{none_of}

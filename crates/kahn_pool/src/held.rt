@@ -1,29 +1,30 @@
 //! Runs that are cut into parts: between two parts a run is held, more events may be allowed and more values fed.
 
-ghost use Rattle.std.specs.Prelude.{◌≡◌, ◌↔◌, ◌+◌, Some, length, sum_by, IfOk, IsTrue, MatchResult};
-ghost use Rattle.kahn_pool.specs.inner.Below.{Verdict as VerdictOf, cells_of, network_of};
-ghost use Rattle.kahn_sequential.specs.HeldRuns.{HasFed, HasStarted, IsAnswerOf, IsResumed, IsUnfed, IsUnresumed, IsUnstarted, seen_events, HeldRun};
-ghost use Rattle.kahn_sequential.specs.inner.Workbench.{AreKeptOf};
+ghost use Rattle.std.specs.Prelude.{◌≡◌, ◌↔◌, ◌+◌, Some, length, sum_by, IfOk, IsTrue, MatchResult, ◌<◌, ℕ, slice_get};
+ghost use Rattle.kahn_pool.specs.{inner.Below.cells_of, inner.Below.network_of, inner.Holding.IsHeldAs, inner.Holding.planned, inner.Holding.run_of, inner.Below.IsWithinInput, inner.Below.Tasked, inner.Below.end_at, inner.Rested.IsLentTo, inner.Rested.IsSettledTask, inner.Rested.SettlesTo};
+ghost use Rattle.kahn_sequential.specs.{HeldRuns.HasFed, HeldRuns.HasStarted, HeldRuns.IsAnswerOf, HeldRuns.IsResumed, HeldRuns.IsUnfed, HeldRuns.IsUnresumed, HeldRuns.IsUnstarted, HeldRuns.seen_events, HeldRuns.HeldRun, inner.Workbench.AreKeptOf, inner.Streams.HaveChanged};
+ghost use Rattle.std.specs.Coded.{codes};
+ghost use Rattle.kahn_pool.specs.inner.Below.{Verdict as VerdictOf};
 ghost use Rattle.kahn_streams.specs.contracts.tree.Action as action;
 ghost use Rattle.kahn_streams.specs.contracts.tree.Form as form;
-ghost use Rattle.std.specs.Coded.{codes};
-ghost use Rattle.kahn_pool.specs.inner.Holding.{IsHeldAs, planned, run_of};
+ghost use Rattle.kahn_job.specs.declared.task.TaskStanding.TheVariants as standing;
 
-use crate::handover::first_jobs;
 use crate::part::{PartRoom, run_part};
 use crate::plan::RunPart;
-use kahn_code::{Code, Kept, compile};
+use crate::workers::first_jobs;
+use kahn_code::{Code, Kept, Steps, compile};
 use kahn_crew::{CrewFault, Crewing};
-use kahn_job::Idle;
+use kahn_job::{Idle, Task, TaskStanding};
 use kahn_sequential::{HeldFault, fill, opening_streams, plan_of};
 use kahn_streams::{
     Answer, Config, End, FeedFault, Gate, Input, MOST_BOUND, Network, NoMemory, RunFault, Value,
     Verdict,
 };
 use std::alloc::Global;
-use std::marker::Model;
+use std::marker::{Brand, Model};
 use std::mem;
 use std::sync::Wait;
+use std::sync::ledger::{Blank, Ledger};
 use std::thread::Threads;
 
 /// A run between its parts: a network, its input so far, the sum of its bounds so far, and where each process stands.
@@ -197,5 +198,59 @@ impl<'n> Held<'n> {
             ends,
             events: self.bound - self.budget,
         })
+    }
+}
+
+// Says that of an input channel no more is ready than its list has. For the prover only.
+fn fed(task: &Task)
+    ensures { (q : ℕ) → IsWithinInput (end_at task.now.work.ends q) }
+{
+    for parameter in 0..task.parameters() {
+        task.fed(parameter);
+    }
+}
+
+// Says what is known of a task that may not go on. For the prover only.
+fn keep(task: &Task)
+    requires { task.now.standing ≡ standing.Going → ⊥ }
+    ensures { IsSettledTask task.now }
+{
+    let _standing = task.standing();
+    let _parameters = task.parameters();
+    fed(task);
+}
+
+// Asks a task that may go on what comes next. No event is done, and it never allocates.
+fn ask<L: Ledger>(blank: Blank, task: &mut Task, part: &RunPart<'_>)
+    requires blank { (blank.name ≡ L.name) × (blank.parts ≡ L.parts) × (0 < blank.parts) }
+    requires going { task.old.standing ≡ standing.Going }
+    requires lent { IsLentTo part.now task.old }
+    ensures { SettlesTo task.old task.new }
+{
+    let mut steps = Steps::<L>::open(blank);
+    let _pause = task.run(part.code, 0, &mut steps, part.network, part.input);
+    let _parameters = task.parameters();
+    fed(task);
+}
+
+// Asks a task what comes next, if it may go on.
+fn settle(task: &mut Task, part: &RunPart<'_>)
+    requires { IsLentTo part.now task.old }
+    ensures { SettlesTo task.old task.new }
+{
+    if task.standing() == TaskStanding::Going {
+        ask::<Brand>(Blank::new(1), task, part);
+    } else {
+        keep(task);
+    }
+}
+
+/// Asks each task that may go on what comes next.
+pub(crate) fn settle_all(tasks: &mut Vec<Task>, part: &RunPart<'_>)
+    requires { (p : ℕ) (x : Tasked) → slice_get tasks.old.items p ≡ Some x → IsLentTo part.now x }
+    ensures { HaveChanged SettlesTo tasks.old.items tasks.new.items }
+{
+    for instance in 0..tasks.len() {
+        settle(&mut tasks[instance], part);
     }
 }

@@ -1,13 +1,10 @@
 //! Runs of a network, and what their answers mean.
 #![tactic(auto)]
 
-mod ends;
-mod handover;
 mod held;
 mod part;
 mod plan;
 mod running;
-mod settle;
 mod workers;
 
 pub use held::Held;

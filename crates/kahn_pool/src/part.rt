@@ -1,16 +1,16 @@
-//! A part of a held run: idle jobs go on, and come to rest again.
+//! A part of a held run: idle jobs go on, and come to rest again; how each instance stands then.
 
-ghost use Rattle.std.specs.Prelude.{◌≡◌, ◌↔◌, ◌≤◌, ◌<◌, [], Err, Ok, length, map, true, vec_capacity, IfErr, IfOk, OnOk};
-ghost use Rattle.kahn_pool.specs.{inner.Below.NoMemory as Refused, inner.Below.CrewFault as Fault, inner.Below.HaveSettled, inner.Below.IsAsConfigured, inner.Below.IsLack, inner.Below.IsOver, inner.Below.cells_of, inner.Below.network_of, inner.Below.rows_of, inner.Holding.AreHeldBy, inner.Holding.HasEnded, inner.Holding.HasStoppedPart, inner.Holding.HaveAllLeft, inner.Holding.IsHeldPart, inner.Holding.IsRoomFor, inner.Holding.cell_for, inner.Rested.cell_of};
+ghost use Rattle.std.specs.Prelude.{◌≡◌, ◌↔◌, ◌≤◌, ◌<◌, [], Err, Ok, length, map, true, vec_capacity, IfErr, IfOk, OnOk, Some, slice_get};
+ghost use Rattle.kahn_pool.specs.{inner.Below.HaveSettled, inner.Below.IsAsConfigured, inner.Below.IsLack, inner.Below.IsOver, inner.Below.cells_of, inner.Below.network_of, inner.Below.rows_of, inner.Holding.AreHeldBy, inner.Holding.HasEnded, inner.Holding.HasStoppedPart, inner.Holding.HaveAllLeft, inner.Holding.IsHeldPart, inner.Holding.IsRoomFor, inner.Holding.cell_for, inner.Rested.cell_of, inner.Below.AreAll, inner.Below.Tasked, inner.Rested.AreEndsOfTasks, inner.Rested.AreTold, inner.Rested.IsDryOf, inner.Rested.IsDryTold, inner.Rested.IsEndOf};
+ghost use Rattle.kahn_pool.specs.inner.Below.{NoMemory as Refused, CrewFault as Fault};
 ghost use Rattle.kahn_streams.specs.declared.answer.Verdict.TheVariants as verdict;
 
-use crate::ends::ends_of;
+use crate::held::settle_all;
 use crate::plan::RunPart;
-use crate::settle::settle_all;
 use kahn_crew::{CrewFault, Left, rest_all, run_tasks, wake_all};
-use kahn_job::{Idle, Task, meet, settle};
-use kahn_sequential::verdict_of;
-use kahn_streams::{End, Gate, NoMemory, Verdict};
+use kahn_job::{Idle, Task, TaskStanding, meet, settle};
+use kahn_sequential::{channel_read, verdict_of};
+use kahn_streams::{End, Gate, NoMemory, Outcome, Verdict};
 use std::alloc::Global;
 use std::sync::Wait;
 use std::thread::Threads;
@@ -133,4 +133,68 @@ pub(crate) fn run_part<R: Threads + Wait + Sync, G: Gate + Sync>(
         };
     }
     run_settled(rt, alloc, part, idles, room, gate)
+}
+
+// How many tokens were given to a channel: its writer sent them, or the input has them.
+fn given(part: &RunPart<'_>, tasks: &[Task], channel: usize) -> u64
+    requires here { channel < length (network_of part.now.network.now).channels }
+    requires told { AreTold part.now.network.now tasks.now }
+    ensures { AreAll part.now.network.now part.now.input.now tasks.now channel result }
+{
+    let _program = part.network.program();
+    match part.network.writer(channel) {
+        Some(side) => {
+            let task = &tasks[side.instance];
+            let _parameters = task.parameters();
+            task.sent(side.parameter)
+        }
+        None => part.input.count(channel) as u64,
+    }
+}
+
+fn dry_outcome(part: &RunPart<'_>, tasks: &[Task], instance: usize, parameter: usize) -> Outcome
+    requires here { instance < length tasks.now }
+    requires told { AreTold part.now.network.now tasks.now }
+    requires reads { IsDryOf part.now.network.now instance parameter }
+    ensures { IsDryTold part.now tasks.now instance parameter result }
+{
+    let channel = channel_read(part.code, instance, parameter);
+    let task = &tasks[instance];
+    let _program = part.network.program();
+    let _parameters = task.parameters();
+    let taken = task.taken(parameter);
+    if taken == given(part, tasks, channel) {
+        Outcome::Waits(channel)
+    } else {
+        Outcome::More
+    }
+}
+
+fn end_of(part: &RunPart<'_>, tasks: &[Task], instance: usize) -> End
+    requires here { instance < length tasks.now }
+    requires told { AreTold part.now.network.now tasks.now }
+    ensures { (x : Tasked) → slice_get tasks.now instance ≡ Some x → IsEndOf part.now.network.now part.now.input.now tasks.now x result }
+{
+    let task = &tasks[instance];
+    let outcome = match task.standing() {
+        TaskStanding::Going => Outcome::More,
+        TaskStanding::Ended => Outcome::Ended,
+        TaskStanding::Faulted(failure) => Outcome::Faulted(failure),
+        TaskStanding::Dry(parameter) => dry_outcome(part, tasks, instance, parameter),
+    };
+    let events = task.events();
+    End { outcome, events }
+}
+
+/// The ends of all instances. The list that is given has room for all.
+pub(crate) fn ends_of(part: &RunPart<'_>, tasks: &[Task], mut ends: Vec<End>) -> Vec<End>
+    requires told { AreTold part.now.network.now tasks.now }
+    requires room { length tasks.now ≤ vec_capacity ends }
+    ensures { AreEndsOfTasks part.now.network.now part.now.input.now tasks.now result.items (length tasks.now) }
+{
+    ends.clear();
+    for instance in 0..tasks.len() {
+        ends.push_reserved(end_of(part, tasks, instance));
+    }
+    ends
 }

@@ -4,9 +4,8 @@ ghost use Rattle.kahn_pool.specs.{inner.Below.IsCrew, inner.Below.IsCutShort, in
 ghost use Rattle.kahn_sequential.specs.{HeldRuns.IsWant, inner.Workbench.MayRun, inner.Workbench.sight_of, declared.rounds.Round.Round as RoundOf};
 ghost use Rattle.std.specs.Prelude.{◌≡◌, ◌<◌, ◌^◌, length, IfOk, MatchResult};
 
-use crate::handover::lanes;
 use crate::part::PartRoom;
-use crate::workers::{HandRoom, run_on_workers, run_workers};
+use crate::workers::{HandRoom, lanes, run_on_workers, run_workers};
 use kahn_crew::Crewing;
 use kahn_sequential::{
     QUANTUM, Sequential, answered, finished_exactly, plan_of, room_for_answer, run_on_alone,

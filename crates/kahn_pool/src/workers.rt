@@ -1,17 +1,16 @@
-//! A run by several workers: a held run in one part.
+//! A run by several workers: a held run in one part; and how one on one thread is handed over to them.
 
-ghost use Rattle.std.specs.Prelude.{◌≡◌, ◌<◌, ◌≤◌, ◌^◌, [], length, vec_capacity, MatchResult};
-ghost use Rattle.kahn_pool.specs.{inner.Below.IsAsConfigured, inner.Below.IsCrew, inner.Below.IsRight, inner.Below.cells_of, inner.Below.inputs_of, inner.Below.network_of, inner.Holding.AreHeldBy, inner.Holding.IsWholeAnswer, inner.Holding.HasEnded, inner.Holding.IsHandRoomFor, inner.Holding.IsHeldPart, inner.Holding.IsRoomFor};
-ghost use Rattle.kahn_sequential.specs.{HeldRuns.IsWant, inner.Workbench.AreKeptOf, inner.Workbench.AreStreamsReady, inner.Workbench.IsBenchOf, inner.Workbench.IsWide};
+ghost use Rattle.std.specs.Prelude.{◌≡◌, ◌<◌, ◌≤◌, ◌^◌, [], length, vec_capacity, MatchResult, ◌+◌, ℕ, IfOk};
+ghost use Rattle.kahn_pool.specs.{inner.Below.IsAsConfigured, inner.Below.IsCrew, inner.Below.IsRight, inner.Below.cells_of, inner.Below.inputs_of, inner.Below.network_of, inner.Holding.AreHeldBy, inner.Holding.IsWholeAnswer, inner.Holding.HasEnded, inner.Holding.IsHandRoomFor, inner.Holding.IsHeldPart, inner.Holding.IsRoomFor, inner.Below.AreJobsAt, inner.Below.HaveSettled, inner.Below.rows_of, inner.Holding.AreHeld};
+ghost use Rattle.kahn_sequential.specs.{HeldRuns.IsWant, inner.Workbench.AreKeptOf, inner.Workbench.AreStreamsReady, inner.Workbench.IsBenchOf, inner.Workbench.IsWide, inner.Bench.all_events, inner.Bench.events_at, inner.Workbench.AreWhole, inner.Workbench.IsLaid, inner.Workbench.sight_of, inner.Workbench.vacant_of};
 
-use crate::handover::{first_jobs, hand_over};
 use crate::part::{PartRoom, Stopped, run_part, run_settled};
 use crate::plan::RunPart;
 use kahn_code::{Kept, Tap};
 use kahn_crew::{CrewFault, Crewing};
-use kahn_job::{Idle, unseat};
-use kahn_sequential::{Round, Sequential, fill, room_for_answer, run_on_alone};
-use kahn_streams::{Answer, Gate, Input, Network, RunFault, Stream};
+use kahn_job::{Idle, jobs_at, seat, unseat};
+use kahn_sequential::{Round, Sequential, Vacant, fill, room_for_answer, run_on_alone};
+use kahn_streams::{Answer, Gate, Input, Network, NoMemory, RunFault, Stream};
 use std::alloc::Global;
 use std::sync::Wait;
 use std::thread::Threads;
@@ -156,4 +155,61 @@ pub(crate) fn run_on_workers<R: Threads + Wait + Sync, G: Gate + Sync>(
         return Ok(run_on_alone(gate, bench, round, streams, kept, plan));
     }
     Ok(answered(&part, stopped, streams, kept)?)
+}
+
+/// Jobs that stand where the queues of a bench stand, with copies of the tokens that wait there, for `hand_over`. The bench stays as it is.
+/// Fails only if memory was refused.
+pub(crate) fn lanes(
+    bench: &Sequential<'_>,
+    alloc: Global,
+    input: &Input,
+) -> Result<Vec<Idle>, NoMemory>
+    requires input { bench.now.input ≡ input.now }
+    requires few { (p : ℕ) → events_at (sight_of bench.now) p < 2 ^ 48 }
+    ensures { IfOk result (λ idles. AreJobsAt bench.now.network bench.now.input bench.now.queues.queues idles.items) }
+{
+    bench.stood();
+    bench.sized();
+    jobs_at(
+        alloc,
+        bench.network(),
+        input,
+        bench.code(),
+        bench.watch(),
+        bench.queues(),
+    )
+}
+
+/// The bench without its processes, and jobs that go on from where these stand, which have let go of nothing: the jobs that are
+/// given get their cells. Never allocates.
+pub(crate) fn hand_over<'n>(bench: Sequential<'n>, mut idles: Vec<Idle>) -> (Vacant<'n>, Vec<Idle>)
+    requires whole { AreWhole (length (network_of bench.network).instances) bench.gone }
+    requires jobs { AreJobsAt bench.network bench.input bench.queues.queues idles.items }
+    ensures laid { IsLaid bench.entry }
+    ensures vacant { result.0 ≡ vacant_of bench.entry }
+    ensures cells { cells_of result.1.items ≡ bench.entry.cells }
+    ensures held { (left : ℕ) → AreHeld bench.entry.network bench.entry.input bench.entry.watch (left + all_events (sight_of bench.entry)) result.1.items left }
+    ensures settled { HaveSettled bench.entry.network bench.entry.input (rows_of result.1.items) }
+{
+    bench.stood();
+    let (vacant, taps) = bench.into_taps();
+    seat(&mut idles, taps);
+    (vacant, idles)
+}
+
+/// The jobs of all processes at their openings, and the bench that they came from. Fails only if memory was refused.
+pub(crate) fn first_jobs<'n>(
+    alloc: Global,
+    network: &'n Network,
+    input: &Input,
+    watch: Option<usize>,
+) -> Result<(Vacant<'n>, Vec<Idle>), NoMemory>
+    ensures code { IfOk result (λ r. r.0.code ≡ network.now) }
+    ensures held { IfOk result (λ r. (bound : ℕ) → AreHeld network.now input.now watch bound r.1.items bound) }
+{
+    let Ok(bench) = Sequential::new(alloc, network, input, None, watch) else {
+        return Err(NoMemory);
+    };
+    let idles = lanes(&bench, alloc, input)?;
+    Ok(hand_over(bench, idles))
 }

@@ -15,13 +15,13 @@ pub use Rattle.kahn_streams.specs.declared.plan.Plan.{Plan}
 pub use Rattle.kahn_code.specs.inner.Opening.{IsOpening}
 pub use Rattle.kahn_sequential.specs.Flows.{AreNew, Flowing, HasLetGo, HasPouredIn, IsRunOn, IsStale}
 pub use Rattle.kahn_sequential.specs.HeldRuns.{AreCalls, GoesOn, HeldRun, IsAnswerOf, IsCall, IsLineOf, IsRightSoFar, IsUnresumed, SaysNoLess, Seen, given_so_far, last_of, seen_at, seen_events, seen_of, so_far, unseen, writing}
-pub use Rattle.kahn_sequential.specs.declared.{held_fault.HeldFault.HeldFault, rounds.Round.Round, rounds.PartEnd.PartEnd, woken.Woken.Woken}
+pub use Rattle.kahn_sequential.specs.declared.{held_fault.HeldFault.HeldFault, rounds.Round.Round, numbers.NumberRange.NumberRange, rounds.PartEnd.PartEnd, woken.Woken.Woken}
 pub use Rattle.kahn_sequential.specs.inner.Bench.{AreEnds, AreStreams, HasEndIn, HasRunCell, IsConcluded, IsLast, IsPaused, IsVerdict, LacksMemory, PausedAt, RunState, all_events, events_at, view_events}
 pub use Rattle.kahn_sequential.specs.inner.FlowBench.{AreLent, IsFlowOf, flow_of, let_go_by, let_go_of, run_of_bench, IsPartEnd}
 pub use Rattle.kahn_sequential.specs.inner.Gathered.{IsFrom, IsGiven, IsOutcomeOf, TookAll, TookNoMore, no_view, view_at}
 pub use Rattle.kahn_sequential.specs.inner.Parts.{AreEnded, HaveRisen, run_with}
 pub use Rattle.kahn_sequential.specs.inner.Streams.{AreAllGiven, AreLists, AreNamed, HaveChanged, IsBegun, IsDeclared, IsFilled, IsFilledStream, IsOpenStream, KeepsOtherLines, OpensWith, kept_in, kept_lists, printed_in, printed_list}
-pub use Rattle.kahn_sequential.specs.inner.Workbench.{AllStandBy, AreKeptOf, AreOpen, AreOpeningCells, AreStreamsReady, AreWhole, HasAdvanced, HasEmptied, HasComeToRest, HasTakenIn, HasTakenTurn, IsMarked, HasWorked, IsInRound, IsLaid, IsLeft, IsRightAlone, IsSeated, Marked, MayRun, StandsAsTold, Table, actual_count, gone_in, parameter_count, sight_of, table_of, told_in, turn_of, vacant_of, weight, HasVisited, HasSpent, IsSameTap, IsSpent, IsSpentBy, IsSpentTap}
+pub use Rattle.kahn_sequential.specs.inner.Workbench.{AllStandBy, AreKeptOf, AreOpen, AreOpeningCells, AreStreamsReady, AreWhole, HasAdvanced, HasEmptied, HasTakenIn, HasTakenTurn, IsMarked, HasWorked, IsInRound, IsLaid, IsLeft, IsRightAlone, IsSeated, Marked, MayRun, StandsAsTold, Table, actual_count, gone_in, parameter_count, sight_of, table_of, told_in, turn_of, vacant_of, weight, HasVisited, HasSpent, IsSameTap, IsSpent, IsSpentBy, IsSpentTap}
 pub use Rattle.kahn_streams.proofs.Dry.{dry_reads}
 pub use Rattle.kahn_streams.proofs.Entered.{none_of}
 pub use Rattle.kahn_streams.proofs.Fed.{meant_input}
@@ -61,7 +61,7 @@ pub use Rattle.std.proofs.lemmas.Result.{err_from_is_err_and}
 pub use Rattle.std.specs.Option.{SomeIff}
 pub use Rattle.kahn_sequential.specs.inner.Noted.{AreAtRest, AreNoted, AreNotedBut, AreSpent, AreSpentBut, HasWoken, IsAtRest, IsOnlyReader, IsReaderOf, IsReadyBehind, IsReadyBy, IsReadyByFirst, IsTakenFrom, IsWoken}
 pub use Rattle.kahn_sequential.specs.inner.Numbers.{HasNumber, HoldNumbers, HoldNumbersTo, IsNumberOf, is_in}
-pub use Rattle.kahn_sequential.specs.inner.Recording.{AreCountsOf, AreOpenChannels, AreRecorded, AreRecordedOf, AreTokensOf, AreTurnShort, AreTurnShortOf, HasGiven, HasOthers, IsCountOf, IsCountedAlone, IsReadByOthers, IsRecorded, IsRecordedAlone, IsSentOn, IsTurnShort, IsWrittenByOthers, StoodIn, TakesTurns}
+pub use Rattle.kahn_sequential.specs.inner.Recording.{AreCountsOf, AreOpenChannels, AreRecorded, AreRecordedOf, AreTokensOf, AreTurnShortOf, HasGiven, HasOthers, HasRecorded, IsCountOf, IsKeptAlone, IsRecorded, IsRecording, IsSentOn, IsTurnShort, StoodIn, TakesTurns}
 pub use Rattle.std.proofs.Common.{⊎_elim, Bool, List, None, Option, Some, [], add-one, ap, append-nil, append_assoc, arith, bytes_eq, cond, drop, drop-cons, eq-eqb, eqb-true, false, if◌then◌else◌, inl, inr, le_of_suc-le-suc, le_refl, le_trans, length, map, max, min, not-suc-le-zero, pos, refl, replicate, rules, slice_get, slice_index_or, slice_set, subst, suc, suc-le-suc, sum_by, sym, take, true, true≢false, vec_capacity, zero, ℕ, ◌++◌, ◌+◌, ◌-◌, ◌<◌, ◌==◌, ◌^◌, ◌||◌, ◌↔◌, ◌∙◌, ◌∷◌, ◌≡◌, ◌≢◌, ◌≤◌, ◌⊎◌}
 pub use mathlib.Core.Path.{fun_ext}
 pub use Rattle.std.specs.declared.{alloc.Global.Global, vec.Vec.Vec}

@@ -1,5 +1,5 @@
 -- A flow: what its parts, more input and letting go make of it.
-use Rattle.kahn_sequential.proofs.Common.{vec_capacity, sum_by, arith, ◌≡◌, ◌⊎◌, inl, inr, true, ℕ, suc, ◌+◌, ◌-◌, ◌<◌, ◌≤◌, ◌^◌, List, [], ◌∷◌, ◌++◌, length, map, replicate, take, refl, sym, ap, ◌∙◌, subst, append-nil, Option, Some, slice_get, slice_index_or, length-map, map-append, take_all, take_at, Source, Given, Written, Nobody, Writes, channel_source, network_of, instance_at, actual_at, role_at, Token, Value, Line, Channel, Print, AreInputsExtended, source, Lists, inputs_of, none_of, prefix_refl, View, token_value, IsPoured, tokens, told_view, Gone, nothing_gone, poured_grown, GoesOn, IsLineOf, HeldRun, given_so_far, seen_at, seen_of, so_far, writing, stream_lines, Verdict, all_events, IsConcluded, AreEnded, AreNew, HasLetGo, IsRunOn, AreLent, IsFlowOf, flow_of, let_go_by, let_go_of, run_of_bench, no_view, AreAllGiven, AllStandBy, AreWhole, HasEmptied, HasTakenIn, HasWorked, IsLaid, IsVerdict, Table, sight_of, writes, HaveRisen, Plan, Program, seen_events, length-append, End, PartEnd, Woken, IsPartEnd, AreNoted, AreSpent, IsWoken, Global, Vec, IsStale, HoldNumbers, IsNumberOf, IsSpent}
+use Rattle.kahn_sequential.proofs.Common.{vec_capacity, sum_by, arith, ◌≡◌, ◌⊎◌, inl, inr, true, ℕ, suc, ◌+◌, ◌-◌, ◌<◌, ◌≤◌, ◌^◌, List, [], ◌∷◌, ◌++◌, length, map, replicate, take, refl, sym, ap, ◌∙◌, subst, append-nil, Option, Some, slice_get, slice_index_or, length-map, map-append, take_all, take_at, Source, Given, Written, Nobody, Writes, channel_source, network_of, instance_at, actual_at, role_at, Token, Value, Line, Channel, Print, AreInputsExtended, source, Lists, inputs_of, none_of, prefix_refl, View, token_value, IsPoured, tokens, told_view, Gone, nothing_gone, poured_grown, GoesOn, IsLineOf, HeldRun, given_so_far, seen_at, seen_of, so_far, writing, stream_lines, Verdict, all_events, IsConcluded, AreEnded, AreNew, HasLetGo, IsRunOn, AreLent, IsFlowOf, flow_of, let_go_by, let_go_of, run_of_bench, no_view, AreAllGiven, AllStandBy, AreWhole, HasEmptied, HasTakenIn, HasWorked, IsLaid, IsVerdict, Table, sight_of, writes, HaveRisen, Plan, Program, seen_events, length-append, End, PartEnd, Woken, IsPartEnd, AreNoted, AreSpent, IsWoken, NumberRange, IsStale, HoldNumbers, IsNumberOf, IsSpent}
 use Rattle.kahn_sequential.proofs.{Benched.mapped, Giving.input_role, Going_on.Grows, Going_on.goes_on, Going_on.grows_not, Going_on.seen_grows, Once_written.input_watched, Once_written.written_once, Named.HasLine, Named.has_line, Righted.events_seen, Righted.settled_by}
 
 -- ---- it goes on
@@ -128,7 +128,7 @@ new_given b plan said line c ts e from here lent =
     new_by b plan said (length ts) ts e from (last.1 ∙ ap (λ l. l ++ map token_value ts) (sym (front_of (inputs_of b.input c) last.0 ts last.1)))
 
 -- nothing is, of an instance that let go of all that it kept
-module _ (b : Table) (plan : Plan) (said : Option Verdict) (turned : Woken) (numbers : List (Vec ℕ Global)) (known : turned.known ≡ true) (spent : AreSpent b turned)
+module _ (b : Table) (plan : Plan) (said : Option Verdict) (turned : Woken) (numbers : List NumberRange) (known : turned.known ≡ true) (spent : AreSpent b turned)
     (all : HoldNumbers (network_of b.network) (stream_lines (network_of b.network) b.watch) numbers) where
   stale_by : (s : Source) (c : Line) → ((p : ℕ) → s ≡ Written p → IsSpent b p) → given_so_far (run_of_bench b plan said) s c ≡ let_go_by b 0 s c
   stale_by Given (Channel c) h = sym (take_all (length (inputs_of b.input c) - 0) (inputs_of b.input c) (omega arith))
@@ -154,12 +154,12 @@ lent_same b d n l w ts h c seen role =
 pub none_lent : (b : Table) (ts : List Token) → ts ≡ [] → AreLent b ts
 none_lent b ts e c w role = (inputs_of b.input c, sym (append-nil (inputs_of b.input c)) ∙ ap (λ (l : List Token). inputs_of b.input c ++ map token_value l) (sym e))
 
-numbers_same : (b d : Table) → d.network ≡ b.network → d.watch ≡ b.watch → (numbers : List (Vec ℕ Global)) → HoldNumbers (network_of b.network) (stream_lines (network_of b.network) b.watch) numbers →
+numbers_same : (b d : Table) → d.network ≡ b.network → d.watch ≡ b.watch → (numbers : List NumberRange) → HoldNumbers (network_of b.network) (stream_lines (network_of b.network) b.watch) numbers →
     HoldNumbers (network_of d.network) (stream_lines (network_of d.network) d.watch) numbers
 numbers_same b d n w numbers = subst (λ (k : Program × Option ℕ). HoldNumbers (network_of k.0) (stream_lines (network_of k.0) k.1) numbers) (λ i. (sym n i, sym w i))
 
 -- also with other ends and other lent tokens
-pub flow_stays : {t : Program} {plan : Plan} {b : Table} {budget room : ℕ} {ends : List End} {woken turned : Woken} {numbers : List (Vec ℕ Global)} {said : Option Verdict} {ts : List Token} →
+pub flow_stays : {t : Program} {plan : Plan} {b : Table} {budget room : ℕ} {ends : List End} {woken turned : Woken} {numbers : List NumberRange} {said : Option Verdict} {ts : List Token} →
     IsFlowOf t plan b budget room ends woken turned numbers said ts → (d : Table) →
     d.network ≡ b.network → d.watch ≡ b.watch → map seen_of d.cells ≡ map seen_of b.cells → (next : Option Verdict) → AreEnded (sight_of d) plan.bound budget ends next →
     (later : Woken) → AreNoted (sight_of d) later ends → (after : Woken) → AreSpent d after → (us : List Token) → AreLent d us → IsFlowOf t plan d budget room ends later after numbers next us
@@ -201,7 +201,7 @@ emptied_flow b d h plan said n ts e =
     }
 
 -- a part of it
-module _ {t : Program} {plan : Plan} {b : Table} {budget room : ℕ} {last : List End} {woken turned : Woken} {numbers : List (Vec ℕ Global)} {said : Option Verdict} {ts : List Token}
+module _ {t : Program} {plan : Plan} {b : Table} {budget room : ℕ} {last : List End} {woken turned : Woken} {numbers : List NumberRange} {said : Option Verdict} {ts : List Token}
     (f : IsFlowOf t plan b budget room last woken turned numbers said ts)
     (d : Table) (h : HasWorked b d) (more : ℕ) (below : more ≤ 281474976710655 - plan.bound) (r : PartEnd) (c : IsPartEnd d (all_events (sight_of b) + (budget + more)) r) where
   abbrev after : Plan

@@ -1,5 +1,6 @@
 -- Streams of input channels, which get the whole list of the input.
-use Rattle.kahn_sequential.proofs.Common.{⊎_elim, arith, ◌≡◌, ◌⊎◌, inl, inr, ℕ, suc, ◌-◌, ◌<◌, Bool, true, false, if◌then◌else◌, List, [], ◌∷◌, ◌++◌, length, map, Some, None, refl, sym, ap, ◌∙◌, subst, slice_get, append_assoc, same_Some, length-map, map-append, Role, Value, Inner, Input, Output, Channel, Token, Inputs, source, IsPrefix, Schema, Node, Source, Given, Written, Nobody, any_written, first_writer, source_by, channel_source, role_at, IsOwn, token_value, Stream, IsBegun, IsOpenStream, OpensWith, at_last}
+use Rattle.kahn_sequential.proofs.Common.{⊎_elim, arith, ◌≡◌, ◌⊎◌, inl, inr, ℕ, suc, ◌-◌, ◌<◌, ◌≤◌, Bool, true, false, if◌then◌else◌, List, [], ◌∷◌, ◌++◌, length, map, Some, None, refl, sym, ap, ◌∙◌, subst, slice_get, append_assoc, same_Some, length-append, length-map, map-append, Role, Value, Inner, Input, Output, Channel, Token, Inputs, source, IsPrefix, Schema, Node, Source, Given, Written, Nobody, any_written, first_writer, source_by, channel_source, role_at, IsOwn, token_value, Stream, IsBegun, IsOpenStream, OpensWith, at_last}
+use Rattle.kahn_sequential.proofs.Lists.{all_of_it}
 
 -- ---- the list of a channel, token by token
 
@@ -60,14 +61,28 @@ input_role N c e = role_given (role_at N c) (first_writer N.instances 0 c) (no_g
 given_role : (r : Role) (s : Source) → r ≡ Input → source_by r s ≡ Given
 given_role r s e = ap (λ x. source_by x s) e
 
-pub channel_opens : (N : Schema) (I : Inputs) (c : ℕ) (ts us : List Token) → ts ≡ [] → IsBegun N I c (I c) us → (role_at N c ≡ Input → map token_value us ≡ I c) →
-    ((role_at N c ≡ Input → ⊥) → us ≡ ts) → OpensWith N I (source N (Channel c)) (Channel c) us
-channel_opens N I c ts us none b f g = by (source N (Channel c)) refl
+pub channel_opens : (N : Schema) (I : Inputs) (c : ℕ) (us : List Token) → IsBegun N I c (I c) us → (us ≡ []) ⊎ (role_at N c ≡ Input) →
+    (role_at N c ≡ Input → length (I c) ≤ length us) → OpensWith N I (source N (Channel c)) (Channel c) us
+channel_opens N I c us b f g = by (source N (Channel c)) refl
   where
+    all : role_at N c ≡ Input → map token_value us ≡ I c
+    all r =
+        let long = g r in
+        let front = ap length b.values.1 ∙ length-append (map token_value us) b.values.0 in
+        sym (all_of_it (map token_value us) (I c) b.values (omega (arith, long, front, length-map us token_value)))
+
+    none : (o : Source) → channel_source N c ≡ o → (o ≡ Given → ⊥) → us ≡ []
+    none o e n = ⊎_elim (λ s. s) (λ r. absurd (n (sym e ∙ given_role (role_at N c) (first_writer N.instances 0 c) r))) f
+
     by : (o : Source) → channel_source N c ≡ o → OpensWith N I o (Channel c) us
-    by Given e = record { values = f (input_role N c e); places = b.places; own = b.own }
-    by (Written p) e = g (λ r. absurd (let h : Given ≡ Written p = sym (given_role (role_at N c) (first_writer N.instances 0 c) r) ∙ e in cc)) ∙ none
-    by Nobody e = g (λ r. absurd (let h : Given ≡ Nobody = sym (given_role (role_at N c) (first_writer N.instances 0 c) r) ∙ e in cc)) ∙ none
+    by Given e = record { values = all (input_role N c e); places = b.places; own = b.own }
+    by (Written p) e = none (Written p) e (λ h. cc)
+    by Nobody e = none Nobody e (λ h. cc)
+
+-- a watched channel opens with all of its list, if it is an input channel
+pub opens_given : (N : Schema) (I : Inputs) (c : ℕ) (ts : List Token) → OpensWith N I (source N (Channel c)) (Channel c) ts → role_at N c ≡ Input → map token_value ts ≡ I c
+opens_given N I c ts h r =
+    let k = subst (λ o. OpensWith N I o (Channel c) ts) (given_role (role_at N c) (first_writer N.instances 0 c) r) h in k.values
 
 -- one stream more
 pub opens_more : (N : Schema) (I : Inputs) (streams : List Stream) (x : Stream) → ((j : ℕ) (y : Stream) → slice_get streams j ≡ Some y → IsOpenStream N I y) →

@@ -1,5 +1,5 @@
 -- What is kept of the channels after a turn, and in the end.
-use Rattle.kahn_sequential.proofs.Common.{nat_tests, ⊎_elim, arith, ◌≡◌, ◌⊎◌, inl, inr, ℕ, suc, ◌+◌, ◌-◌, ◌<◌, ◌≤◌, ◌==◌, Bool, true, false, cond, min, List, [], ◌∷◌, ◌++◌, length, refl, sym, ap, ◌∙◌, subst, Option, Some, None, slice_get, AllStandBy, AreKeptTokens, AreStreams, Answer, Channel, Finished, Given, HasRunCell, HasWorked, HaveChanged, Inner, Input, Inputs, IsConcluded, IsGiven, IsLaid, IsOpenStream, IsRight, IsWhole, Lists, Schema, OpensWith, Output, Pause, Program, Reads, Role, Round, RunState, Side, Source, Stream, Table, View, Waiting, Writes, Written, actual_at, all_events, cases_eq, channel_source, events_at, get_or-set_other, given_of, inputs_of, instance_at, is_output, joins_within, length-map, network_of, no_view, one_first, prefix_refl, role_at, sight_of, slice_get_within, source, stream_lines, taken_of, told_view, token_value, turn_of, values_of, view_at, view_events, AllStand, StoodBy, mapped_at, Lines as Queues, Holds, IsServed, IsWriter, inputs, writes, AreCountsOf, AreOpenChannels, AreRecorded, AreTurnShort, HasGiven, IsCountOf, HasOthers, IsRecorded, AreTokensOf, IsSentOn, IsTurnShort, IsWrittenByOthers, StoodIn, TakesTurns, AreRecordedOf, AreTurnShortOf}
+use Rattle.kahn_sequential.proofs.Common.{nat_tests, ⊎_elim, arith, ◌≡◌, ◌⊎◌, inl, inr, ℕ, suc, ◌+◌, ◌-◌, ◌<◌, ◌≤◌, ◌==◌, Bool, true, false, cond, min, List, [], ◌∷◌, ◌++◌, length, refl, sym, ap, ◌∙◌, subst, Option, Some, None, slice_get, AllStandBy, AreKeptTokens, AreStreams, Answer, Channel, Finished, Given, HasRunCell, HasWorked, HaveChanged, Inner, Input, Inputs, IsConcluded, IsGiven, IsLaid, IsOpenStream, IsRight, IsWhole, Lists, Schema, OpensWith, Output, Pause, Program, Reads, Role, Round, RunState, Side, Source, Stream, Table, View, Waiting, Writes, Written, actual_at, all_events, cases_eq, channel_source, events_at, get_or-set_other, given_of, inputs_of, instance_at, is_output, joins_within, length-map, network_of, no_view, one_first, prefix_refl, role_at, sight_of, slice_get_within, source, stream_lines, taken_of, told_view, token_value, turn_of, values_of, view_at, view_events, AllStand, StoodBy, mapped_at, Lines as Queues, Holds, IsServed, IsWriter, inputs, writes, AreCountsOf, AreOpenChannels, AreRecorded, HasRecorded, Global, Vec, HasGiven, IsCountOf, HasOthers, IsRecorded, AreTokensOf, IsSentOn, IsTurnShort, StoodIn, TakesTurns, AreRecordedOf, AreTurnShortOf}
 use Rattle.kahn_streams.proofs.{Finding.found, Sided.channel_served, Token_lists.token_stands}
 use Rattle.kahn_sequential.specs.{Recordings.AreCountsIn, Recordings.AreHistoriesIn, Recordings.IsHistoryIn, declared.counted.Count.Count}
 use Rattle.kahn_sequential.proofs.{Assembling.assembled, Assembling.assembled_long, Assembling.assembled_taken, Assembling.assembled_whole, Benched.seated_at, Benched.sent_there, Benched.taken_there, Benched.viewed, Events.none_sent, Growing.one_event, Growing.sent_grows, Lists.all_of_it, Lists.both_stand, Lists.old_item, Lists.one_of_sum, Lists.prefix_stands}
@@ -206,10 +206,7 @@ module _ {b d : Table} (laid : IsLaid b) (after : IsLaid d) {p quantum : ℕ} {z
         by (inl e) (inl f) (inl l) = one e f l (cases_eq (events_at (sight_of d) p) (events_at (sight_of b) p))
         by (inl e) (inl f) (inr h) = absurd (h c listed served.0.0 served.0.1.0 served.1.0 served.1.1.0 (e ∙ sym f))
 
-    elsewhere : IsWrittenByOthers N p c → given' ≡ given
-    elsewhere n = unless (λ e. n served.0.0 served.0.1.0 e)
-
-  one_short : (c : ℕ) (x : Stream) → c < length N.channels → IsRecorded b.network b.queues c x → IsTurnShort d.network d.queues p c x
+  one_short : (c : ℕ) (x : Stream) → c < length N.channels → IsRecorded b.network b.queues c x → IsTurnShort d.network d.queues c x
   one_short c x l h = record {
     names = after.network;
     is = subst (λ (k : Program × Lists). IsSentOn k.0 k.1 c x) (λ i. (sym worked.network i, (laid.input ∙ (sym worked.input ∙ sym after.input)) i)) h.is;
@@ -217,16 +214,13 @@ module _ {b d : Table} (laid : IsLaid b) (after : IsLaid d) {p quantum : ℕ} {z
         let inner = was role in
         let n = h.all inner in
         (omega (arith, not_more c l inner, n), omega (arith, not_fewer c l inner, n));
-    others = λ role n.
-        let inner = was role in
-        h.all inner ∙ sym (elsewhere c l inner (subst (λ t. IsWrittenByOthers (network_of t) p c) worked.network n));
   }
     where
       was : role_at (network_of d.network) c ≡ Inner → role_at N c ≡ Inner
       was e = ap (λ t. role_at (network_of t) c) (sym worked.network) ∙ e
 
   -- after a turn of p all streams are short of what it sent alone
-  pub turn_short : (xs : List Stream) → AreRecorded b xs → AreTurnShort d p xs
+  pub turn_short : (xs : List Stream) → AreRecorded b xs → AreTurnShortOf d.network d.queues xs
   turn_short xs h = record {
     count = h.count ∙ ap (λ t. length (network_of t).channels) (sym worked.network);
     each = λ c x at. let l = slice_get_within xs c x at in let n = h.count in one_short c x (omega (arith, l, n)) (h.each c x at);
@@ -253,10 +247,6 @@ module _ (b : Table) (laid : IsLaid b) {bound left : ℕ} {halted : Bool} (a : A
           taken = λ p q x r e. let m = k.taken p q r in let l = assembled_taken a g streams total p q c x r e in omega (arith, m, l);
         };
   }
-
-  pub all_counted : (counts : List Count) → AreCountsOf (sight_of b) counts (length (network_of b.network).channels) →
-      (z : IsRight (network_of b.network) (inputs_of b.input) bound b.watch a) × AreCountsIn z.run counts
-  all_counted counts h = (right, counts_in counts h)
 
   -- tokens from the first place on, as many as were given, are the tape
   module _ (xs : List Stream) (recorded : AreRecorded b xs) where
@@ -316,9 +306,9 @@ module _ (b : Table) (laid : IsLaid b) {bound left : ℕ} {halted : Bool} (a : A
           whole : a.verdict ≡ Finished → IsWhole (network_of b.network) (inputs_of b.input) (Channel c) (values_of s)
           whole f = subst (IsWhole (network_of b.network) (inputs_of b.input) (Channel c)) (sym values) (assembled_whole a g streams total f (Channel c))
 
-    pub all_recorded : (counts : List Count) → AreCountsOf (sight_of b) counts (length (network_of b.network).channels) →
-        (z : IsRight (network_of b.network) (inputs_of b.input) bound b.watch a) × AreCountsIn z.run counts × AreHistoriesIn z.run xs
-    all_recorded counts h = (right, counts_in counts h, record { count = recorded.count; each = is_history })
+  pub all_recorded : (counts : List Count) (r : Option (Vec Stream Global)) → AreCountsOf (sight_of b) counts (length (network_of b.network).channels) → HasRecorded b r →
+      (z : IsRight (network_of b.network) (inputs_of b.input) bound b.watch a) × AreCountsIn z.run counts × ((v : Vec Stream Global) → r ≡ Some v → AreHistoriesIn z.run v.items)
+  all_recorded counts r h k = (right, counts_in counts h, λ v e. record { count = (k v e).count; each = is_history v.items (k v e) })
 
 -- ---- turns
 
@@ -329,11 +319,11 @@ turns_of N r (inr h) = inr h
 -- ---- one channel after another
 
 -- a stream was short, and has all
-abbrev pub Adds : Program → Queues → ℕ → Stream → Stream → Type 0
-Adds t q p x y = (c : ℕ) → IsTurnShort t q p c x → IsRecorded t q c y
+abbrev pub Adds : Program → Queues → Stream → Stream → Type 0
+Adds t q x y = (c : ℕ) → IsTurnShort t q c x → IsRecorded t q c y
 
-pub adds_one : (t : Program) (q : Queues) (p c : ℕ) (x y : Stream) → IsTurnShort t q p c x → IsRecorded t q c y → Adds t q p x y
-adds_one t q p c x y h k d g = subst (λ n. IsRecorded t q n y) same k
+pub adds_one : (t : Program) (q : Queues) (c : ℕ) (x y : Stream) → IsTurnShort t q c x → IsRecorded t q c y → Adds t q x y
+adds_one t q c x y h k d g = subst (λ n. IsRecorded t q n y) same k
   where
     line : Channel c ≡ Channel d
     line = sym h.is.line ∙ g.is.line
@@ -341,15 +331,15 @@ adds_one t q p c x y h k d g = subst (λ n. IsRecorded t q n y) same k
     same : c ≡ d
     same = let e = line in cc
 
-pub all_added : (t : Program) (q : Queues) (p : ℕ) (old new : List Stream) → AreTurnShortOf t q p old → HaveChanged (Adds t q p) old new → AreRecordedOf t q new
-all_added t q p old new h k = record {
+pub all_added : (t : Program) (q : Queues) (old new : List Stream) → AreTurnShortOf t q old → HaveChanged (Adds t q) old new → AreRecordedOf t q new
+all_added t q old new h k = record {
   count = k.count ∙ h.count;
   each = λ c y at. let x = old_item k c y at in x.2 c (h.each c x.0 x.1);
 }
 
 -- a stream that stays
-pub stays_so : (t : Program) (q : Queues) (p c : ℕ) (x : Stream) → IsTurnShort t q p c x → (role_at (network_of t) c ≡ Inner → IsWrittenByOthers (network_of t) p c) → IsRecorded t q c x
-stays_so t q p c x h n = record { is = h.is; all = λ r. h.others r (n r) }
+pub stays_so : (t : Program) (q : Queues) (c : ℕ) (x : Stream) → IsTurnShort t q c x → (role_at (network_of t) c ≡ Inner → ⊥) → IsRecorded t q c x
+stays_so t q c x h n = record { is = h.is; all = λ r. absurd (n r) }
 
 -- one channel more that its writer doesn't read
 pub others_more : (N : Schema) (n : ℕ) → ((d : ℕ) → d < n → HasOthers N d) → HasOthers N n → (d : ℕ) → d < n + 1 → HasOthers N d

@@ -1,6 +1,6 @@
 -- Rounds over cells.
 use Rattle.std.proofs.Common.{length-append}
-use Rattle.kahn_sequential.proofs.Common.{⊎_elim, arith, ◌≡◌, ◌⊎◌, inl, inr, ℕ, suc, ◌+◌, ◌-◌, ◌^◌, ◌<◌, ◌≤◌, [], ◌∷◌, ◌++◌, length, sum_by, refl, sym, ap, ◌∙◌, subst, Some, slice_get, slice_set, Bool, true, false, cond, min, vec_capacity, Store, at_last, Pause, More, Reads, actual_at, instance_at, view_at, IsOutcomeOf, TookAll, Round, RunState, IsPaused, HasEndIn, events_at, view_events, all_events, weight, AreEnds, HasAdvanced, HasComeToRest, HasRunCell, HasTakenTurn, HasWorked, IsInRound, IsMarked, LacksMemory, Marked, MayRun, PausedAt, no_view, Table, sight_of, sum_by-set, turn_of, length-set, End, Outcome, Waits}
+use Rattle.kahn_sequential.proofs.Common.{⊎_elim, arith, ◌≡◌, ◌⊎◌, inl, inr, ℕ, suc, ◌+◌, ◌-◌, ◌^◌, ◌<◌, ◌≤◌, [], ◌∷◌, ◌++◌, length, sum_by, refl, sym, ap, ◌∙◌, subst, Some, slice_get, slice_set, Bool, true, false, cond, min, vec_capacity, Store, at_last, Pause, More, Reads, actual_at, instance_at, view_at, IsOutcomeOf, TookAll, Round, RunState, IsPaused, HasEndIn, events_at, view_events, all_events, weight, AreEnds, HasAdvanced, HasRunCell, HasTakenTurn, HasWorked, IsInRound, IsLast, IsMarked, LacksMemory, Marked, MayRun, PausedAt, no_view, Table, sight_of, sum_by-set, turn_of, length-set, End, Outcome, Waits}
 use Rattle.kahn_sequential.proofs.{Tapping.worked_on, Lists.one_of_sum}
 use Rattle.kahn_streams.specs.Script as script
 use Rattle.kahn_code.specs.declared.progress.Pause.TheVariants as pause
@@ -199,7 +199,11 @@ advanced_none r may = record {
   room = refl;
 }
 
--- rounds, and then one in which nothing was done
+-- rounds came to an end, with the last one in which nothing was done
+pub record HasComeToRest (b d : Table) (old new : Round) : Type 0 where
+  pub advanced : HasAdvanced b d old new
+  pub last : IsLast (sight_of d) (all_events (sight_of b) + old.left) new.left new.memory new.ends.items
+
 pub at_rest : {a b d : Table} {q r r' : Round} → HasAdvanced a b q r → IsInRound b r d r' (length (sight_of d).network.instances) → weight r' ≡ weight r → HasComeToRest a d q r'
 at_rest h noted e = record {
   advanced = moved_on h noted.advanced;

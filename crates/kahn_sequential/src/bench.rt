@@ -1,16 +1,16 @@
 //! The processes of a network over its plain queues.
 
 ghost use Rattle.kahn_sequential.specs.inner.Below.{AreCounts, AreQueued, IsWithin, Input as InputRole, IsPoured, Lists, Reads, actual_at, inputs_of, instance_at, network_of, role_at, stream_lines, CellView};
-ghost use Rattle.kahn_sequential.specs.{inner.Bench.AreStreams, inner.Bench.HasRunCell, inner.Bench.all_events, inner.Bench.events_at, inner.Gathered.view_at, inner.Noted.AreSpent, inner.Noted.HasWoken, inner.Noted.IsOnlyReader, inner.Noted.IsReaderOf, inner.Noted.IsReadyBehind, inner.Noted.IsReadyBy, inner.Noted.IsReadyByFirst, inner.Recording.StoodIn};
+ghost use Rattle.kahn_sequential.specs.{inner.Bench.AreStreams, inner.Bench.HasRunCell, inner.Bench.all_events, inner.Bench.events_at, inner.Gathered.view_at, inner.Noted.AreSpent, inner.Noted.HasWoken, inner.Noted.IsOnlyReader, inner.Noted.IsReaderOf, inner.Noted.IsReadyBehind, inner.Noted.IsReadyBy, inner.Recording.StoodIn};
 ghost use Rattle.kahn_sequential.specs.inner.Workbench.{AllStandBy, AreStreamsReady, AreWhole, HasEmptied, HasFresh, HasFreshPrints, HasTakenIn, HasWorked, IsCrowded, IsLaid, IsNextPlace, gone_in, seated_with, sight_of, table_of, told_in, vacant_of};
 ghost use Rattle.std.specs.Prelude.{◌≡◌, ◌<◌, ◌+◌, ◌^◌, ℕ, [], Some, length, map, slice_get, vec_capacity, IfOk, IfErr, IfSome, MatchOption, SomeIff};
 
 use crate::awake::Awake;
 use crate::channel::channel_read;
-use crate::looks::{LONG_TURN, Looks, sent_on};
+use crate::looks::{Looks, sent_on};
 use crate::streams::fill;
 use crate::taps::{all_kept, all_sized, all_stood, forget_turned, named_taps};
-use crate::woken::{Woken, wake_by};
+use crate::woken::Woken;
 use kahn_code::{Code, CodeFault, Kept, Pause, Plain, Steps, Tap, compile, regrow_taps};
 use kahn_streams::{
     About, Input, MOST_BOUND, Network, NoMemory, Outcome, Side, Stream, Tokens, Value,
@@ -73,7 +73,6 @@ impl<'n> Sequential<'n> {
         Ok(Sequential::named(network, input, watch, code, taps, queues, awake, looks))
     }
 
-    // The bench for the input that is named.
     fn named(
         network: &'n Network,
         _input: &Input,
@@ -135,11 +134,10 @@ impl<'n> Sequential<'n> {
     }
 
     /// Whether an instance may stand where turns of a source can be done.
-    pub(crate) fn may_feed(&self, instance: usize) -> bool {
-        match self.taps.get(instance) {
-            Some(tap) => tap.may_feed(&self.code),
-            None => false,
-        }
+    pub(crate) fn may_feed(&self, instance: usize) -> bool
+        requires { instance < length (sight_of self.now).network.instances }
+    {
+        self.taps[instance].may_feed(&self.code)
     }
 
     /// How many events an instance has done.
@@ -161,35 +159,29 @@ impl<'n> Sequential<'n> {
     /// Whether a turn of `done` events is brief, and did something.
     #[inline(always)]
     pub(crate) fn is_brief(&self, done: u64) -> bool {
-        self.looks.is_brief(done)
+        done.wrapping_sub(1) < self.looks.most
     }
 
     /// Notes that so many events are left at the beginning of a part.
     pub(crate) fn note_bound(&mut self, left: u64)
         ensures { self.new ≡ self.old }
     {
-        self.looks.note_bound(left);
+        self.looks.left = left;
     }
 
-    /// Notes a turn of `done` events that isn't brief, after which so many are left, for `wide` and `passes_over`.
+    /// Notes a turn of `done` events that isn't brief, after which so many are left, for `wide`.
     pub(crate) fn note_turn(&mut self, instance: usize, done: u64, left: u64)
         ensures { self.new ≡ self.old }
     {
-        if self.looks.note_turn(instance, done, left) && self.looks.is_over() {
+        if self.looks.note_turn(instance, done, left) {
             let sent = sent_on(self.network, &self.queues);
             self.looks.turn(sent);
         }
-        if done >= LONG_TURN {
-            self.awake.note_ahead(instance, &self.queues);
-        }
     }
 
-    /// Whether an instance is passed over in this round, since it was far ahead of its readers.
-    #[inline(always)]
-    pub fn passes_over(&mut self, instance: usize) -> bool
-        ensures { self.new ≡ self.old }
-    {
-        self.awake.passes_over(instance)
+    /// Whether an instance is far ahead of one of its readers.
+    pub(crate) fn is_ahead(&self, instance: usize) -> bool {
+        self.awake.is_ahead(instance, &self.queues)
     }
 
     /// Any instance may go on, as far as is known.
@@ -220,7 +212,7 @@ impl<'n> Sequential<'n> {
 
     /// How many instances have work, if there is work for several workers, as far as is known; else 0.
     pub fn wide(&self) -> usize {
-        self.looks.wide()
+        self.looks.wide
     }
 
     /// Goes on for a longer input, in which these values come after those of an input channel: they wait there. Fails only if
@@ -270,7 +262,6 @@ impl<'n> Sequential<'n> {
         self.taps[instance].stood(self.network);
     }
 
-    // The reader of a channel, if it has one.
     fn reader_of(&self, channel: usize) -> Option<usize>
         ensures { IsOnlyReader (sight_of self.now).network channel result }
     {
@@ -283,7 +274,6 @@ impl<'n> Sequential<'n> {
         }
     }
 
-    /// Wakes the reader of a channel.
     pub(crate) fn wake_at(&self, channel: usize, woken: &mut Woken)
         ensures { HasWoken (IsReaderOf (sight_of self.now).network channel) woken.old woken.new }
     {
@@ -318,9 +308,10 @@ impl<'n> Sequential<'n> {
         requires { instance < length (sight_of self.now).network.instances }
         ensures { HasWoken (IsReadyBehind self.now instance) woken.old woken.new }
     {
-        let tap = &self.taps[instance];
-        let count = tap.parameters();
-        wake_by(self, instance, count, woken);
+        let count = self.taps[instance].parameters();
+        for parameter in 0..count {
+            self.wake_behind(instance, parameter, woken);
+        }
     }
 
     /// Its queues.

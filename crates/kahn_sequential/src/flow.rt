@@ -1,16 +1,16 @@
 //! Runs on one thread that are fed as they go, and let go of what they kept.
 
-ghost use Rattle.std.specs.Prelude.{◌≡◌, ◌↔◌, ℕ, ◌+◌, ◌++◌, ◌∷◌, ◌<◌, ◌≤◌, ◌^◌, [], Some, length, map, slice_get, sum_by, false, true, vec_capacity, IfOk, IsTrue, MatchResult, OnOk};
+ghost use Rattle.std.specs.Prelude.{◌≡◌, ℕ, ◌+◌, ◌++◌, ◌∷◌, ◌<◌, ◌≤◌, ◌^◌, [], Some, length, map, slice_get, sum_by, false, true, vec_capacity, IfOk, MatchResult, OnOk};
 ghost use Rattle.kahn_sequential.specs.inner.Below.{Holds, Input as InputRole, Names, Value as ValueOf, Verdict as VerdictOf, inputs_of, is_watched, network_of, role_at, stream_lines, token_value};
 ghost use Rattle.kahn_sequential.specs.HeldRuns.{IsLineOf, IsRightSoFar, IsUnstarted, seen_events};
 ghost use Rattle.kahn_sequential.specs.Flows.{AreNew, HasFlowed, HasLetGo, HasPouredIn, IsNotRun, IsRunOn, IsStale, IsUnpoured};
 
 use crate::bench::Sequential;
 use crate::held_fault::HeldFault;
-use crate::numbers::{least_of, numbers_of};
+use crate::numbers::{NumberRange, least_of, numbers_of};
 use crate::plan::plan_of;
 use crate::settling::run_on;
-use crate::streams::{give_watched, lines_of};
+use crate::streams::{given_first, lines_of};
 use crate::woken::Woken;
 use kahn_streams::{
     Config, End, FeedFault, Gate, Input, Line, MOST_BOUND, Network, NoMemory, Plan, RunFault,
@@ -40,8 +40,8 @@ pub struct Flow<'n> {
     woken: Woken,
     // Which instances may keep something.
     turned: Woken,
-    // Of each instance the numbers of the streams that it writes.
-    numbers: Vec<Vec<usize>>,
+    // Between which numbers the streams are that an instance writes.
+    numbers: Vec<NumberRange>,
     verdict: Option<Verdict>,
     // Of a watched input channel, the tokens that weren't let go of.
     given: Tokens,
@@ -64,7 +64,6 @@ impl<'n> Model for Flow<'n> {
     ghost invariant = { λ f. IsFlowOf f.network.now f.plan f.bench f.budget (room f.ends) f.ends.items f.woken f.turned f.numbers.items f.verdict f.given.items };
 }
 
-// Room for the ends of all instances.
 fn room_for_ends(alloc: Global, network: &Network) -> Result<Vec<End>, NoMemory>
     ensures { IfOk result (λ ends. length (network_of network.now).instances ≤ vec_capacity ends) }
 {
@@ -89,7 +88,6 @@ fn make_room(tokens: &mut Tokens, count: usize) -> Result<(), NoMemory>
     Ok(())
 }
 
-// Adds a token for which there is room.
 #[tactic(auto, using(crate::proofs::Added::added, crate::proofs::Added::room_after))]
 fn add_one(tokens: &mut Tokens, token: Token)
     requires { 0 < tokens.old.spare }
@@ -108,7 +106,6 @@ fn token_for(_bench: &Sequential<'_>, channel: usize, place: u64, value: Word) -
     Token::of_word(Line::Channel(channel), place, value)
 }
 
-// The token of a value of an input channel.
 fn input_token(bench: &Sequential<'_>, channel: usize, place: u64, value: Value) -> Token
     requires role { role_at (network_of bench.now.network) channel ≡ InputRole }
     requires here { slice_get (inputs_of bench.now.input channel) place ≡ Some value }
@@ -152,8 +149,7 @@ impl<'n> Flow<'n> {
         let turned = Woken::new(alloc, MOST_TURNED)?;
         let lines = lines_of(alloc, network, plan.watch)?;
         let numbers = numbers_of(alloc, network, &lines)?;
-        let mut given = Tokens::new(alloc);
-        give_watched(network, &input, plan.watch, &mut given)?;
+        let given = given_first(alloc, network, &input, plan.watch)?;
         let bench = Sequential::new(alloc, network, &input, None, plan.watch)?;
         Ok(Flow {
             alloc,
@@ -268,13 +264,6 @@ impl<'n> Flow<'n> {
         ensures { result ≡ self.now.run.verdict }
     {
         self.verdict
-    }
-
-    /// Whether the last call that changed the run was a `resume` that answered.
-    pub fn settled(&self) -> bool
-        ensures { IsTrue result ↔ ((v : VerdictOf) × (self.now.run.verdict ≡ Some v)) }
-    {
-        self.verdict.is_some()
     }
 
     /// The events of all parts so far. Never allocates.

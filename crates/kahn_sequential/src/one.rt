@@ -8,7 +8,7 @@ ghost use Rattle.std.specs.Prelude.{◌≡◌, ◌<◌, ◌^◌, length, IfOk, I
 
 use crate::bench::Sequential;
 use crate::laws;
-use crate::rounds::{PartEnd, Round, run_part_alone};
+use crate::rounds::{PartEnd, Round, run_until_wide};
 use crate::streams::room_for_answer;
 use kahn_code::{CodeFault, Kept};
 use kahn_streams::{Answer, Gate, Input, MOST_BOUND, Network, Open, Plan, RunFault, Stream};
@@ -57,7 +57,9 @@ pub fn run_watched<G: Gate>(
     let mut bench = Sequential::new(alloc, network, input, Some(input), plan.watch)?;
     let (streams, kept) = room_for_answer(alloc, network, input, plan.watch)?;
     let blank = Blank::new(1);
-    let part = run_part_alone::<G, Brand>(blank, &mut bench, gate, ends, plan);
+    let Ok(part) = run_until_wide::<G, Brand>(blank, &mut bench, gate, false, ends, plan) else {
+        unreachable!()
+    };
     Ok(answered(bench, part, streams, kept, plan.bound))
 }
 
@@ -81,7 +83,10 @@ pub fn run_on_alone<G: Gate>(
         ..plan
     };
     let blank = Blank::new(1);
-    let part = run_part_alone::<G, Brand>(blank, &mut bench, gate, round.ends, rest);
+    let ends = round.ends;
+    let Ok(part) = run_until_wide::<G, Brand>(blank, &mut bench, gate, false, ends, rest) else {
+        unreachable!()
+    };
     answered(bench, part, streams, kept, plan.bound)
 }
 

@@ -5,7 +5,6 @@ ghost use Rattle.std.specs.Prelude.{◌≡◌, IfErr, IfOk, MatchResult};
 
 use kahn_streams::{Config, Network, Plan, RunFault, channel_named};
 
-// The channel that is to be watched.
 fn watched(network: &Network, name: &Option<String>) -> Result<Option<usize>, RunFault>
     ensures { MatchResult result (IsWatched network.now name.now) (λ f. (f ≡ UnknownWatch) × IsUndeclared network.now name.now) }
 {

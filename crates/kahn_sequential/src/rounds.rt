@@ -1,36 +1,38 @@
 //! A run on one thread: rounds in which each instance has its turn, until one in which nothing was done. After a round in which
 //! most turns did nothing, the instances that may go on have turns one after another before the next round.
 //!
-//! Which these are, and whether there is work for several workers, are hints (`awake.rt`, `run_queue.rt`, `looks.rt`). They have no
+//! Which these are, and whether there is work for several workers, are hints (`awake.rt`, `looks.rt`). They have no
 //! clauses on purpose, since no answer depends on them: they only save time.
 
 ghost use Rattle.kahn_sequential.specs.inner.Bench.{HasRunCell, PausedAt, HasEndIn, IsVerdict, all_events, events_at};
-ghost use Rattle.kahn_sequential.specs.inner.FlowBench.{IsPartEnd};
-ghost use Rattle.kahn_sequential.specs.inner.Workbench.{HasAdvanced, HasComeToRest, HasTakenTurn, HasVisited, HasWorked, IsInRound, IsMarked, MayGoOn, MayRun, sight_of, turn_of, weight};
+ghost use Rattle.kahn_sequential.specs.{inner.FlowBench.IsPartEnd, inner.Recording.HasRecorded, inner.Recording.IsRecording};
+ghost use Rattle.kahn_sequential.specs.inner.Workbench.{HasAdvanced, HasTakenTurn, HasVisited, HasWorked, IsInRound, IsMarked, MayGoOn, MayRun, sight_of, turn_of, weight};
 ghost use Rattle.kahn_streams.specs.declared.answer.Outcome.TheVariants as outcome;
 ghost use Rattle.kahn_code.specs.declared.progress.Pause.TheVariants as pause;
 ghost use Rattle.std.specs.Prelude.{◌≡◌, ◌⊎◌, ◌<◌, ◌≤◌, ◌+◌, ◌-◌, ◌^◌, length, slice_set, true, vec_capacity, IfErr, IfOk, MatchResult};
 
+use crate::apart::TurnLength;
 use crate::bench::Sequential;
-use kahn_code::{Pause, Steps, Within};
-use kahn_streams::{End, Gate, Outcome, Plan, Verdict};
+use crate::recorded::keep_sent;
+use kahn_code::{Far, Pause, Steps, Within};
+use kahn_streams::{End, Gate, Outcome, Plan, Stream, Verdict};
 use std::sync::ledger::{Blank, Ledger};
 
 // How many turns, for each instance, those that may go on have at most before the next round of all, which also comes to an instance
 // that the run queue lost.
-const AWAKE_TURNS: usize = 64;
+const AWAKE_TURNS: usize = 256;
 
 // This many rounds note their ends before brief rounds come, which note none, so that a short run ends with the round that it ends in.
 const NOTED_ROUNDS: usize = 4;
 
 // How many brief rounds come between two looks at whether most turns did nothing; and how many such looks there are at most: a number,
 // since each loop needs an end.
-pub(crate) const TOGETHER: usize = 8;
+const TOGETHER: usize = 8;
 
 const BRIEF_ROUNDS: usize = 1_000_000;
 
 // If more events for each instance were done between two looks, turns are long.
-const BRIEF_EVENTS: usize = 512;
+const BRIEF_EVENTS: usize = 64;
 
 /// What is left to do in a run on one thread, and what its last round did.
 #[derive(Drop)]
@@ -63,7 +65,6 @@ pub struct PartEnd {
     pub left: u64,
 }
 
-// The end of an instance that paused so.
 fn end_of(bench: &Sequential<'_>, instance: usize, stopped: Pause) -> End
     requires here { instance < length (sight_of bench.now).network.instances }
     requires paused { PausedAt (sight_of bench.now) instance stopped }
@@ -100,7 +101,6 @@ impl Round {
         }
     }
 
-    // Marks what a turn did.
     fn mark(&mut self, done: u64, stopped: Pause)
         requires { done ≤ self.old.left }
         ensures { IsMarked done stopped self.old self.new }
@@ -111,23 +111,7 @@ impl Round {
         }
     }
 
-    // Notes a turn in which nothing or much was done.
-    #[inline(always)]
-    fn note_turn(&mut self, bench: &mut Sequential<'_>, instance: usize, done: u64)
-        ensures bench { bench.new ≡ bench.old }
-        ensures same { (self.new.quantum ≡ self.old.quantum) × (self.new.left ≡ self.old.left) × (self.new.memory ≡ self.old.memory) × (self.new.ends ≡ self.old.ends) }
-    {
-        if bench.is_brief(done) {
-            return;
-        }
-        if done == 0 {
-            self.idle_turns = self.idle_turns.wrapping_add(1);
-            return;
-        }
-        bench.note_turn(instance, done, self.left);
-    }
-
-    // Marks and notes a turn before which an instance had done so many events.
+    // Marks a turn before which an instance had done so many events, and notes it if nothing or much was done.
     #[inline(always)]
     fn mark_turn(
         &mut self,
@@ -144,7 +128,14 @@ impl Round {
     {
         let done = bench.events(instance) - before;
         self.mark(done, stopped);
-        self.note_turn(bench, instance, done);
+        if bench.is_brief(done) {
+            return;
+        }
+        if done == 0 {
+            self.idle_turns = self.idle_turns.wrapping_add(1);
+            return;
+        }
+        bench.note_turn(instance, done, self.left);
     }
 
     // How many events the next turn may do.
@@ -163,7 +154,6 @@ impl Round {
         self.memory || self.left == 0
     }
 
-    /// Notes how an instance stands.
     pub(crate) fn note(&mut self, instance: usize, end: End)
         requires { instance < length self.old.ends.items }
         ensures ends { self.new.ends.items ≡ slice_set self.old.ends.items instance end }
@@ -191,29 +181,37 @@ impl Round {
 }
 
 impl<'g, L: Ledger, G: Gate> Driver<'g, L, G> {
-    // Runs an instance for at most `quantum` events in a brief round: at an open gate by a loop of instructions that stands within the
+    // Runs an instance for at most `quantum` events: at an open gate, if `within` says so, by a loop of instructions that stands within the
     // rounds.
     #[inline(always)]
-    fn run_within(&mut self, bench: &mut Sequential<'_>, instance: usize, quantum: u64) -> Pause
+    fn run_turn(
+        &mut self,
+        bench: &mut Sequential<'_>,
+        instance: usize,
+        far: bool,
+        within: bool,
+        quantum: u64,
+    ) -> Pause
         requires here { instance < length (sight_of bench.old).network.instances }
         requires bound { events_at (sight_of bench.old) instance + quantum < 2 ^ 48 }
         ensures ran { HasRunCell (sight_of bench.old) (sight_of bench.new) instance quantum result }
         ensures worked { HasWorked bench.old bench.new }
     {
-        if !self.gate.is_open() {
-            return self.run_gated(bench, instance, false, quantum);
+        if within && self.gate.is_open() {
+            return bench.run::<L, Within>(instance, false, quantum, &mut self.steps);
         }
-        bench.run::<L, Within>(instance, false, quantum, &mut self.steps)
+        self.run_gated(bench, instance, far, quantum)
     }
 
-    /// The turn of an instance, which may be a long one if `far` says so: runs it, and marks what was done.
+    // The turn of an instance: runs it, and marks what was done.
     #[inline(always)]
-    pub(crate) fn take_turn(
+    fn take_turn(
         &mut self,
         bench: &mut Sequential<'_>,
         round: &mut Round,
         instance: usize,
         far: bool,
+        within: bool,
     ) -> Pause
         requires here { instance < length (sight_of bench.old).network.instances }
         requires may { MayRun (sight_of bench.old) round.old }
@@ -221,14 +219,14 @@ impl<'g, L: Ledger, G: Gate> Driver<'g, L, G> {
     {
         let before = bench.events(instance);
         let quantum = round.turn();
-        let stopped = self.run_gated(bench, instance, far, quantum);
+        let stopped = self.run_turn(bench, instance, far, within, quantum);
         round.mark_turn(bench, instance, before, stopped);
         stopped
     }
 
-    /// Such a turn, and how the instance stands then.
+    /// The turn of an instance, which may be a long one if `far` says so, and how it stands then.
     #[inline(always)]
-    pub fn visit(
+    pub(crate) fn visit(
         &mut self,
         bench: &mut Sequential<'_>,
         round: &mut Round,
@@ -239,29 +237,32 @@ impl<'g, L: Ledger, G: Gate> Driver<'g, L, G> {
         requires may { MayRun (sight_of bench.old) round.old }
         ensures { HasVisited bench.old bench.new round.old round.new instance result }
     {
-        let stopped = self.take_turn(bench, round, instance, far);
+        let stopped = self.take_turn(bench, round, instance, far, false);
         end_of(bench, instance, stopped)
     }
 
-    // The turn of an instance in a brief round. One that is far ahead of its readers is passed over, so that they come up to it.
+    // The turn of an instance whose end isn't noted. If turns are long, one that is far ahead of its readers is passed over, so that they come
+    // up to it.
     #[inline(always)]
-    fn visit_brief(&mut self, bench: &mut Sequential<'_>, round: &mut Round, instance: usize)
+    fn pass_or_turn<M: TurnLength>(
+        &mut self,
+        bench: &mut Sequential<'_>,
+        round: &mut Round,
+        instance: usize,
+    )
         requires here { instance < length (sight_of bench.old).network.instances }
         requires may { MayRun (sight_of bench.old) round.old }
         ensures { HasAdvanced bench.old bench.new round.old round.new }
     {
-        if bench.passes_over(instance) {
+        if M::is_long() && bench.is_ahead(instance) {
             return;
         }
-        let before = bench.events(instance);
-        let quantum = round.turn();
-        let stopped = self.run_within(bench, instance, quantum);
-        round.mark_turn(bench, instance, before, stopped);
+        self.take_turn(bench, round, instance, M::is_long(), !M::is_long());
     }
 
-    // A round that notes no ends. It is over where memory was refused.
+    // A round that notes no ends, of long turns or of brief ones. It is over where memory was refused.
     #[tactic(auto, using(crate::proofs::Turns::moved_on))]
-    fn brief_round(&mut self, bench: &mut Sequential<'_>, round: &mut Round)
+    fn brief_round<M: TurnLength>(&mut self, bench: &mut Sequential<'_>, round: &mut Round)
         requires { MayRun (sight_of bench.old) round.old }
         ensures { HasAdvanced bench.old bench.new round.old round.new }
     {
@@ -271,13 +272,13 @@ impl<'g, L: Ledger, G: Gate> Driver<'g, L, G> {
             if round.memory {
                 return;
             }
-            self.visit_brief(bench, round, instance);
+            self.pass_or_turn::<M>(bench, round, instance);
         }
     }
 
-    /// Some brief rounds.
+    // Some such rounds.
     #[inline(never)]
-    pub(crate) fn rounds_together(&mut self, bench: &mut Sequential<'_>, round: &mut Round)
+    fn rounds_together<M: TurnLength>(&mut self, bench: &mut Sequential<'_>, round: &mut Round)
         requires { MayRun (sight_of bench.old) round.old }
         ensures { HasAdvanced bench.old bench.new round.old round.new }
     {
@@ -285,26 +286,48 @@ impl<'g, L: Ledger, G: Gate> Driver<'g, L, G> {
             if self.leaves(bench) {
                 return;
             }
-            self.brief_round(bench, round);
+            self.brief_round::<M>(bench, round);
         }
     }
 
-    // A round that notes the end of each instance.
-    fn noted_round(&mut self, bench: &mut Sequential<'_>, round: &mut Round)
+    // Some rounds of long turns, or of brief ones.
+    fn next_rounds(&mut self, bench: &mut Sequential<'_>, round: &mut Round, is_long: bool)
         requires { MayRun (sight_of bench.old) round.old }
-        ensures { IsInRound bench.old round.old bench.new round.new (length (sight_of bench.new).network.instances) }
+        ensures { HasAdvanced bench.old bench.new round.old round.new }
+    {
+        if is_long {
+            self.rounds_together::<Far>(bench, round);
+            return;
+        }
+        self.rounds_together::<Within>(bench, round);
+    }
+
+    // A round that notes the end of each instance, and records what it sent.
+    fn noted_round(
+        &mut self,
+        bench: &mut Sequential<'_>,
+        round: &mut Round,
+        recording: &mut Option<Vec<Stream>>,
+    )
+        requires may { MayRun (sight_of bench.old) round.old }
+        requires recorded { IsRecording bench.old round.old.quantum recording.old }
+        ensures round { IsInRound bench.old round.old bench.new round.new (length (sight_of bench.new).network.instances) }
+        ensures recorded { IsRecording bench.new round.new.quantum recording.new }
     {
         let count = bench.instance_count();
         round.idle_turns = 0;
         round.ends.clear();
         for instance in 0..count {
+            bench.stood_at(instance);
             let end = self.visit(bench, round, instance, true);
+            bench.stood_at(instance);
             round.ends.push_reserved(end);
+            keep_sent(bench, recording);
         }
     }
 
-    /// Whether there is work for several workers, to whom the run may be left.
-    pub(crate) fn leaves(&self, bench: &Sequential<'_>) -> bool {
+    // Whether there is work for several workers, to whom the run may be left.
+    fn leaves(&self, bench: &Sequential<'_>) -> bool {
         self.may_leave && bench.wide() > 0
     }
 
@@ -353,13 +376,21 @@ impl<'g, L: Ledger, G: Gate> Driver<'g, L, G> {
         round
     }
 
-    // What comes between two rounds that note their ends, if the gate is open: brief rounds, and if most turns of the last one did
-    // nothing, turns of those that may go on. At other gates all take turns.
-    fn between_rounds(&mut self, bench: &mut Sequential<'_>, last: Round, is_first: bool) -> Round
-        requires { MayRun (sight_of bench.old) last }
-        ensures { HasAdvanced bench.old bench.new last result }
+    // What comes between two rounds that note their ends, if the gate is open and nothing is recorded: brief rounds, and if most turns of the
+    // last one did nothing, turns of those that may go on. At other gates all take turns.
+    fn between_rounds(
+        &mut self,
+        bench: &mut Sequential<'_>,
+        last: Round,
+        is_first: bool,
+        recording: &Option<Vec<Stream>>,
+    ) -> Round
+        requires may { MayRun (sight_of bench.old) last }
+        requires recorded { IsRecording bench.old last.quantum recording.now }
+        ensures advanced { HasAdvanced bench.old bench.new last result }
+        ensures recorded { IsRecording bench.new result.quantum recording.now }
     {
-        if !self.gate.is_open() {
+        if recording.is_some() || !self.gate.is_open() {
             return last;
         }
         let round = self.brief_rounds(bench, last, is_first);
@@ -369,53 +400,41 @@ impl<'g, L: Ledger, G: Gate> Driver<'g, L, G> {
         round
     }
 
-    // Rounds, until one in which nothing was done; or, if the run may be left, until there is work for several workers: then it may go
-    // on from the round that is the error.
-    fn last_round(&mut self, bench: &mut Sequential<'_>, first: Round) -> Result<Round, Round>
-        requires { MayRun (sight_of bench.old) first }
-        ensures last { MatchResult result (HasComeToRest bench.old bench.new first) (λ r. (self.old.may_leave ≡ true) × HasAdvanced bench.old bench.new first r) }
+    /// Rounds to the end of a part, until one in which nothing was done; or, if the run may be left, until there is work for several workers:
+    /// then it may go on from the round that is the error.
+    pub(crate) fn to_end(
+        &mut self,
+        bench: &mut Sequential<'_>,
+        first: Round,
+        recording: &mut Option<Vec<Stream>>,
+    ) -> Result<PartEnd, Round>
+        requires may { MayRun (sight_of bench.old) first }
+        requires recorded { IsRecording bench.old first.quantum recording.old }
+        ensures ended { IfOk result (IsPartEnd bench.new (all_events (sight_of bench.old) + first.left)) }
+        ensures wide { IfErr result (λ r. (self.old.may_leave ≡ true) × HasAdvanced bench.old bench.new first r) }
+        ensures room { IfOk result (λ r. length (sight_of bench.new).network.instances ≤ vec_capacity r.ends) }
         ensures worked { HasWorked bench.old bench.new }
+        ensures recorded { HasRecorded bench.new recording.new }
     {
         let may_leave = self.may_leave;
         let mut round = first;
         let mut rounds = 0_usize;
         'rounds: loop {
             let before = round.weight();
-            self.noted_round(bench, &mut round);
+            self.noted_round(bench, &mut round, recording);
             if round.weight() == before {
-                return Ok(round);
+                bench.stood();
+                let verdict = verdict_of(round.memory, &round.ends);
+                return Ok(PartEnd {
+                    verdict,
+                    ends: round.ends,
+                    left: round.left,
+                });
             }
             rounds = rounds.saturating_add(1);
-            round = self.between_rounds(bench, round, rounds <= NOTED_ROUNDS);
+            round = self.between_rounds(bench, round, rounds <= NOTED_ROUNDS, recording);
             if may_leave && bench.wide() > 0 {
                 return Err(round);
-            }
-        }
-    }
-
-    /// Rounds to the end of a part; or, if the run may be left, until there is work for several workers: then it may go on from the round
-    /// that is the error.
-    pub(crate) fn to_end(
-        &mut self,
-        bench: &mut Sequential<'_>,
-        first: Round,
-    ) -> Result<PartEnd, Round>
-        requires { MayRun (sight_of bench.old) first }
-        ensures ended { IfOk result (IsPartEnd bench.new (all_events (sight_of bench.old) + first.left)) }
-        ensures wide { IfErr result (λ r. (self.old.may_leave ≡ true) × HasAdvanced bench.old bench.new first r) }
-        ensures room { IfOk result (λ r. length (sight_of bench.new).network.instances ≤ vec_capacity r.ends) }
-        ensures worked { HasWorked bench.old bench.new }
-    {
-        match self.last_round(bench, first) {
-            Err(round) => Err(round),
-            Ok(last) => {
-                bench.stood();
-                let verdict = verdict_of(last.memory, &last.ends);
-                Ok(PartEnd {
-                    verdict,
-                    ends: last.ends,
-                    left: last.left,
-                })
             }
         }
     }
@@ -463,26 +482,5 @@ pub fn run_until_wide<G: Gate, L: Ledger>(
     };
     let first = Round::new(bench, plan.quantum, plan.bound, ends);
     bench.note_bound(plan.bound);
-    driver.to_end(bench, first)
-}
-
-/// The same to the end, since the run may not be left.
-pub(crate) fn run_part_alone<G: Gate, L: Ledger>(
-    blank: Blank,
-    bench: &mut Sequential<'_>,
-    gate: &G,
-    ends: Vec<End>,
-    plan: Plan,
-) -> PartEnd
-    requires blank { (blank.name ≡ L.name) × (blank.parts ≡ L.parts) × (0 < blank.parts) }
-    requires quantum { 0 < plan.quantum }
-    requires bound { all_events (sight_of bench.old) + plan.bound < 2 ^ 48 }
-    requires room { length (sight_of bench.old).network.instances ≤ vec_capacity ends }
-    ensures concluded { IsPartEnd bench.new (all_events (sight_of bench.old) + plan.bound) result }
-    ensures worked { HasWorked bench.old bench.new }
-{
-    let Ok(part) = run_until_wide::<G, L>(blank, bench, gate, false, ends, plan) else {
-        unreachable!()
-    };
-    part
+    driver.to_end(bench, first, &mut None)
 }

@@ -18,7 +18,6 @@ use std::sync::ledger::{Blank, Ledger};
 // How many turns, for each instance, those that were woken have at most before rounds of all.
 const WOKEN_TURNS: usize = 4;
 
-// Whether an instance with this end may go on.
 fn may_go_on(outcome: Outcome) -> bool
     ensures { result ≡ false → outcome ≡ More → ⊥ }
 {
@@ -90,52 +89,6 @@ impl<'g, L: Ledger, G: Gate> Driver<'g, L, G> {
     }
 }
 
-// A part of so many events as the plan's bound, to its end.
-fn part_of<G: Gate, L: Ledger>(
-    blank: Blank,
-    bench: &mut Sequential<'_>,
-    gate: &G,
-    ends: Vec<End>,
-    woken: &mut Woken,
-    turned: &mut Woken,
-    plan: Plan,
-) -> PartEnd
-    requires blank { (blank.name ≡ L.name) × (blank.parts ≡ L.parts) × (0 < blank.parts) }
-    requires quantum { 0 < plan.quantum }
-    requires bound { all_events (sight_of bench.old) + plan.bound < 2 ^ 48 }
-    requires room { length (sight_of bench.old).network.instances ≤ vec_capacity ends }
-    requires noted { AreNoted (sight_of bench.old) woken.old ends.items }
-    requires spent { AreSpent bench.old turned.old }
-    ensures concluded { IsPartEnd bench.new (all_events (sight_of bench.old) + plan.bound) result }
-    ensures room { length (sight_of bench.new).network.instances ≤ vec_capacity result.ends }
-    ensures worked { HasWorked bench.old bench.new }
-    ensures spent { AreSpent bench.new turned.new }
-{
-    let mut driver = Driver {
-        steps: Steps::<L>::open(blank),
-        gate,
-        may_leave: false,
-    };
-    let mut round = Round::new(bench, plan.quantum, plan.bound, ends);
-    if driver.settle(bench, &mut round, woken, turned) {
-        bench.stood();
-        return PartEnd {
-            verdict: Verdict::Finished,
-            ends: round.ends,
-            left: round.left,
-        };
-    }
-    turned.clear(false);
-    let mut driver = Driver {
-        may_leave: false,
-        ..driver
-    };
-    let Ok(part) = driver.to_end(bench, round) else {
-        unreachable!()
-    };
-    part
-}
-
 /// Runs the processes of a bench on one thread for as many events as the plan's bound, each for at most its quantum at a time, before
 /// which the gate is entered. The list of ends has room for each instance; as far as it is known which instances were woken since they
 /// were noted, those of the others stay. Steps are counted on a ledger of its own. Never allocates.
@@ -160,7 +113,28 @@ pub(crate) fn run_on<G: Gate, L: Ledger>(
     ensures noted { AreNoted (sight_of bench.new) woken.new result.ends.items }
     ensures spent { AreSpent bench.new turned.new }
 {
-    let part = part_of::<G, L>(blank, bench, gate, ends, woken, turned, plan);
+    let mut driver = Driver {
+        steps: Steps::<L>::open(blank),
+        gate,
+        may_leave: false,
+    };
+    let mut round = Round::new(bench, plan.quantum, plan.bound, ends);
+    if driver.settle(bench, &mut round, woken, turned) {
+        bench.stood();
+        return PartEnd {
+            verdict: Verdict::Finished,
+            ends: round.ends,
+            left: round.left,
+        };
+    }
+    turned.clear(false);
+    let mut driver = Driver {
+        may_leave: false,
+        ..driver
+    };
+    let Ok(part) = driver.to_end(bench, round, &mut None) else {
+        unreachable!()
+    };
     woken.noted(part.verdict);
     part
 }

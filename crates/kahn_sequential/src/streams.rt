@@ -1,9 +1,9 @@
 //! The streams of an answer: their lines, and the tokens that fill them.
 
 ghost use Rattle.std.specs.Prelude.{◌≡◌, ◌<◌, ◌++◌, ◌∷◌, [], cond, length, map, slice_set, slice_index_or, vec_capacity, IfOk, OnOk};
-ghost use Rattle.kahn_sequential.specs.inner.Below.{Input as InputRole, channel_lines, declaration_prints, inputs_of, instance_at, network_of, print_lines, prints_in, role_at, stream_lines, token_value};
+ghost use Rattle.kahn_sequential.specs.inner.Below.{channel_lines, declaration_prints, inputs_of, instance_at, network_of, print_lines, prints_in, stream_lines};
 ghost use Rattle.kahn_sequential.specs.inner.Workbench.{AreOpen, AreStreamsReady};
-ghost use Rattle.kahn_sequential.specs.inner.Streams.{AreAllGiven, AreGiven, AreLists, AreNamed, HaveChanged, IsBegun, IsDeclared, IsFilledStream, IsOpenStream, KeepsOtherLines, kept_lists};
+ghost use Rattle.kahn_sequential.specs.inner.Streams.{AreAllGiven, AreLists, AreNamed, HaveChanged, IsDeclared, IsFilledStream, IsOpenStream, KeepsOtherLines, kept_lists};
 
 use kahn_code::Kept;
 use kahn_streams::{Input, Line, Network, NoMemory, Role, Stream, Tokens, declaration_prints};
@@ -21,7 +21,6 @@ fn printing(alloc: Global, network: &Network) -> Result<Vec<bool>, NoMemory>
     Ok(printing)
 }
 
-// Whether the process of an instance prints anywhere.
 #[tactic(auto, using(crate::proofs::Printing::printed_at))]
 fn instance_prints(network: &Network, printing: &[bool], instance: usize) -> bool
     requires here { instance < length (network_of network.now).instances }
@@ -44,7 +43,6 @@ fn add_line(lines: &mut Vec<Line>, has_one: bool, line: Line) -> Result<(), NoMe
     Ok(())
 }
 
-// The lines of the channels that have a stream.
 fn add_channels(
     lines: &mut Vec<Line>,
     network: &Network,
@@ -59,7 +57,6 @@ fn add_channels(
     Ok(())
 }
 
-// The lines of the print streams.
 fn add_prints(alloc: Global, lines: &mut Vec<Line>, network: &Network) -> Result<(), NoMemory>
     ensures { OnOk result (lines.new.items ≡ lines.old.items ++ print_lines (network_of network.now).instances 0) }
 {
@@ -73,7 +70,7 @@ fn add_prints(alloc: Global, lines: &mut Vec<Line>, network: &Network) -> Result
 
 /// The lines of the streams of an answer, in order of declaration: those of the output channels and of the channel `watch`, and
 /// then those of prints. Fails only if memory was refused.
-pub fn lines_of(
+pub(crate) fn lines_of(
     alloc: Global,
     network: &Network,
     watch: Option<usize>,
@@ -96,7 +93,6 @@ fn exchange_kept(lists: &mut Kept, parameter: usize, tokens: &mut Tokens)
     mem::swap(&mut lists.kept[parameter], tokens);
 }
 
-// Fills the stream of a channel or of a print stream, from the lists.
 fn fill_one(network: &Network, stream: &mut Stream, lists: &mut Vec<Kept>)
     requires declared { IsDeclared (network_of network.now) stream.old.line }
     requires lists { AreLists (network_of network.now) lists.old.items }
@@ -130,47 +126,8 @@ pub fn fill(network: &Network, streams: &mut Vec<Stream>, lists: &mut Vec<Kept>)
     }
 }
 
-// The rest of the list of an input channel, after the tokens that begin it.
-fn give_list(
-    network: &Network,
-    input: &Input,
-    channel: usize,
-    tokens: &mut Tokens,
-) -> Result<(), NoMemory>
-    requires begun { IsBegun (network_of network.now) (inputs_of input.now) channel (inputs_of input.now channel) tokens.old.items }
-    ensures begun { IsBegun (network_of network.now) (inputs_of input.now) channel (inputs_of input.now channel) tokens.new.items }
-    ensures given { OnOk result (role_at (network_of network.now) channel ≡ InputRole → map token_value tokens.new.items ≡ inputs_of input.now channel) }
-    ensures others { OnOk result ((role_at (network_of network.now) channel ≡ InputRole → ⊥) → tokens.new.items ≡ tokens.old.items) }
-{
-    'tokens: while let Some(token) = input.token(network, channel, tokens.len() as u64) {
-        tokens.push(token)?;
-    }
-    Ok(())
-}
-
-/// Gives the rest of the list of a watched input channel. Fails only if memory was refused.
-pub fn give_watched(
-    network: &Network,
-    input: &Input,
-    watch: Option<usize>,
-    tokens: &mut Tokens,
-) -> Result<(), NoMemory>
-    requires begun { AreGiven (network_of network.now) (inputs_of input.now) watch tokens.old.items }
-    ensures begun { AreGiven (network_of network.now) (inputs_of input.now) watch tokens.new.items }
-    ensures all { OnOk result (AreAllGiven (network_of network.now) (inputs_of input.now) watch tokens.new.items) }
-    ensures still { let All = AreAllGiven (network_of network.now) (inputs_of input.now) watch in All tokens.old.items → All tokens.new.items }
-{
-    let Some(channel) = watch else {
-        return Ok(());
-    };
-    if input.count(channel) <= tokens.len() {
-        return Ok(());
-    }
-    give_list(network, input, channel, tokens)
-}
-
 /// The stream of a line before any token was moved there: an input channel has its whole list. Fails only if memory was refused.
-pub fn opening_stream(
+pub(crate) fn opening_stream(
     alloc: Global,
     network: &Network,
     input: &Input,
@@ -183,8 +140,26 @@ pub fn opening_stream(
     let Line::Channel(channel) = line else {
         return Ok(Stream { line, tokens });
     };
-    give_list(network, input, channel, &mut tokens)?;
+    'tokens: while let Some(token) = input.token(network, channel, tokens.len() as u64) {
+        tokens.push(token)?;
+    }
     Ok(Stream { line, tokens })
+}
+
+/// The tokens of a watched input channel. Fails only if memory was refused.
+pub(crate) fn given_first(
+    alloc: Global,
+    network: &Network,
+    input: &Input,
+    watch: Option<usize>,
+) -> Result<Tokens, NoMemory>
+    ensures { IfOk result (λ ts. AreAllGiven (network_of network.now) (inputs_of input.now) watch ts.items) }
+{
+    let Some(channel) = watch else {
+        return Ok(Tokens::new(alloc));
+    };
+    let stream = opening_stream(alloc, network, input, Line::Channel(channel))?;
+    Ok(stream.tokens)
 }
 
 /// The streams of an answer, in order, before any token was moved there: a watched input channel has its whole list. Fails only

@@ -11,7 +11,6 @@ use kahn_code::{Code, CodeFault, Kept, Tap};
 use kahn_streams::{Input, Network};
 use std::alloc::Global;
 
-/// The taps of all instances at their openings, for the input that is named.
 pub(crate) fn named_taps(
     alloc: Global,
     network: &Network,

@@ -2,10 +2,8 @@
 
 ghost use Rattle.std.specs.Prelude.{◌≡◌, ◌<◌, false, length, true, IfOk, IfSome};
 ghost use Rattle.kahn_sequential.specs.inner.Below.{Finished};
-ghost use Rattle.kahn_sequential.specs.inner.Noted.{HasWoken, IsReadyByFirst, IsTakenFrom};
-ghost use Rattle.kahn_sequential.specs.inner.Workbench.{sight_of};
+ghost use Rattle.kahn_sequential.specs.inner.Noted.{HasWoken, IsTakenFrom};
 
-use crate::bench::Sequential;
 use kahn_streams::{NoMemory, Verdict};
 use std::alloc::Global;
 
@@ -49,7 +47,6 @@ impl Woken {
         self.add(instance);
     }
 
-    /// Takes one of them.
     pub(crate) fn take(&mut self) -> Option<usize>
         ensures taken { IsTakenFrom self.old result self.new }
         ensures fewer { IfSome result (λ _. length self.new.instances.items < length self.old.instances.items) }
@@ -73,15 +70,5 @@ impl Woken {
         ensures { self.new.known ≡ true → verdict ≡ Finished }
     {
         self.clear(matches!(verdict, Verdict::Finished));
-    }
-}
-
-/// Wakes the readers of the channels of the first parameters of an instance, but the instance itself, where something waits.
-pub(crate) fn wake_by(bench: &Sequential<'_>, instance: usize, count: usize, woken: &mut Woken)
-    requires { instance < length (sight_of bench.now).network.instances }
-    ensures { HasWoken (IsReadyByFirst bench.now instance count) woken.old woken.new }
-{
-    for parameter in 0..count {
-        bench.wake_behind(instance, parameter, woken);
     }
 }

@@ -25,7 +25,6 @@ fn next_stream(run: &Paced<'_>, from: usize, count: usize) -> Option<usize>
     Some(next)
 }
 
-/// Writes what is new on each stream.
 fn put_news<W: Write>(
     writer: &mut W,
     network: &Network,
@@ -57,7 +56,6 @@ fn fresh_of<'r>(run: &'r Paced<'_>, number: usize) -> Values<'r>
     run.fresh(lines[number]).values()
 }
 
-/// The text of a value.
 fn value_text<'b>(buffer: &'b mut Buffer, value: Value) -> &'b str
     ensures { result.now ≡ value_text value }
 {
@@ -87,7 +85,6 @@ fn next_count(run: &Paced<'_>, number: usize) -> usize
     run.kept(number).len() + fresh_of(run, number).len()
 }
 
-/// The one of the next row of a place.
 fn next_at(run: &Paced<'_>, number: usize, place: usize) -> Option<Value>
     ensures { result ≡ slice_get (next_of run.now number) place }
 {
@@ -105,7 +102,6 @@ fn row_stop(behind: &[usize]) -> &'static str
     if behind.is_empty() { "\n" } else { "," }
 }
 
-/// Writes the row of a place.
 fn put_row<W: Write>(
     writer: &mut W,
     run: &Paced<'_>,

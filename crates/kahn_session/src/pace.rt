@@ -71,7 +71,6 @@ impl<'n> Paced<'n> {
         (self.step - self.flow.budget()).min(MOST_BOUND - self.allowed)
     }
 
-    /// Runs a part.
     pub(crate) fn part<G: Gate>(&mut self, gate: &G) -> Verdict
         ensures { IsPart self.old self.new result }
     {
@@ -99,14 +98,12 @@ impl<'n> Paced<'n> {
         self.flow.feed(channel, values)
     }
 
-    /// The lines of its streams, in order.
     pub(crate) fn lines(&self) -> &[Line]
         ensures { result.now ≡ flow_lines self.now.flow.run }
     {
         &self.lines
     }
 
-    /// What is kept of the stream of that number.
     pub(crate) fn kept(&self, number: usize) -> &[Value]
         ensures { result.now ≡ news_on number self.now.waits }
     {
@@ -147,7 +144,6 @@ impl<'n> Paced<'n> {
         self.flow.verdict()
     }
 
-    /// How each instance stands.
     pub(crate) fn ends(&self) -> &[End]
         requires { (v : VerdictOf) × (self.now.flow.run.verdict ≡ Some v) }
         ensures { (v : VerdictOf) → self.now.flow.run.verdict ≡ Some v → IsRightSoFar self.now.flow.run v result.now }
@@ -155,7 +151,6 @@ impl<'n> Paced<'n> {
         self.flow.ends()
     }
 
-    /// The events of all parts so far.
     pub(crate) fn events(&self) -> u64
         ensures { result ≡ events_of self.now.flow.run }
     {

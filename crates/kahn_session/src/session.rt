@@ -76,7 +76,6 @@ fn entry_of_line(alloc: Global, line: &[u8]) -> Result<Option<(String, Vec<Value
     }
 }
 
-/// Feeds the values of a line.
 fn feed_line(alloc: Global, paced: &mut Paced<'_>, line: &[u8]) -> Result<(), TakeFault>
     ensures fed { MatchResult result (λ _. IsFedBy line.now paced.old.flow paced.new.flow) (λ f. (paced.new ≡ paced.old) × IsUnfedBy line.now paced.old.flow f) }
     ensures rest { paced.new ≡ record paced.old { flow = paced.new.flow } }
@@ -91,7 +90,6 @@ fn feed_line(alloc: Global, paced: &mut Paced<'_>, line: &[u8]) -> Result<(), Ta
     }
 }
 
-/// Whether the line is that of a channel of that name.
 fn bears_name(network: &Network, name: &[u8], line: Line) -> bool
     ensures { result ≡ bears_name network.now name.now line }
 {
@@ -126,7 +124,6 @@ fn first_fault(ends: &[End]) -> Option<(usize, Failure)>
     None
 }
 
-/// Whether a channel of that role is an input.
 fn is_input(role: Role) -> bool
     ensures { result ≡ is_input role }
 {
@@ -171,7 +168,6 @@ fn wants_input(network: &Network, outcome: Outcome) -> bool
     }
 }
 
-/// Whether one of the ends is a wait on an input channel.
 fn has_input_wait(network: &Network, ends: &[End]) -> bool
     ensures { result ≡ list_any (waits_on_input (network_of network.now)) ends.now }
 {

@@ -20,7 +20,7 @@ abbrev pub Follow : Line → ℕ → List Token → Type 0
 Follow line from [] = Unit {0}
 Follow line from (t ∷ ts) = (t.line ≡ line) × (t.place ≡ from) × Follow line (suc from) ts
 
--- a list of tokens; for how many more it has room, and how many can be put there at once
+-- a list of tokens; for how many more it has room, and how many integers can be put there without a look
 pub record TokenList : Type 0 where
   pub items : List Token
   pub spare : ℕ

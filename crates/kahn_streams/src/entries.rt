@@ -67,7 +67,6 @@ pub fn channel_named(network: &Network, name: &str) -> Option<usize>
     None
 }
 
-// Whether each of the values is of the kind.
 pub(crate) fn are_of_kind(values: &[Value], kind: Kind) -> bool
     ensures { IsTrue result ↔ AreOfKind kind values.now }
 {

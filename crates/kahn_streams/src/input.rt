@@ -95,7 +95,6 @@ impl Input {
         Ok(())
     }
 
-    // Whether a channel has room for `count` more values.
     fn has_room(&self, channel: usize, count: usize) -> bool
         ensures { IsTrue result ↔ (length (inputs_of self.now channel) + count ≤ most_values) }
     {
@@ -105,7 +104,6 @@ impl Input {
         }
     }
 
-    // Appends values to the list of a channel.
     #[tactic(auto, using(crate::proofs::Fed::item_kept, std::proofs::lemmas::Result::err_from_is_err_and, crate::proofs::Fed::item_fed, crate::proofs::Few::same_few))]
     fn append(&mut self, channel: usize, values: Vec<Value>) -> Result<(), NoMemory>
         requires here { channel < length self.old }
@@ -214,7 +212,6 @@ fn add_values(list: &mut Vec<Value>, mut values: Vec<Value>) -> Result<(), NoMem
     Ok(())
 }
 
-// Whether an input may have these values for the channel.
 fn is_list_for(network: &Network, channel: usize, values: &[Value]) -> bool
     requires { channel < length (network_of network.now).channels }
     ensures { IsTrue result ↔ IsListFor (network_of network.now) channel values.now }

@@ -91,7 +91,6 @@ impl Network {
         self.program.instances.len()
     }
 
-    /// Returns the wire of the channel with that number.
     #[tactic(auto, using(crate::proofs::Kept_network::wire_count))]
     fn wire(&self, channel: usize) -> &Wire
         requires { channel < length (network_of self.now).channels }

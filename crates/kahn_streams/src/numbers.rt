@@ -39,7 +39,6 @@ impl<'p, A: Allocator> Model for Numbered<'p, A> {
     ghost invariant = { λ n. AreNumbers (names_of n.process.now) (get_by_text n.numbers) };
 }
 
-// Notes the number of a name, unless it has one.
 #[tactic(auto, using(crate::proofs::Noted::noted_new, std::proofs::lemmas::Map::Text::btree_map_updates_text, std::proofs::lemmas::Map::Text::text_keys))]
 fn note<A: Allocator + Clone>(
     numbers: &mut NumberTable<A>,

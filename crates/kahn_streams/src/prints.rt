@@ -5,7 +5,6 @@ ghost use Rattle.kahn_streams.specs.{Prints.declaration_prints, Prints.process_p
 
 use crate::tree::{Action, Declaration, Process, Statement};
 
-// Whether a statement prints anywhere.
 fn prints(statement: &Statement) -> bool
     ensures { (names : Scope) → result ≡ prints_in (statement_of names statement.now) }
 {

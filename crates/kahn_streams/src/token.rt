@@ -52,7 +52,6 @@ impl Token {
         }
     }
 
-    // `of`, with the names of something at hand.
     pub(crate) fn named_by_two<X, Y>(_x: &X, _y: &Y, line: Line, place: u64, value: Word) -> Token
         ghost names: { Names }
         requires { Holds names.network names.input line place value }

@@ -92,7 +92,6 @@ fn make_room<X, A: Allocator>(list: &mut Vec<X, A>) -> Result<(), NoMemory>
     Ok(())
 }
 
-// Adds a value to the rest, where there is room.
 #[inline(never)]
 fn put_behind<A: Allocator>(rest: &mut Vec<Packed, A>, word: Word)
     requires { vec_len rest.old < vec_capacity rest.old }
@@ -148,7 +147,7 @@ impl<A: Allocator> Tokens<A> {
         self.numbers.len() < self.limit
     }
 
-    /// Makes room for so many more. Fails only if there wasn't, and leaves the room as it was.
+    /// Makes room for so many more. Fails only if there wasn't.
     pub fn reserve(&mut self, more: usize) -> Result<(), NoMemory>
         ensures items { self.new.items ≡ self.old.items }
         ensures ok { OnOk result (more ≤ self.new.spare) }
@@ -177,7 +176,6 @@ impl<A: Allocator> Tokens<A> {
         put_behind(&mut self.rest, word);
     }
 
-    // Adds a token to any list.
     #[inline(never)]
     #[tactic(auto, using(crate::proofs::Stored::integer_more, crate::proofs::Stored::rest_more))]
     fn add(&mut self, token: Token) -> Result<(), NoMemory>

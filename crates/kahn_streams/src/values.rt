@@ -26,7 +26,6 @@ impl<'a> Model for Values<'a> {
 }
 
 impl<'a> Values<'a> {
-    /// These integers, and then the rest.
     pub(crate) fn of(numbers: &'a [i64], rest: &'a [Packed]) -> Values<'a>
         ensures { result ≡ values_in numbers.now rest.now }
     {

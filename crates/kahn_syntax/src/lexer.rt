@@ -51,7 +51,6 @@ fn word_item(text: &str, span: Span) -> Result<Item, SyntaxFault>
     Ok(Item::Lexeme(Lexeme { span, what }))
 }
 
-/// Reads the lexeme of a number.
 fn number_item(text: &str, span: Span) -> Result<Item, SyntaxFault>
     requires longest { IsLongest text.now span.from span.to }
     requires run { IsRun text.now span.from span.to }

@@ -11,5 +11,4 @@ pub mod Kept
 pub mod Told
 pub mod Same_inputs
 pub mod Cut
-pub mod Placed
 pub mod Common

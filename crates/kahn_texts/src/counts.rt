@@ -39,7 +39,6 @@ impl CallCount for GhostCount {
     }
 }
 
-// One call more.
 fn one_more(_count: &GhostCount) -> About<u64>
     ghost calls: { ℕ }
     ensures { result.value ≡ calls }

@@ -1,8 +1,9 @@
 //! The digits of values.
 
-ghost use Rattle.std.specs.Prelude.{◌≡◌, ℕ, List, ◌+◌, ◌*◌, ◌≤◌, length, drop, ◌++◌, flat_map};
+ghost use Rattle.std.specs.Prelude.{◌≡◌, ◌+◌, ◌*◌, ◌≤◌, length, drop, ◌++◌, flat_map};
 ghost use Rattle.std.specs.Fmt.{signed_decimal};
-ghost use Rattle.kahn_streams.specs.{declared.value.Value.Value as ValueView, Written.value_text, Written.Writes};
+ghost use Rattle.kahn_streams.specs.{Written.value_text, Written.Writes};
+ghost use Rattle.kahn_texts.specs.inner.Layouts.{separated};
 
 use crate::bytes::{WriteFault, put};
 use crate::counts::CallCount;
@@ -59,52 +60,38 @@ fn place_value(value: Value, room: &mut [u8], end: usize) -> usize
 }
 
 /// How values are separated.
-pub trait Layout {
-    // the bytes of one
-    ghost text: { ValueView → List ℕ };
-
-    /// Places a value and its separator so that they end at `end`, and returns where they begin.
-    fn place(value: Value, room: &mut [u8], end: usize) -> usize
-        requires { (21 ≤ end) × (end ≤ length room.old) }
-        ensures near { (result ≤ end) × (end ≤ result + 21) }
-        ensures placed { drop result room.new ≡ text value ++ drop end room.old };
+#[derive(Clone, Copy)]
+pub(crate) enum Layout {
+    /// A space before each.
+    Spaced,
+    /// Each on a line of its own.
+    Lined,
 }
 
-/// A space before each.
-pub struct Spaced;
-
-impl Layout for Spaced {
-    ghost use Rattle.kahn_streams.specs.Written.{spaced_text};
-
-    ghost text = { spaced_text };
-
-    #[inline(always)]
-    fn place(value: Value, room: &mut [u8], end: usize) -> usize {
-        let start = place_value(value, room, end);
-        place(b" ", room, start)
-    }
-}
-
-/// Each on a line of its own.
-pub struct Lined;
-
-impl Layout for Lined {
-    ghost use Rattle.kahn_streams.specs.Written.{plain_line};
-
-    ghost text = { plain_line };
-
-    #[inline(always)]
-    fn place(value: Value, room: &mut [u8], end: usize) -> usize {
-        let start = place(b"\n", room, end);
-        place_value(value, room, start)
+/// Places a value and its separator so that they end at `end`, and returns where they begin.
+#[inline(always)]
+fn place_separated(layout: Layout, value: Value, room: &mut [u8], end: usize) -> usize
+    requires { (21 ≤ end) × (end ≤ length room.old) }
+    ensures near { (result ≤ end) × (end ≤ result + 21) }
+    ensures placed { drop result room.new ≡ separated layout value ++ drop end room.old }
+{
+    match layout {
+        Layout::Spaced => {
+            let start = place_value(value, room, end);
+            place(b" ", room, start)
+        }
+        Layout::Lined => {
+            let start = place(b"\n", room, end);
+            place_value(value, room, start)
+        }
     }
 }
 
 /// Places values at the end of `room`, the last one first, as digits are made, and returns their text.
 #[tactic(auto, using(crate::proofs::Cut::drop_on))]
-fn place_values<'a, F: Layout>(values: &Values<'_>, room: &'a mut [u8]) -> &'a [u8]
+fn place_values<'a>(layout: Layout, values: &Values<'_>, room: &'a mut [u8]) -> &'a [u8]
     requires { 21 * length values.now ≤ length room.old }
-    ensures { result.now ≡ flat_map F.text values.now }
+    ensures { result.now ≡ flat_map (separated layout) values.now }
 {
     let mut start = room.len();
     let mut left = values.len();
@@ -113,26 +100,27 @@ fn place_values<'a, F: Layout>(values: &Values<'_>, room: &'a mut [u8]) -> &'a [
         let Some(value) = values.get(left) else {
             unreachable!()
         };
-        start = F::place(value, room, start);
+        start = place_separated(layout, value, room, start);
     }
     &room[start..]
 }
 
 /// Writes values, `TOGETHER` by one write.
-pub fn put_values<F: Layout, W: Write, C: CallCount>(
+pub(crate) fn put_values<W: Write, C: CallCount>(
     writer: &mut W,
+    layout: Layout,
     values: &Values<'_>,
     writes: &mut C,
 ) -> Result<(), WriteFault>
-    ensures text { Writes (W.contents writer.old) (W.contents writer.new) result (flat_map F.text values.now) }
-    ensures few { C.count writes.new ≤ C.count writes.old + length (flat_map F.text values.now) }
+    ensures text { Writes (W.contents writer.old) (W.contents writer.new) result (flat_map (separated layout) values.now) }
+    ensures few { C.count writes.new ≤ C.count writes.old + length (flat_map (separated layout) values.now) }
 {
     let mut room = [0; ROOM];
     let mut from = 0;
     while from < values.len() {
         let (_, left) = values.split_at(from);
         let (first, _) = left.split_at(TOGETHER.min(left.len()));
-        put(writer, place_values::<F>(&first, &mut room), writes)?;
+        put(writer, place_values(layout, &first, &mut room), writes)?;
         from += first.len();
     }
     Ok(())

@@ -63,8 +63,7 @@ fn read_entry(alloc: Global, line: &[u8]) -> Result<(String, Vec<Value>), EntryF
     }
 }
 
-/// Reads a line of an input text, without its line feed: an entry, or nothing if it is blank. One carriage return before
-/// its end is dropped.
+/// Reads a line of an input text, without its line feed: an entry, or nothing if it is blank. One carriage return at its end is dropped.
 pub fn read_line(alloc: Global, line: &[u8]) -> Result<Option<(String, Vec<Value>)>, EntryFault>
     ensures { MatchResult result (IsReadLine (content_of line.now)) (IsLineFault (content_of line.now)) }
 {

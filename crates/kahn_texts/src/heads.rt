@@ -27,7 +27,6 @@ fn is_word_byte(byte: u8) -> bool
     byte.is_ascii_alphanumeric() || byte == b'_'
 }
 
-/// Returns the first byte that is no blank.
 fn first_dark(bytes: &[u8]) -> Option<usize>
     ensures { result ≡ position (λ b. not (blank b)) bytes.now }
 {
@@ -59,7 +58,6 @@ pub fn word_bytes(bytes: &[u8]) -> usize
     first_apart(bytes).unwrap_or(bytes.len())
 }
 
-/// Returns bytes without the blanks that come first.
 fn without_blanks(bytes: &[u8]) -> &[u8]
     ensures { result.now ≡ drop (position_or_len (λ b. not (blank b)) bytes.now) bytes.now }
 {
@@ -74,7 +72,6 @@ fn split_word(bytes: &[u8]) -> (&[u8], &[u8])
     bytes.split_at(word_bytes(bytes))
 }
 
-/// Returns what follows a colon.
 fn after_colon(bytes: &[u8]) -> Option<&[u8]>
     ensures { MatchOption result ((rest : List ℕ) → bytes.now ≢ 58 ∷ rest) (λ rest. bytes.now ≡ 58 ∷ rest.now) }
 {
@@ -84,7 +81,6 @@ fn after_colon(bytes: &[u8]) -> Option<&[u8]>
     }
 }
 
-/// Whether a word is a name.
 fn is_name(word: &[u8]) -> bool
     requires { All (λ b. word_byte b ≡ true) word.now }
     ensures { IsTrue result ↔ IsName word.now }
@@ -95,7 +91,6 @@ fn is_name(word: &[u8]) -> bool
     }
 }
 
-/// Returns a word as a name, if it is one.
 #[tactic(auto, using(crate::proofs::Words::named))]
 fn name_of(word: &[u8]) -> Option<&str>
     requires { All (λ b. word_byte b ≡ true) word.now }

@@ -18,8 +18,7 @@ pub enum TextFault {
     /// A line with something after its colon that is no value.
     #[error("input line {0}: not a value")]
     BadValue(usize),
-    /// The text has entries, and one of them doesn't fit the network. Entries are counted from 1, without skipped lines.
-    /// It is never `InputFault::NoMemory`.
+    /// One of the text's entries, counted from 1 without skipped lines, doesn't fit the network. It is never `InputFault::NoMemory`.
     #[error("{0}")]
     Input(InputFault),
     /// The text has more than 16,777,216 bytes.
@@ -44,9 +43,8 @@ impl From<InputFault> for TextFault {
     }
 }
 
-/// Reads the input of a network from an input text. A text that is too long is refused first, then the first line that is
-/// neither blank nor an entry, and then the first entry that doesn't fit the network. Fails with `NoMemory` if memory was
-/// refused. Of more entries than the network has channels only one more is kept.
+/// Reads the input of a network from an input text. A text that is too long is refused first, then the first line that is neither blank
+/// nor an entry, and then the first entry that doesn't fit the network. Of more entries than it has channels only one more is kept.
 #[tactic(auto, using(crate::proofs::Told::entries_told))]
 pub fn read_input(alloc: Global, text: &str, network: &Network) -> Result<Input, TextFault>
     ensures read { MatchResult result (StandsFor network.now text.now) (IsInputTextFault network.now text.now) }

@@ -9,7 +9,6 @@ mod heads;
 mod input;
 mod names;
 mod news;
-mod pieces;
 mod read;
 mod several;
 mod values;
@@ -23,9 +22,8 @@ pub use several::write_report_by;
 pub use write::{write_counted, write_report};
 
 // For the crates above.
-pub use bytes::{flush, put, put_all, put_line, write_line};
+pub use bytes::{flush, put_line, write_line};
 pub use counts::uncounted;
-pub use digits::{Lined, Spaced, put_values};
 pub use entries::{EntryFault, MOST_BYTES, read_entries, read_line};
 pub use heads::{blanks, is_blank, word_bytes};
 pub use names::{channel_name, process_name};

@@ -6,13 +6,12 @@ ghost use Rattle.kahn_texts.specs.{Formats.IsLine, News.more_text, News.closing_
 
 use crate::bytes::WriteFault;
 use crate::counts::uncounted;
-use crate::digits::{Lined, put_values};
+use crate::digits::{Layout, put_values};
 use crate::write::{closing_counted, put_line_values};
 use kahn_streams::{End, Line, Network, Values, Verdict};
 use std::io::Write;
 
-/// Writes what is new on a stream: a line with its heading, as in a report, and these values, or nothing if there are
-/// none. It doesn't flush. After a fault a prefix of it went out.
+/// Writes a line with the heading of a stream, as in a report, and these new values, or nothing if there are none. It doesn't flush.
 pub fn write_news<W: Write>(
     writer: &mut W,
     network: &Network,
@@ -28,16 +27,14 @@ pub fn write_news<W: Write>(
     put_line_values(writer, network, line, values, &mut uncounted())
 }
 
-/// Writes values, each on a line of its own, and nothing if there are none. It doesn't flush. After a fault a
-/// prefix of the text went out. Never allocates.
+/// Writes values, each on a line of its own. It doesn't flush, and never allocates.
 pub fn write_plain<W: Write>(writer: &mut W, values: &Values<'_>) -> Result<(), WriteFault>
     ensures { Writes (W.contents writer.old) (W.contents writer.new) result (plain_text values.now) }
 {
-    put_values::<Lined, _, _>(writer, values, &mut uncounted())
+    put_values(writer, Layout::Lined, values, &mut uncounted())
 }
 
-/// Writes the last lines of a report, those of the ends and of the verdict with the sum of the events, and flushes. After a
-/// fault a prefix of them went out.
+/// Writes the last lines of a report, those of the ends and of the verdict with the sum of the events, and flushes.
 pub fn write_closing<W: Write>(
     writer: &mut W,
     network: &Network,
@@ -47,14 +44,7 @@ pub fn write_closing<W: Write>(
 ) -> Result<(), WriteFault>
     ensures { Writes (W.contents writer.old) (W.contents writer.new) result (closing_text network.now verdict ends.now events) }
 {
-    let (mut writes, mut flushes) = (uncounted(), uncounted());
-    closing_counted(
-        writer,
-        network,
-        verdict,
-        ends,
-        events,
-        &mut writes,
-        &mut flushes,
-    )
+    let writes = &mut uncounted();
+    let flushes = &mut uncounted();
+    closing_counted(writer, network, verdict, ends, events, writes, flushes)
 }

@@ -55,7 +55,6 @@ pub fn read_counted<R: Read, C: CallCount>(
     Err(ReadFault::TooLong)
 }
 
-/// Returns the text of bytes.
 fn text_of(bytes: Vec<u8>) -> Result<String, ReadFault>
     ensures { MatchResult result (λ text. string_bytes text ≡ bytes.items) (λ fault. (fault ≡ ReadFault.NotUtf8) × ¬ IsUtf8 bytes.items) }
 {

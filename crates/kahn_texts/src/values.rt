@@ -10,21 +10,14 @@ use std::alloc::Global;
 use std::str;
 
 /// Returns the number that a word spells: an optional minus and digits, in the range of 64 bits.
-fn number_of(word: &str) -> Option<i64>
+fn number_of(word: &[u8]) -> Option<i64>
     ensures { MatchOption result ((number : ℤ) → IsValue word.now (Integer number) → ⊥) (λ number. IsValue word.now (Integer number)) }
 {
-    if word.as_bytes().first() == Some(&b'+') {
+    if word.first() == Some(&b'+') {
         return None;
     }
-    word.parse::<i64>().ok()
-}
-
-/// Returns the number that bytes spell.
-fn number_in(word: &[u8]) -> Option<i64>
-    ensures { MatchOption result ((number : ℤ) → IsValue word.now (Integer number) → ⊥) (λ number. IsValue word.now (Integer number)) }
-{
     match str::from_utf8(word) {
-        Ok(text) => number_of(text),
+        Ok(text) => text.parse::<i64>().ok(),
         Err(_) => None,
     }
 }
@@ -39,7 +32,7 @@ pub fn value_of(word: &[u8]) -> Option<Value>
     if word.eq_ignore_ascii_case(b"false") {
         return Some(Value::Logical(false));
     }
-    number_in(word).map(Value::Integer)
+    number_of(word).map(Value::Integer)
 }
 
 /// Reads the values between blanks. Fails with `NoValues` or `NoMemory`.

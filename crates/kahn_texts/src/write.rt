@@ -7,7 +7,7 @@ ghost use Rattle.kahn_texts.specs.Formats.{report_text, line_head, values_line, 
 
 use crate::bytes::{WriteFault, flush, put, put_all, put_line};
 use crate::counts::{CallCount, uncounted};
-use crate::digits::{Spaced, put_values};
+use crate::digits::{Layout, put_values};
 use crate::names::{channel_name, process_name};
 use itoa::Buffer;
 use kahn_streams::{Answer, End, Failure, Line, Network, Outcome, Stream, Values, Verdict};
@@ -48,11 +48,10 @@ pub(crate) fn put_closing<W: Write, C: CallCount>(
     ensures text { Writes (W.contents writer.old) (W.contents writer.new) result (flat_map spaced_text values.now ++ line_feed) }
     ensures few { C.count writes.new ≤ C.count writes.old + length (flat_map spaced_text values.now ++ line_feed) }
 {
-    put_values::<Spaced, _, _>(writer, values, writes)?;
+    put_values(writer, Layout::Spaced, values, writes)?;
     put(writer, b"\n", writes)
 }
 
-/// Writes the line of a stream with these values.
 #[tactic(auto, using(crate::proofs::Writing::fails, crate::proofs::Writing::stops, crate::proofs::Writing::goes_on))]
 pub(crate) fn put_line_values<W: Write, C: CallCount>(
     writer: &mut W,
@@ -69,50 +68,20 @@ pub(crate) fn put_line_values<W: Write, C: CallCount>(
     put_closing(writer, values, writes)
 }
 
-/// Writes a stream's line.
-fn put_stream<W: Write, C: CallCount>(
-    writer: &mut W,
-    network: &Network,
-    stream: &Stream,
-    writes: &mut C,
-) -> Result<(), WriteFault>
-    requires { IsLine network.now stream.now.line }
-    ensures text { Writes (W.contents writer.old) (W.contents writer.new) result (stream_text network.now stream.now) }
-    ensures few { C.count writes.new ≤ C.count writes.old + length (stream_text network.now stream.now) }
-{
-    put_line_values(
-        writer,
-        network,
-        stream.line,
-        &stream.tokens.values(),
-        writes,
-    )
-}
-
-/// Returns the word for an instance's state.
-fn outcome_word(outcome: Outcome) -> &'static str
-    ensures { result.now ≡ outcome_word outcome }
+/// Returns the word for an instance's state, and the name of the channel on which it waits, or nothing.
+fn outcome_words(network: &Network, outcome: Outcome) -> (&'static str, &str)
+    ensures word { result.0.now ≡ outcome_word outcome }
+    ensures name { result.1.now ≡ waited_name network.now outcome }
 {
     match outcome {
-        Outcome::Ended => "ended",
-        Outcome::Waits(_) => "waits on ",
-        Outcome::Faulted(Failure::Overflow) => "fault overflow",
-        Outcome::Faulted(Failure::Division) => "fault division",
-        Outcome::More => "wants more",
+        Outcome::Ended => ("ended", ""),
+        Outcome::Waits(channel) => ("waits on ", channel_name(network, channel)),
+        Outcome::Faulted(Failure::Overflow) => ("fault overflow", ""),
+        Outcome::Faulted(Failure::Division) => ("fault division", ""),
+        Outcome::More => ("wants more", ""),
     }
 }
 
-/// Returns the name of the channel on which an instance waits, or nothing.
-fn waited_name(network: &Network, outcome: Outcome) -> &str
-    ensures { result.now ≡ waited_name network.now outcome }
-{
-    match outcome {
-        Outcome::Waits(channel) => channel_name(network, channel),
-        _ => "",
-    }
-}
-
-/// Writes an instance's line.
 fn put_end<W: Write, C: CallCount>(
     writer: &mut W,
     network: &Network,
@@ -129,8 +98,8 @@ fn put_end<W: Write, C: CallCount>(
     let number = first.format(instance + 1).as_bytes();
     let events = second.format(end.events).as_bytes();
     let name = process_name(network, instance).as_bytes();
-    let word = outcome_word(end.outcome).as_bytes();
-    let channel = waited_name(network, end.outcome).as_bytes();
+    let (word, channel) = outcome_words(network, end.outcome);
+    let (word, channel) = (word.as_bytes(), channel.as_bytes());
     put_words(writer, number, name, word, channel, events, writes)
 }
 
@@ -156,8 +125,7 @@ fn put_words<'a, W: Write, C: CallCount>(
     )
 }
 
-/// Writes the last line.
-pub(crate) fn put_last<W: Write, C: CallCount>(
+fn put_last<W: Write, C: CallCount>(
     writer: &mut W,
     verdict: Verdict,
     events: u64,
@@ -176,8 +144,7 @@ pub(crate) fn put_last<W: Write, C: CallCount>(
     put_line(writer, &[word, events, b"\n"], writes)
 }
 
-/// Writes the lines of the streams.
-pub(crate) fn put_streams<W: Write, C: CallCount>(
+fn put_streams<W: Write, C: CallCount>(
     writer: &mut W,
     network: &Network,
     streams: &[Stream],
@@ -188,13 +155,13 @@ pub(crate) fn put_streams<W: Write, C: CallCount>(
     ensures few { C.count writes.new ≤ C.count writes.old + length (flat_map (stream_text network.now) streams.now) }
 {
     for stream in streams {
-        put_stream(writer, network, stream, writes)?;
+        let values = stream.tokens.values();
+        put_line_values(writer, network, stream.line, &values, writes)?;
     }
     Ok(())
 }
 
-/// Writes the lines of the instances.
-pub(crate) fn put_ends<W: Write, C: CallCount>(
+fn put_ends<W: Write, C: CallCount>(
     writer: &mut W,
     network: &Network,
     ends: &[End],
@@ -228,8 +195,7 @@ pub(crate) fn closing_counted<W: Write, C: CallCount, D: CallCount>(
     flush(writer, flushes)
 }
 
-/// Writes the report text and flushes, and counts both: at most one write for each byte, and one flush. After a fault a prefix of it
-/// went out.
+/// Writes the report text and flushes, and counts both: at most one write for each byte, and one flush.
 pub fn write_counted<W: Write, C: CallCount, D: CallCount>(
     writer: &mut W,
     network: &Network,
@@ -244,15 +210,8 @@ pub fn write_counted<W: Write, C: CallCount, D: CallCount>(
 {
     let (verdict, events) = (answer.verdict, answer.events);
     put_streams(writer, network, &answer.streams, writes)?;
-    closing_counted(
-        writer,
-        network,
-        verdict,
-        &answer.ends,
-        events,
-        writes,
-        flushes,
-    )
+    let ends = &answer.ends;
+    closing_counted(writer, network, verdict, ends, events, writes, flushes)
 }
 
 /// Writes the report text of an answer of a network, and flushes. After a fault a prefix of it went out.

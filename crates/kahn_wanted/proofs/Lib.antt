@@ -3,5 +3,4 @@ mod Classes
 mod Front
 mod Gaps
 pub mod Leading
-mod Opened
 mod Walking

@@ -1,4 +1,3 @@
-pub mod Blocks
 pub mod Comments
 pub mod Wanted
 pub mod inner

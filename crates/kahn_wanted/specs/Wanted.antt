@@ -29,18 +29,21 @@ signs [] = []
 signs (s ∷ ss) = class.Sign s ∷ signs ss
 
 -- what an operand begins with, a simple statement, and so on
+abbrev pub operand_classes : List Class
+operand_classes = class.Name ∷ class.Number (pos 0) ∷ words (word.False ∷ word.True ∷ word.Wait ∷ []) ++ signs (sign.Open ∷ sign.Minus ∷ [])
+
+abbrev pub arithmetic_classes : List Class
+arithmetic_classes = signs (sign.Minus ∷ sign.Plus ∷ sign.Times ∷ []) ++ words (word.Div ∷ word.Mod ∷ [])
+
 abbrev pub members : LexemeGroup → List Class
-members group.Expression = class.Name ∷ class.Number (pos 0) ∷ class.Sign sign.Open ∷ class.Sign sign.Minus
-    ∷ words (word.True ∷ word.False ∷ word.Wait ∷ word.Not ∷ word.If ∷ [])
-members group.Operand = class.Name ∷ class.Number (pos 0) ∷ class.Sign sign.Open ∷ class.Sign sign.Minus ∷ words (word.True ∷ word.False ∷ word.Wait ∷ [])
+members group.Expression = words (word.If ∷ word.Not ∷ []) ++ operand_classes
+members group.Operand = operand_classes
 members group.Statement = class.Name ∷ words (word.Send ∷ word.Print ∷ word.Begin ∷ word.If ∷ word.While ∷ word.Repeat ∷ [])
 members group.SimpleStatement = class.Name ∷ words (word.Send ∷ word.Print ∷ word.Begin ∷ [])
 members group.Declaration = words (word.Integer ∷ word.Logical ∷ word.Process ∷ [])
 members group.Operator =
-    signs (sign.Plus ∷ sign.Minus ∷ sign.Times ∷ []) ++ words (word.Div ∷ word.Mod ∷ [])
-    ++ signs (sign.Equal ∷ sign.Unequal ∷ sign.Less ∷ sign.AtMost ∷ sign.Greater ∷ sign.AtLeast ∷ []) ++ words (word.And ∷ word.Or ∷ [])
-members group.Arithmetic = signs (sign.Plus ∷ sign.Minus ∷ sign.Times ∷ []) ++ words (word.Div ∷ word.Mod ∷ [])
-members group.Comparison = signs (sign.Equal ∷ sign.Unequal ∷ sign.Less ∷ sign.AtMost ∷ sign.Greater ∷ sign.AtLeast ∷ [])
+    arithmetic_classes ++ signs (sign.Equal ∷ sign.Unequal ∷ sign.Less ∷ sign.AtMost ∷ sign.Greater ∷ sign.AtLeast ∷ []) ++ words (word.And ∷ word.Or ∷ [])
+members group.Arithmetic = arithmetic_classes
 
 -- the classes that are told: those of the groups, and the others
 abbrev pub told_classes : Wanted → List Class

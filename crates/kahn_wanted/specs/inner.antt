@@ -1,4 +1,3 @@
 pub mod Asked
-pub mod Open
 pub mod Passing
 pub mod Walk

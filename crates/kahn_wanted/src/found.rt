@@ -4,8 +4,8 @@ ghost use Rattle.std.specs.Prelude.{◌≡◌, ◌≤◌, ◌<◌, List, ℕ, If
 ghost use Rattle.kahn_syntax.specs.{declared.fault.SyntaxFault.TheVariants.Expected, declared.lexeme.Lexeme.Lexeme, Texts.BeginsWithin, Texts.IsFault, Texts.IsTextFault, Texts.terminals};
 ghost use Rattle.kahn_wanted.specs.Wanted.{AreWanted, IsPlace, IsUnexpected};
 
-use crate::asked::{CLASSES, coming};
-use crate::groups::{Wanted, grouped};
+use crate::groups::{CLASSES, Wanted, grouped};
+use crate::walk::coming;
 use kahn_streams::NoMemory;
 use kahn_syntax::{Lexeme, Span, What, lex};
 use std::alloc::{AllocError, Global};
@@ -30,14 +30,12 @@ pub struct FaultPlace {
     pub unexpected: Unexpected,
 }
 
-/// The lexeme at a place.
 fn lexeme_at(lexemes: &[Lexeme], number: usize) -> Option<Lexeme>
     ensures { result ≡ slice_get lexemes.now number }
 {
     lexemes.get(number).copied()
 }
 
-/// What may stand behind lexemes.
 fn wanted_behind(alloc: Global, before: &[Lexeme]) -> Result<Wanted, AllocError>
     ensures { IfOk result (λ wanted. (text : List ℕ) → AreWanted (terminals text before.now) wanted) }
 {

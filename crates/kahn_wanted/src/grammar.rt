@@ -1,62 +1,131 @@
-//! The grammar, as tables: what a part of a program begins with, and which parts are open behind that.
+//! The parts of a program, by what may still come; and the grammar, as tables: what a part begins with, and which are open behind that.
 
 ghost use Rattle.std.specs.Prelude.{◌≡◌};
 ghost use Rattle.kahn_syntax.specs.inner.Machine.{rules_of};
 ghost use Rattle.kahn_wanted.specs.inner.Walk.{awaited_part, operators_between, rules_by};
 
-use crate::awaited::Awaited::{
+use crate::grammar::Awaited::{
     Ands, Argument, Arguments, Comparison, Conjunction, Declarations, Denial, Direction,
     Expression, Factor, Group, Groups, Instance, Just, Last, Level, MoreArguments, MoreGroups,
-    MoreInstances, MoreNames, MoreStatements, Ors, Otherwise, Products, Program, Role, Signs,
-    Simple, Statement, Sum, Term, Variables,
+    MoreInstances, MoreNames, MoreStatements, Ors, Otherwise, Products, Role, Signs, Simple,
+    Statement, Sum, Term, Variables,
 };
-use crate::awaited::Lead::{Either, Word};
-use crate::awaited::{Awaited, Lead, LeadRule, PartLeads};
-use kahn_syntax::{Keyword, Operator, Sign};
+use crate::grammar::Lead::{Either, Word};
+use kahn_syntax::Keyword::{
+    self, Begin, Channel, Do, Else, End, False, If, In, Input, Integer, Logical, Not, On, Out,
+    Output, Par, Print, Process, Repeat, Send, Then, True, Wait, While,
+};
+use kahn_syntax::Operator;
+use kahn_syntax::Sign::{self, Becomes, Close, Comma, Minus, Open, Semicolon};
+
+/// A part of a program that is open: one that is awaited, or that may be left out.
+#[derive(Clone, Copy)]
+pub(crate) enum Awaited {
+    Program,
+    Declarations,
+    /// `input` or `output`.
+    Role,
+    Groups,
+    Group,
+    /// `in` or `out`.
+    Direction,
+    Variables,
+    Statement,
+    /// A statement that may stand behind `then`.
+    Simple,
+    Expression,
+    /// An operand of `or`.
+    Conjunction,
+    /// An operand of `and`.
+    Denial,
+    /// An operand of a comparison.
+    Sum,
+    /// An operand of `+` or `-`.
+    Term,
+    /// An operand of `*`, `div` or `mod`.
+    Factor,
+    Ors,
+    Ands,
+    /// A comparison with its operand.
+    Comparison,
+    /// `+` and `-` with their operands.
+    Signs,
+    /// `*`, `div` and `mod` with their operands.
+    Products,
+    Instance,
+    /// Arguments, with the closing bracket.
+    Arguments,
+    Argument,
+    MoreNames,
+    MoreStatements,
+    MoreGroups,
+    MoreArguments,
+    MoreInstances,
+    /// `else` with its statement.
+    Otherwise,
+    /// A last semicolon.
+    Last,
+    /// The end of a level of nesting: nothing.
+    Level,
+    /// A single lexeme.
+    Just(Lead),
+}
+
+/// What a part begins with.
+#[derive(Clone, Copy)]
+pub(crate) enum Lead {
+    Word(Keyword),
+    /// One of these two.
+    Either(Keyword, Keyword),
+    Sign(Sign),
+    Number,
+    Name,
+    /// An operator of the level of this one.
+    Operator(Operator),
+}
+
+/// A lexeme with which a part begins, as far as which operators may follow then, and what is open before these, the first part last.
+pub(crate) type LeadRule = (Lead, usize, &'static [Awaited]);
+
+/// What a part begins with: by rules, with the first operator that may follow, or a single lexeme.
+pub(crate) type PartLeads = Result<(usize, &'static [LeadRule]), Lead>;
+
+/// What is open behind a lexeme: operators, and what comes before these, each with its first part last.
+pub(crate) type Opened = (&'static [Awaited], &'static [Awaited]);
 
 /// What several parts begin with.
-const KIND: Lead = Either(Keyword::Integer, Keyword::Logical);
+const KIND: Lead = Either(Integer, Logical);
 
-const TRUTH: Lead = Either(Keyword::True, Keyword::False);
+const TRUTH: Lead = Either(True, False);
 
-const WAIT: Lead = Word(Keyword::Wait);
-
-const MINUS: Lead = Lead::Sign(Sign::Minus);
-
-const LEFT: Lead = Lead::Sign(Sign::Open);
+const MINUS: Lead = Lead::Sign(Minus);
 
 /// Single lexemes.
 const NAME: Awaited = Just(Lead::Name);
 
 const NUMBER: Awaited = Just(Lead::Number);
 
-const OPEN: Awaited = Just(Lead::Sign(Sign::Open));
+const OPEN: Awaited = Just(Lead::Sign(Open));
 
-const CLOSE: Awaited = Just(Lead::Sign(Sign::Close));
+const CLOSE: Awaited = Just(Lead::Sign(Close));
 
-const SEMICOLON: Awaited = Just(Lead::Sign(Sign::Semicolon));
+const SEMICOLON: Awaited = Just(Lead::Sign(Semicolon));
 
-const BECOMES: Awaited = Just(Lead::Sign(Sign::Becomes));
+const CHANNEL: Awaited = Just(Word(Channel));
 
-const BEGIN: Awaited = Just(Word(Keyword::Begin));
+const DO: Awaited = Just(Word(Do));
 
-const END: Awaited = Just(Word(Keyword::End));
+const ELSE: Awaited = Just(Word(Else));
 
-const CHANNEL: Awaited = Just(Word(Keyword::Channel));
+const END: Awaited = Just(Word(End));
 
-const ON: Awaited = Just(Word(Keyword::On));
-
-const THEN: Awaited = Just(Word(Keyword::Then));
-
-const DO: Awaited = Just(Word(Keyword::Do));
-
-const ELSE: Awaited = Just(Word(Keyword::Else));
+const THEN: Awaited = Just(Word(Then));
 
 /// The operators that may follow an operand, the tightest last.
 static OPERATORS: [Awaited; 5] = [Ors, Ands, Comparison, Signs, Products];
 
 static PROGRAM: [LeadRule; 1] = [(
-    Word(Keyword::Begin),
+    Word(Begin),
     0,
     &[Last, END, Last, MoreInstances, Instance, Declarations],
 )];
@@ -68,7 +137,7 @@ static DECLARATIONS: [LeadRule; 2] = [
         &[Declarations, SEMICOLON, MoreNames, NAME, CHANNEL, Role],
     ),
     (
-        Word(Keyword::Process),
+        Word(Process),
         0,
         &[
             Declarations,
@@ -77,7 +146,7 @@ static DECLARATIONS: [LeadRule; 2] = [
             MoreStatements,
             Statement,
             Variables,
-            BEGIN,
+            Just(Word(Begin)),
             SEMICOLON,
             CLOSE,
             Groups,
@@ -87,48 +156,40 @@ static DECLARATIONS: [LeadRule; 2] = [
     ),
 ];
 
-static ROLE: [LeadRule; 1] = [(Either(Keyword::Input, Keyword::Output), 0, &[])];
+static ROLE: [LeadRule; 1] = [(Either(Input, Output), 0, &[])];
 
 static GROUPS: [LeadRule; 1] = [(KIND, 0, &[MoreGroups, MoreNames, NAME, Direction])];
 
 static GROUP: [LeadRule; 1] = [(KIND, 0, &[MoreNames, NAME, Direction])];
 
-static DIRECTION: [LeadRule; 1] = [(Either(Keyword::In, Keyword::Out), 0, &[])];
+static DIRECTION: [LeadRule; 1] = [(Either(In, Out), 0, &[])];
 
 static VARIABLES: [LeadRule; 1] = [(KIND, 0, &[Variables, SEMICOLON, MoreNames, NAME])];
 
 static STATEMENT: [LeadRule; 7] = [
-    (
-        Word(Keyword::If),
-        0,
-        &[Level, Otherwise, Simple, THEN, Expression],
-    ),
-    (Word(Keyword::While), 0, &[Level, Statement, DO, Expression]),
-    (Word(Keyword::Repeat), 0, &[Level, Statement]),
-    (Lead::Name, 0, &[Expression, BECOMES]),
-    (Word(Keyword::Send), 0, &[NAME, ON, Expression]),
-    (Word(Keyword::Print), 0, &[Expression]),
-    (
-        Word(Keyword::Begin),
-        0,
-        &[Level, END, MoreStatements, Statement],
-    ),
+    (Word(If), 0, &[Level, Otherwise, Simple, THEN, Expression]),
+    (Word(While), 0, &[Level, Statement, DO, Expression]),
+    (Word(Repeat), 0, &[Level, Statement]),
+    (Lead::Name, 0, &[Expression, Just(Lead::Sign(Becomes))]),
+    (Word(Send), 0, &[NAME, Just(Word(On)), Expression]),
+    (Word(Print), 0, &[Expression]),
+    (Word(Begin), 0, &[Level, END, MoreStatements, Statement]),
 ];
 
 /// Those of all levels: operands take the operators from that of their level on, and `not` takes those of truth values.
 static EXPRESSION: [LeadRule; 8] = [
     (
-        Word(Keyword::If),
+        Word(If),
         0,
         &[Level, Expression, ELSE, Expression, THEN, Expression],
     ),
-    (Word(Keyword::Not), 2, &[Level, Denial]),
+    (Word(Not), 2, &[Level, Denial]),
     (Lead::Number, 5, &[]),
     (TRUTH, 5, &[]),
     (Lead::Name, 5, &[]),
-    (WAIT, 5, &[CLOSE, NAME, OPEN]),
+    (Word(Wait), 5, &[CLOSE, NAME, OPEN]),
     (MINUS, 5, &[Level, Factor]),
-    (LEFT, 5, &[Level, CLOSE, Expression]),
+    (Lead::Sign(Open), 5, &[Level, CLOSE, Expression]),
 ];
 
 static ORS: [LeadRule; 1] = [(Lead::Operator(Operator::Or), 0, &[Ors, Conjunction])];
@@ -144,7 +205,7 @@ static PRODUCTS: [LeadRule; 1] = [(Lead::Operator(Operator::Multiply), 0, &[Prod
 static INSTANCE: [LeadRule; 1] = [(Lead::Name, 0, &[Arguments, OPEN])];
 
 static ARGUMENTS: [LeadRule; 5] = [
-    (Lead::Sign(Sign::Close), 0, &[]),
+    (Lead::Sign(Close), 0, &[]),
     (Lead::Name, 0, &[CLOSE, MoreArguments]),
     (Lead::Number, 0, &[CLOSE, MoreArguments]),
     (TRUTH, 0, &[CLOSE, MoreArguments]),
@@ -158,23 +219,19 @@ static ARGUMENT: [LeadRule; 4] = [
     (MINUS, 0, &[NUMBER]),
 ];
 
-static MORE_NAMES: [LeadRule; 1] = [(Lead::Sign(Sign::Comma), 0, &[MoreNames, NAME])];
+static MORE_NAMES: [LeadRule; 1] = [(Lead::Sign(Comma), 0, &[MoreNames, NAME])];
 
-static MORE_STATEMENTS: [LeadRule; 1] = [(
-    Lead::Sign(Sign::Semicolon),
-    0,
-    &[MoreStatements, Statement],
-)];
+static MORE_STATEMENTS: [LeadRule; 1] = [(Lead::Sign(Semicolon), 0, &[MoreStatements, Statement])];
 
-static MORE_GROUPS: [LeadRule; 1] = [(Lead::Sign(Sign::Semicolon), 0, &[MoreGroups, Group])];
+static MORE_GROUPS: [LeadRule; 1] = [(Lead::Sign(Semicolon), 0, &[MoreGroups, Group])];
 
-static MORE_ARGUMENTS: [LeadRule; 1] = [(Lead::Sign(Sign::Comma), 0, &[MoreArguments, Argument])];
+static MORE_ARGUMENTS: [LeadRule; 1] = [(Lead::Sign(Comma), 0, &[MoreArguments, Argument])];
 
-static MORE_INSTANCES: [LeadRule; 1] = [(Word(Keyword::Par), 0, &[MoreInstances, Instance])];
+static MORE_INSTANCES: [LeadRule; 1] = [(Word(Par), 0, &[MoreInstances, Instance])];
 
-static OTHERWISE: [LeadRule; 1] = [(Word(Keyword::Else), 0, &[Statement])];
+static OTHERWISE: [LeadRule; 1] = [(Word(Else), 0, &[Statement])];
 
-static LAST: [LeadRule; 1] = [(Lead::Sign(Sign::Semicolon), 0, &[])];
+static LAST: [LeadRule; 1] = [(Lead::Sign(Semicolon), 0, &[])];
 
 static LEVEL: [LeadRule; 0] = [];
 

@@ -25,8 +25,6 @@ pub enum LexemeGroup {
     Operator,
     /// An operator of integers.
     Arithmetic,
-    /// A comparison.
-    Comparison,
 }
 
 /// What may stand at a place: these groups, and these classes, of which the number 0 stands for all numbers.
@@ -38,15 +36,8 @@ pub struct Wanted {
     pub others: Vec<Class>,
 }
 
-// The groups of which all members are told, and these members.
-#[derive(Drop)]
-struct ToldGroups {
-    groups: Vec<LexemeGroup>,
-    classes: Vec<Class>,
-}
-
 /// The groups; one that has another stands before it.
-const GROUPS: [LexemeGroup; 8] = [
+const GROUPS: [LexemeGroup; 7] = [
     LexemeGroup::Expression,
     LexemeGroup::Operand,
     LexemeGroup::Statement,
@@ -54,19 +45,55 @@ const GROUPS: [LexemeGroup; 8] = [
     LexemeGroup::Declaration,
     LexemeGroup::Operator,
     LexemeGroup::Arithmetic,
-    LexemeGroup::Comparison,
 ];
 
-static EXPRESSION: [Class; 9] = [
+/// The classes of lexemes, those of a group beside one another; the one of the number 0 stands for all numbers. The sign for `not` is the
+/// word.
+pub const CLASSES: [Class; 44] = [
+    Class::Word(Keyword::If),
+    Class::Word(Keyword::Not),
     Class::Name,
     Class::Number(0),
+    Class::Word(Keyword::False),
+    Class::Word(Keyword::True),
+    Class::Word(Keyword::Wait),
     Class::Sign(Sign::Open),
     Class::Sign(Sign::Minus),
-    Class::Word(Keyword::True),
-    Class::Word(Keyword::False),
-    Class::Word(Keyword::Wait),
-    Class::Word(Keyword::Not),
-    Class::Word(Keyword::If),
+    Class::Sign(Sign::Plus),
+    Class::Sign(Sign::Times),
+    Class::Word(Keyword::Div),
+    Class::Word(Keyword::Mod),
+    Class::Sign(Sign::Equal),
+    Class::Sign(Sign::Unequal),
+    Class::Sign(Sign::Less),
+    Class::Sign(Sign::AtMost),
+    Class::Sign(Sign::Greater),
+    Class::Sign(Sign::AtLeast),
+    Class::Word(Keyword::And),
+    Class::Word(Keyword::Or),
+    Class::Word(Keyword::Begin),
+    Class::Word(Keyword::Channel),
+    Class::Word(Keyword::Do),
+    Class::Word(Keyword::Else),
+    Class::Word(Keyword::End),
+    Class::Word(Keyword::In),
+    Class::Word(Keyword::Input),
+    Class::Word(Keyword::Integer),
+    Class::Word(Keyword::Logical),
+    Class::Word(Keyword::Process),
+    Class::Word(Keyword::On),
+    Class::Word(Keyword::Out),
+    Class::Word(Keyword::Output),
+    Class::Word(Keyword::Par),
+    Class::Word(Keyword::Print),
+    Class::Word(Keyword::Repeat),
+    Class::Word(Keyword::Send),
+    Class::Word(Keyword::Then),
+    Class::Word(Keyword::While),
+    Class::Sign(Sign::Becomes),
+    Class::Sign(Sign::Close),
+    Class::Sign(Sign::Comma),
+    Class::Sign(Sign::Semicolon),
 ];
 
 static STATEMENT: [Class; 7] = [
@@ -79,54 +106,29 @@ static STATEMENT: [Class; 7] = [
     Class::Word(Keyword::Repeat),
 ];
 
-static DECLARATION: [Class; 3] = [
-    Class::Word(Keyword::Integer),
-    Class::Word(Keyword::Logical),
-    Class::Word(Keyword::Process),
-];
-
-static OPERATOR: [Class; 13] = [
-    Class::Sign(Sign::Plus),
-    Class::Sign(Sign::Minus),
-    Class::Sign(Sign::Times),
-    Class::Word(Keyword::Div),
-    Class::Word(Keyword::Mod),
-    Class::Sign(Sign::Equal),
-    Class::Sign(Sign::Unequal),
-    Class::Sign(Sign::Less),
-    Class::Sign(Sign::AtMost),
-    Class::Sign(Sign::Greater),
-    Class::Sign(Sign::AtLeast),
-    Class::Word(Keyword::And),
-    Class::Word(Keyword::Or),
-];
-
 impl LexemeGroup {
     /// Its members.
     pub fn members(self) -> &'static [Class]
         ensures { result.now ≡ members self }
     {
         match self {
-            LexemeGroup::Expression => &EXPRESSION,
-            LexemeGroup::Operand => &EXPRESSION[..7],
+            LexemeGroup::Expression => &CLASSES[..9],
+            LexemeGroup::Operand => &CLASSES[2..9],
             LexemeGroup::Statement => &STATEMENT,
             LexemeGroup::SimpleStatement => &STATEMENT[..4],
-            LexemeGroup::Declaration => &DECLARATION,
-            LexemeGroup::Operator => &OPERATOR,
-            LexemeGroup::Arithmetic => &OPERATOR[..5],
-            LexemeGroup::Comparison => &OPERATOR[5..11],
+            LexemeGroup::Declaration => &CLASSES[28..31],
+            LexemeGroup::Operator => &CLASSES[8..21],
+            LexemeGroup::Arithmetic => &CLASSES[8..13],
         }
     }
 }
 
-/// Whether a class is among these.
 fn has(classes: &[Class], class: Class) -> bool
     ensures { MatchBool result (Contains classes.now class) (¬ (Contains classes.now class)) }
 {
     classes.contains(&class)
 }
 
-/// Whether all of these are among those.
 fn are_within(some: &[Class], classes: &[Class]) -> bool
     ensures { OnTrue result (All (Contains classes.now) some.now) }
 {
@@ -138,9 +140,12 @@ fn are_within(some: &[Class], classes: &[Class]) -> bool
     true
 }
 
-/// The groups of which all members are among these classes. None is told of which all members were told before.
-fn find_groups(alloc: Global, classes: &[Class]) -> Result<ToldGroups, AllocError>
-    ensures { IfOk result (λ t. (t.classes.items ≡ flat_map members t.groups.items) × All (Contains classes.now) t.classes.items) }
+/// The groups of which all members are among these classes, and these members. None is told of which all members were told before.
+fn find_groups(
+    alloc: Global,
+    classes: &[Class],
+) -> Result<(Vec<LexemeGroup>, Vec<Class>), AllocError>
+    ensures { IfOk result (λ t. (t.1.items ≡ flat_map members t.0.items) × All (Contains classes.now) t.1.items) }
 {
     let mut groups = Vec::new(alloc);
     let mut told = Vec::new(alloc);
@@ -151,10 +156,7 @@ fn find_groups(alloc: Global, classes: &[Class]) -> Result<ToldGroups, AllocErro
             told.extend_from_slice(members)?;
         }
     }
-    Ok(ToldGroups {
-        groups,
-        classes: told,
-    })
+    Ok((groups, told))
 }
 
 /// Those of the classes that weren't told.
@@ -174,10 +176,7 @@ fn find_others(alloc: Global, classes: &[Class], told: &[Class]) -> Result<Vec<C
 pub(crate) fn grouped(alloc: Global, classes: &[Class]) -> Result<Wanted, AllocError>
     ensures { IfOk result (λ w. (c : Class) → Contains (told_classes w) c ↔ Contains classes.now c) }
 {
-    let ToldGroups {
-        groups,
-        classes: told,
-    } = find_groups(alloc, classes)?;
+    let (groups, told) = find_groups(alloc, classes)?;
     let others = find_others(alloc, classes, &told)?;
     Ok(Wanted { groups, others })
 }

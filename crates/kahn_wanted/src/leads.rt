@@ -6,11 +6,14 @@ ghost use Rattle.kahn_syntax.specs.{Grammar.rank, Grammar.word as word_terminal,
 ghost use Rattle.kahn_syntax.specs.inner.Machine.{a_name, a_number, a_sign, a_word, accepts, an_operator, enters, operator_of, rank_or};
 ghost use Rattle.kahn_wanted.specs.inner.Walk.{lead_of, opened_parts, rules_as, rules_by, terminal_with};
 
-use crate::awaited::{Lead, LeadRule, Opened, PartLeads};
-use crate::grammar::operators;
+use crate::grammar::{Lead, LeadRule, Opened, PartLeads, operators};
+use kahn_syntax::Keyword::{
+    Begin, Channel, Do, Else, End, False, If, In, Input, Integer, Logical, Not, On, Out, Output,
+    Par, Print, Process, Repeat, Send, Then, True, Wait, While,
+};
+use kahn_syntax::Sign::{Becomes, Close, Comma, Open, Semicolon};
 use kahn_syntax::{Class, Keyword, Operator, Sign};
 
-/// Whether two keywords are the same.
 fn same_word(first: Keyword, second: Keyword) -> bool
     ensures { result ≡ bytes_eq (letters_of first) (letters_of second) }
 {
@@ -40,14 +43,12 @@ pub fn sign_letters(sign: Sign) -> &'static str
     }
 }
 
-/// Whether two signs are the same.
 fn same_sign(first: Sign, second: Sign) -> bool
     ensures { result ≡ bytes_eq (bytes_of_sign first) (bytes_of_sign second) }
 {
     sign_letters(first).as_bytes() == sign_letters(second).as_bytes()
 }
 
-/// Whether a lexeme is this keyword.
 #[tactic(auto, using(crate::proofs::Leading::word_or_sign))]
 fn is_word(word: Keyword, class: Class) -> bool
     ensures { (n : List ℕ) (z : ℤ) → result ≡ accepts (a_word word) (terminal_with n z class) }
@@ -59,7 +60,6 @@ fn is_word(word: Keyword, class: Class) -> bool
     }
 }
 
-/// Whether it is this sign.
 #[tactic(auto, using(crate::proofs::Leading::sign_or_word))]
 fn is_sign(sign: Sign, class: Class) -> bool
     ensures { (n : List ℕ) (z : ℤ) → result ≡ accepts (a_sign sign) (terminal_with n z class) }
@@ -71,7 +71,6 @@ fn is_sign(sign: Sign, class: Class) -> bool
     }
 }
 
-/// Whether it is a number.
 #[tactic(auto, using(crate::proofs::Leading::no_number))]
 fn is_number(class: Class) -> bool
     ensures { (n : List ℕ) (z : ℤ) → result ≡ accepts a_number (terminal_with n z class) }
@@ -82,7 +81,6 @@ fn is_number(class: Class) -> bool
     }
 }
 
-/// Whether it is a name.
 #[tactic(auto, using(crate::proofs::Leading::no_name))]
 fn is_name(class: Class) -> bool
     ensures { (n : List ℕ) (z : ℤ) → result ≡ accepts a_name (terminal_with n z class) }
@@ -93,7 +91,6 @@ fn is_name(class: Class) -> bool
     }
 }
 
-/// The level of an operator.
 fn rank(operator: Operator) -> u8
     ensures { result ≡ rank operator }
 {
@@ -107,51 +104,24 @@ fn rank(operator: Operator) -> u8
     }
 }
 
-/// That of a keyword, and 0 where it is no operator.
-fn word_rank(word: Keyword) -> u8
-    ensures { result ≡ rank_or (operator_of (word_terminal word)) }
-{
-    match word {
-        Keyword::Or => 1,
-        Keyword::And => 2,
-        Keyword::Div | Keyword::Mod => 6,
-        Keyword::Begin | Keyword::Channel | Keyword::Do | Keyword::Else | Keyword::End => 0,
-        Keyword::False | Keyword::If | Keyword::In | Keyword::Input | Keyword::Integer => 0,
-        Keyword::Logical | Keyword::Not | Keyword::On | Keyword::Out | Keyword::Output => 0,
-        Keyword::Par | Keyword::Print | Keyword::Process | Keyword::Repeat | Keyword::Send => 0,
-        Keyword::Then | Keyword::True | Keyword::Wait | Keyword::While => 0,
-    }
-}
-
-/// That of a sign, and 0 where it is no operator.
-fn sign_rank(sign: Sign) -> u8
-    ensures { result ≡ rank_or (operator_of (sign_terminal sign)) }
-{
-    match sign {
-        Sign::Equal | Sign::Unequal | Sign::Less | Sign::AtMost | Sign::Greater | Sign::AtLeast =>
-            4,
-        Sign::Plus | Sign::Minus => 5,
-        Sign::Times => 6,
-        Sign::Becomes | Sign::Open | Sign::Close | Sign::Comma | Sign::Semicolon | Sign::Not => 0,
-    }
-}
-
 /// That of a lexeme, and 0 where it is no operator.
 fn rank_of(class: Class) -> u8
     ensures { (n : List ℕ) (z : ℤ) → result ≡ rank_or (operator_of (terminal_with n z class)) }
 {
     match class {
-        Class::Word(word) => word_rank(word),
-        Class::Sign(sign) => sign_rank(sign),
+        Class::Word(Keyword::Or) => 1,
+        Class::Word(Keyword::And) => 2,
+        Class::Word(Keyword::Div | Keyword::Mod) => 6,
+        Class::Word(Begin | Channel | Do | Else | End | False | If | In | Input | Integer) => 0,
+        Class::Word(Logical | Not | On | Out | Output | Par | Print | Process | Repeat) => 0,
+        Class::Word(Send | Then | True | Wait | While) => 0,
+        Class::Sign(Sign::Equal | Sign::Unequal | Sign::Less | Sign::AtMost) => 4,
+        Class::Sign(Sign::Greater | Sign::AtLeast) => 4,
+        Class::Sign(Sign::Plus | Sign::Minus) => 5,
+        Class::Sign(Sign::Times) => 6,
+        Class::Sign(Becomes | Open | Close | Comma | Semicolon | Sign::Not) => 0,
         Class::Name | Class::Number(_) => 0,
     }
-}
-
-/// Whether it is an operator of the level of this one.
-fn is_operator(operator: Operator, class: Class) -> bool
-    ensures { (n : List ℕ) (z : ℤ) → result ≡ accepts (an_operator operator) (terminal_with n z class) }
-{
-    rank_of(class) == rank(operator)
 }
 
 /// Whether a lexeme is one with which a part begins.
@@ -165,7 +135,7 @@ fn accepts(lead: Lead, class: Class) -> bool
         Lead::Sign(sign) => is_sign(sign, class),
         Lead::Number => is_number(class),
         Lead::Name => is_name(class),
-        Lead::Operator(operator) => is_operator(operator, class),
+        Lead::Operator(operator) => rank_of(class) == rank(operator),
     }
 }
 

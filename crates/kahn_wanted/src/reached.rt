@@ -1,8 +1,7 @@
-//! How far the lexemes of a text go with a change of one of them near a place, or with two interchanged.
+//! How far the lexemes of a text go with a change of one of them near a place.
 
-use crate::asked::CLASSES;
-use crate::awaited::Awaited;
-use crate::grammar::rules;
+use crate::grammar::{Awaited, rules};
+use crate::groups::CLASSES;
 use crate::walk::{awaited_behind, pass};
 use kahn_syntax::{Class, Lexeme};
 use std::alloc::{AllocError, Global};
@@ -16,8 +15,6 @@ pub struct Change {
     pub out: usize,
     /// The class of the lexeme that is put there, if one is; the number 0 stands for all numbers.
     pub put: Option<Class>,
-    /// The class of one more behind that, if one is put there.
-    pub then: Option<Class>,
 }
 
 /// How far a text goes with a change.
@@ -31,50 +28,33 @@ pub struct Reach {
     pub to: usize,
 }
 
-/// What is open before a lexeme of a list.
-#[derive(Clone, Copy)]
-struct Front<'l> {
+/// How far lexemes go with a change, before which this is open; nothing where what is put there can't stand.
+fn reach_of(
     alloc: Global,
-    open: &'l [Awaited],
-    lexemes: &'l [Lexeme],
-    /// The lexeme past which a change has to reach.
-    past: usize,
-}
-
-/// How many lexemes may stand, one behind another, where this is open, and whether they make a program.
-fn going(stack: &mut Vec<Awaited>, lexemes: &[Lexeme]) -> Result<(usize, bool), AllocError> {
-    for (number, lexeme) in lexemes.iter().enumerate() {
-        if !pass(stack, lexeme.what)? {
-            return Ok((number, false));
+    open: &[Awaited],
+    lexemes: &[Lexeme],
+    change: Change,
+) -> Result<Option<Reach>, AllocError> {
+    let (mut stack, mut whole) = (Vec::new(alloc), false);
+    stack.extend_from_slice(open)?;
+    if let Some(class) = change.put {
+        if !pass(&mut stack, class)? {
+            return Ok(None);
         }
     }
-    let whole = stack.iter().all(|part| rules(*part).0);
-    Ok((lexemes.len(), whole))
-}
-
-/// Adds how far a text goes with a change, if that is far enough.
-fn add_reach(all: &mut Vec<Reach>, front: Front, change: Change) -> Result<(), AllocError> {
-    let from = change.at.saturating_add(change.out);
-    let Some(rest) = front.lexemes.get(from..) else {
-        return Ok(());
-    };
-    let mut stack = Vec::new(front.alloc);
-    stack.extend_from_slice(front.open)?;
-    for class in change.put.iter().chain(change.then.iter()) {
-        if !pass(&mut stack, *class)? {
-            return Ok(());
+    let mut to = change.at.saturating_add(change.out);
+    for lexeme in lexemes.get(to..).unwrap_or(&[]) {
+        if !pass(&mut stack, lexeme.what)? {
+            return Ok(Some(Reach { change, whole, to }));
         }
+        to = to.saturating_add(1);
     }
-    let (count, whole) = going(&mut stack, rest)?;
-    let to = from.saturating_add(count);
-    if whole || front.past < to {
-        all.push(Reach { change, whole, to })?;
-    }
-    Ok(())
+    whole = to == lexemes.len() && stack.iter().all(|part| rules(*part).0);
+    Ok(Some(Reach { change, whole, to }))
 }
 
-/// How far a text goes with each change of one lexeme at one with a number or before it, by so many at most, and with two interchanged there;
-/// of those changes with which it goes past the lexeme behind that one.
+/// How far a text goes with each change of one lexeme at one with a number or before it, by so many at most; of those changes with which it
+/// goes past the lexeme behind that one.
 pub fn reaches(
     alloc: Global,
     lexemes: &[Lexeme],
@@ -85,23 +65,18 @@ pub fn reaches(
     for back in 0..most.min(number).saturating_add(1) {
         let at = number.saturating_sub(back);
         let open = awaited_behind(alloc, lexemes.get(..at).unwrap_or(&[]))?;
-        let front = Front {
-            alloc,
-            open: &open,
-            lexemes,
-            past: number.saturating_add(1),
-        };
-        let (put, then) = (None, None);
-        let out = 1;
-        add_reach(&mut all, front, Change { at, out, put, then })?;
-        if let Some([one, other, ..]) = lexemes.get(at..) {
-            let (out, put, then) = (2, Some(other.what), Some(one.what));
-            add_reach(&mut all, front, Change { at, out, put, then })?;
-        }
+        let mut changes = Vec::new(alloc);
+        changes.push((1, None))?;
         for class in &CLASSES {
-            for out in [0, 1] {
-                let (put, then) = (Some(*class), None);
-                add_reach(&mut all, front, Change { at, out, put, then })?;
+            changes.push((0, Some(*class)))?;
+            changes.push((1, Some(*class)))?;
+        }
+        for change in &changes {
+            let (out, put) = *change;
+            if let Some(reach) = reach_of(alloc, &open, lexemes, Change { at, out, put })? {
+                if reach.whole || number.saturating_add(1) < reach.to {
+                    all.push(reach)?;
+                }
             }
         }
     }

@@ -1,11 +1,11 @@
-//! What is open behind lexemes, read once, and whether one more may stand there.
+//! What is open behind lexemes, read once, and which classes of lexemes may stand there.
 
 ghost use Rattle.std.specs.Prelude.{◌≡◌, [], ◌∷◌, List, ℕ, IfOk};
 ghost use Rattle.kahn_syntax.specs.{Texts.terminals, inner.Machine.ProgramPart};
+ghost use Rattle.kahn_wanted.specs.inner.Asked.{AreOf};
 ghost use Rattle.kahn_wanted.specs.inner.Walk.{MayPass, Passes, awaited_parts, walked};
 
-use crate::awaited::Awaited;
-use crate::grammar::rules;
+use crate::grammar::{Awaited, rules};
 use crate::leads::entered;
 use kahn_syntax::{Class, Lexeme};
 use std::alloc::{AllocError, Global};
@@ -49,4 +49,22 @@ pub(crate) fn may_pass(alloc: Global, stack: &[Awaited], class: Class) -> Result
     let mut copy = Vec::new(alloc);
     copy.extend_from_slice(stack)?;
     pass(&mut copy, class)
+}
+
+/// Those of some classes of which one may come behind lexemes.
+pub(crate) fn coming(
+    alloc: Global,
+    before: &[Lexeme],
+    some: &[Class],
+) -> Result<Vec<Class>, AllocError>
+    ensures { IfOk result (λ ws. (text : List ℕ) → AreOf (terminals text before.now) some.now ws.items) }
+{
+    let stack = awaited_behind(alloc, before)?;
+    let mut wanted = Vec::new(alloc);
+    for class in some {
+        if may_pass(alloc, &stack, *class)? {
+            wanted.push(*class)?;
+        }
+    }
+    Ok(wanted)
 }

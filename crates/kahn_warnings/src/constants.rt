@@ -1,20 +1,13 @@
 //! The operators on constants: what they make of the values that are known of their operands, their faults on these, and what is warned of.
 
 ghost use Rattle.std.specs.Prelude.{◌≡◌, ◌++◌, IfOk};
-ghost use Rattle.kahn_streams.specs.Arithmetic.{apply, number, truth};
+ghost use Rattle.kahn_streams.specs.Arithmetic.{apply, truth};
 ghost use Rattle.kahn_warnings.specs.{Constants.ConstantsHold, Constants.chosen, Constants.combined, Constants.divides, Constants.fault_kind, Constants.is_true, Constants.site_kind, Constants.sure_fault, Warnings.body_constants};
 
 use crate::sites::{SiteKind, sites_in};
 use crate::warning::{Warning, WarningKind, add_warning};
 use kahn_streams::{Failure, Operator, Statement, Value, Word};
 use std::alloc::{AllocError, Global};
-
-/// The number of a value, 0 for a logical one.
-pub(crate) fn number(value: Value) -> i64
-    ensures { result ≡ number value }
-{
-    Word::of(value).number()
-}
 
 /// The truth value of a value, false for an integer.
 pub(crate) fn truth(value: Value) -> bool
@@ -49,7 +42,6 @@ pub(crate) fn apply(operator: Operator, left: Value, right: Value) -> Result<Val
     }
 }
 
-/// The value of an operator on two operands.
 pub(crate) fn combined(
     operator: Operator,
     left: Option<Value>,
@@ -74,7 +66,6 @@ pub(crate) fn is_true(value: Option<Value>) -> bool
     matches!(value, Some(value) if truth(value))
 }
 
-/// Whether an operator divides.
 pub(crate) fn divides(operator: Operator) -> bool
     ensures { result ≡ divides operator }
 {
@@ -91,13 +82,14 @@ pub(crate) fn sure_fault(
 {
     match (left, right) {
         (_, None) => None,
-        (None, Some(value)) if divides(operator) && number(value) == 0 => Some(Failure::Division),
+        (None, Some(value)) if divides(operator) && Word::of(value).number() == 0 => {
+            Some(Failure::Division)
+        }
         (None, Some(_)) => None,
         (Some(left), Some(right)) => apply(operator, left, right).err(),
     }
 }
 
-/// What is warned of a fault.
 fn fault_kind(failure: Option<Failure>) -> Option<WarningKind>
     ensures { result ≡ fault_kind failure }
 {

@@ -56,8 +56,12 @@ fn is_alike(text: &str, statement: &Statement, next: Span, guarded: bool) -> boo
     }
 }
 
-/// Adds those of a list of statements that are indented as if they belonged to the one before.
+/// Adds those within a list of statements, and those of it that are indented as if they belonged to the one before.
+#[cycle(layout)]
 fn add_list(spans: &mut Vec<Span>, text: &str, statements: &[Statement]) -> Result<(), AllocError> {
+    for statement in statements {
+        add_within(spans, text, statement)?;
+    }
     for (before, next) in statements.iter().zip(statements.iter().skip(1)) {
         if let Some(span) = next.span {
             if is_alike(text, before, span, false) {
@@ -68,15 +72,10 @@ fn add_list(spans: &mut Vec<Span>, text: &str, statements: &[Statement]) -> Resu
     Ok(())
 }
 
-/// Adds those within a statement.
+#[cycle(layout)]
 fn add_within(spans: &mut Vec<Span>, text: &str, statement: &Statement) -> Result<(), AllocError> {
     match &statement.action {
-        Action::Block(statements) => {
-            for inner in statements {
-                add_within(spans, text, inner)?;
-            }
-            add_list(spans, text, statements)
-        }
+        Action::Block(statements) => add_list(spans, text, statements),
         Action::If(_, yes, Some(no)) => {
             add_within(spans, text, yes)?;
             add_within(spans, text, no)
@@ -96,9 +95,6 @@ pub(crate) fn misplaced(
     let mut spans = Vec::new(alloc);
     for declaration in &program.declarations {
         if let Declaration::Process(process) = declaration {
-            for statement in &process.statements {
-                add_within(&mut spans, text, statement)?;
-            }
             add_list(&mut spans, text, &process.statements)?;
         }
     }

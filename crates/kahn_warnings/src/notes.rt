@@ -9,7 +9,6 @@ use kahn_marks::{Note, Other, Sort, simple};
 use kahn_streams::{NoMemory, Program, Span};
 use std::alloc::{AllocError, Global};
 
-/// What is said of a warning.
 fn warning_words(kind: WarningKind) -> &'static str {
     match kind {
         WarningKind::LongComment =>
@@ -37,21 +36,16 @@ fn warning_words(kind: WarningKind) -> &'static str {
     }
 }
 
-/// The note on a warning.
 fn note_of(alloc: Global, warning: Warning) -> Result<Note, AllocError>
     ensures { IfOk result (λ note. note_place note ≡ warning_place warning) }
 {
     let words = warning_words(warning.kind);
     let mut note = simple(alloc, Sort::Warning, warning.span, words)?;
     if let WarningKind::LongComment = warning.kind {
-        let (to, words) = (
-            warning.span.to,
-            String::from_str(alloc, "comment ends here")?,
-        );
-        let span = Span {
-            from: to.saturating_sub(1),
-            to,
-        };
+        let to = warning.span.to;
+        let from = to.saturating_sub(1);
+        let span = Span { from, to };
+        let words = String::from_str(alloc, "comment ends here")?;
         note.others.push(Other { span, words })?;
     }
     Ok(note)

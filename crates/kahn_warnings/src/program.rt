@@ -32,7 +32,6 @@ fn comment_warnings(alloc: Global, text: &str) -> Result<Vec<Warning>, NoMemory>
     Ok(warnings)
 }
 
-/// Whether one of the instances is of a process.
 fn has_instance(instances: &[Instance], process: &Process) -> bool
     ensures { result ≡ list_any (is_of process.now) instances.now }
 {
@@ -59,12 +58,10 @@ fn name_kind(is_used: bool, is_assigned: bool, variable: Option<Kind>) -> Option
         (false, true, _) => Some(WarningKind::Unread),
         (true, false, Some(Kind::Integer)) => Some(WarningKind::StaysZero),
         (true, false, Some(Kind::Logical)) => Some(WarningKind::StaysFalse),
-        (true, false, None) => None,
-        (true, true, _) => None,
+        (true, false, None) | (true, true, _) => None,
     }
 }
 
-/// Adds the warning of a name of a process.
 fn add_name(
     warnings: &mut Vec<Warning>,
     names: &(NameSet, NameSet),
@@ -105,8 +102,7 @@ fn loop_kind(is_endless: bool, is_seen: bool) -> Option<WarningKind>
 {
     match (is_endless, is_seen) {
         (true, false) => Some(Idle),
-        (true, true) => None,
-        (false, _) => None,
+        (true, true) | (false, _) => None,
     }
 }
 
@@ -186,7 +182,6 @@ fn add_statement(
     }
 }
 
-/// Adds those of a body.
 fn add_body(
     warnings: &mut Vec<Warning>,
     alloc: Global,
@@ -205,7 +200,6 @@ fn add_body(
     Ok(())
 }
 
-/// Adds those of a declaration.
 fn add_declaration(
     warnings: &mut Vec<Warning>,
     alloc: Global,

@@ -6,7 +6,7 @@ ghost use Rattle.kahn_texts.specs.Formats.{IsInputTextFault};
 ghost use Rattle.kahn_why.specs.inner.Told.{IsAdmitted};
 ghost use Rattle.kahn_web.specs.{Alone.alone, Explained.IsReason, Explained.IsInputRefused, Explained.IsRunExplained};
 
-use crate::alone::answered;
+use crate::whole::answered;
 use kahn_fault::WorkFault;
 use kahn_streams::Answer;
 use kahn_texts::{TextFault, read_input};

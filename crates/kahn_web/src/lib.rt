@@ -4,13 +4,11 @@
 
 ghost use Rattle.kahn_web.specs.{Explained.IsReason, Page.IsPut, Page.IsPutIf, Page.IsRunInto, Picture.IsNetworkPicture, Whole.IsWholeText};
 
-mod alone;
 mod explaining;
 mod whole;
 
-use crate::alone::run_texts;
 use crate::explaining::reason;
-use crate::whole::kept;
+use crate::whole::{kept, run_texts};
 use kahn_fault::checked;
 use kahn_graph::picture_text;
 use std::alloc::Global;

@@ -1,16 +1,21 @@
-//! All channels of a run, for texts that are bytes: how many values each had, what they were, and how many were taken.
+//! The whole work by one thread, which needs no handle, for texts that are bytes; and of all channels of a run how many values each had, what
+//! they were, and how many were taken.
 
-ghost use Rattle.std.specs.Prelude.{◌≡◌, ◌<◌, IfOk, IfSome, Some, length, slice_get};
+ghost use Rattle.std.specs.Prelude.{◌≡◌, ◌<◌, IfOk, IfSome, Some, length, slice_get, MatchResult};
 ghost use Rattle.kahn_streams.specs.{Network.network_of, Written.Writes};
 ghost use Rattle.kahn_texts.specs.Formats.{HasItsLines};
-ghost use Rattle.kahn_web.specs.Whole.{IsWholeText, flow_text, history_text, whole_text};
+ghost use Rattle.kahn_web.specs.{Whole.IsWholeText, Whole.flow_text, Whole.history_text, Whole.whole_text, Alone.alone, Page.IsAnswerAlone, Page.IsSaidAlone};
+ghost use Rattle.kahn_fault.specs.Work.{IsTextAnswer, IsUnanswered};
 
 use itoa::Buffer;
-use kahn_fault::checked;
-use kahn_sequential::{Recorded, run_recorded};
-use kahn_streams::{Config, Line, Network};
-use kahn_texts::{WriteFault, channel_name, read_input, write_line, write_news, write_report};
+use kahn_fault::{Fault, WorkFault, checked, tell};
+use kahn_sequential::{Recorded, run_one, run_recorded};
+use kahn_streams::{Answer, Config, Line, Network, Verdict};
+use kahn_texts::{
+    ReadFault, WriteFault, channel_name, read_input, write_line, write_news, write_report,
+};
 use std::alloc::Global;
+use std::io::Write;
 
 /// Writes how many values a channel had, and how many of them were taken.
 fn put_count(
@@ -102,4 +107,64 @@ pub fn kept(
         Ok(text) => Some(text),
         Err(_) => None,
     }
+}
+
+pub(crate) fn answered(
+    alloc: Global,
+    network: &Network,
+    text: &str,
+    bound: u64,
+) -> Result<Answer, WorkFault>
+    ensures { MatchResult result (IsTextAnswer network.now text.now (alone bound)) (IsUnanswered network.now text.now (alone bound)) }
+{
+    let input = read_input(alloc, text, network)?;
+    match run_one(alloc, network, input, bound) {
+        Ok(answer) => Ok(answer),
+        Err(fault) => Err(WorkFault::Run(fault)),
+    }
+}
+
+/// Reads a program and an input, runs the program on the caller's thread, and writes the report of its answer.
+fn work_alone<W: Write>(
+    alloc: Global,
+    program: &str,
+    input: &str,
+    bound: u64,
+    writer: &mut W,
+) -> Result<Verdict, Fault>
+    ensures { IsAnswerAlone program.now input.now bound (W.contents writer.old) (W.contents writer.new) result }
+{
+    let network = match checked(alloc, program) {
+        Ok(network) => network,
+        Err(fault) => return Err(Fault::Work(fault)),
+    };
+    let answer = match answered(alloc, &network, input, bound) {
+        Ok(answer) => answer,
+        Err(fault) => return Err(Fault::Work(fault)),
+    };
+    match write_report(writer, &network, &answer) {
+        Ok(()) => Ok(answer.verdict),
+        Err(fault) => Err(Fault::Work(WorkFault::Write(fault))),
+    }
+}
+
+/// Runs a program on an input, both bytes. The writer gets the report, or the line of the fault. Returns the status.
+pub fn run_texts<W: Write>(
+    alloc: Global,
+    program: &[u8],
+    input: &[u8],
+    bound: u64,
+    writer: &mut W,
+) -> u8
+    ensures { IsSaidAlone program.now input.now bound (W.contents writer.old) (W.contents writer.new) result }
+{
+    let Ok(text) = std::str::from_utf8(program) else {
+        return tell(&Err(Fault::Program(None, ReadFault::NotUtf8)), "", writer).status;
+    };
+    let Ok(input) = std::str::from_utf8(input) else {
+        let fault = Fault::InputText(String::new(alloc), ReadFault::NotUtf8);
+        return tell(&Err(fault), text, writer).status;
+    };
+    let answer = work_alone(alloc, text, input, bound, writer);
+    tell(&answer, text, writer).status
 }

@@ -19,7 +19,7 @@ pub use Rattle.std.proofs.lemmas.Bool.{eqb-true}
 pub use Rattle.std.proofs.lemmas.List.{append-nil, take_all}
 pub use Rattle.std.proofs.lemmas.List.Elements.{All-from_recursion, All-more, All-weaker}
 pub use Rattle.std.specs.Prelude.{IfSome, MatchOption, option_map}
-pub use Rattle.kahn_chain.specs.declared.{standing.Cause.TheVariants.Input, standing.Cause.TheVariants.Ring, standing.Cause.TheVariants.Stopped, standing.Standing.Standing}
+pub use Rattle.kahn_chain.specs.declared.{reason.Cause.TheVariants.Input, reason.Cause.TheVariants.Ring, reason.Cause.TheVariants.Stopped, reason.Standing.Standing}
 pub use Rattle.kahn_fault.specs.declared.{work.WorkFault.WorkFault, work.WorkFault.TheVariants.Check, work.WorkFault.TheVariants.Run, work.WorkFault.TheVariants.Syntax, work.WorkFault.TheVariants.Text, work.WorkFault.TheVariants.Write}
 pub use Rattle.kahn_marks.specs.declared.{rendering.Note.Note}
 pub use Rattle.kahn_streams.specs.declared.{answer.Answer.Answer, answer.Verdict.Verdict, answer.Verdict.TheVariants.Bound, answer.Verdict.TheVariants.Finished, answer.Verdict.TheVariants.Memory, tree.Program.Program}

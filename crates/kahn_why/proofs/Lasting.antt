@@ -1,7 +1,7 @@
 -- What is told to be for ever is.
 use Rattle.kahn_why.proofs.Common.{◌≡◌, ℕ, Option, true, Schema, Inputs, IsRight, Answer, Verdict, Finished, Bound, Memory, is_final, is_stopped, lasts, Standing, Input, Stopped, Ring, IsEndedOrFaulted, IsFinal, LastForGood}
-use Rattle.kahn_chain.specs.declared.standing.Standing.TheVariants as S
-use Rattle.kahn_chain.specs.declared.standing.Cause.{Cause}
+use Rattle.kahn_chain.specs.declared.reason.Standing.TheVariants as S
+use Rattle.kahn_chain.specs.declared.reason.Cause.{Cause}
 use Rattle.kahn_why.proofs.Stands.{for_good}
 
 over : (s : Standing) → is_stopped s ≡ true → IsEndedOrFaulted s

@@ -4,7 +4,7 @@ use Rattle.std.specs.List.{list_any, slice_get}
 use Rattle.std.proofs.lemmas.{Bool.or_cases, Bool.or_left, Bool.or_right, List.Folds.list_any-append}
 use Rattle.std.proofs.lemmas.Option.{slice_get-map, get_or_from_slice_get}
 use Rattle.kahn_streams.specs.Solution as net
-use Rattle.kahn_chain.specs.declared.standing.Standing.TheVariants as S
+use Rattle.kahn_chain.specs.declared.reason.Standing.TheVariants as S
 use Rattle.kahn_streams.specs.{declared.answer.End.End, declared.answer.Outcome.Outcome, declared.answer.Outcome.TheVariants.Ended, declared.answer.Outcome.TheVariants.Waits, declared.answer.Outcome.TheVariants.Faulted, declared.answer.Outcome.TheVariants.More}
 use Rattle.kahn_why.proofs.Good.{stays_so}
 

@@ -2,8 +2,8 @@
 use Rattle.std.specs.Prelude.{◌≡◌, ◌==◌, ℕ, List, [], ◌++◌, Bool, codes, decimal, true, false, if◌then◌else◌, map, string_bytes}
 use Rattle.std.specs.List.{list_any}
 use Rattle.kahn_streams.specs.{Network.Schema, Network.network_of, Solution.Inputs, Solution.AreInputsExtended, Answers.HasEndAt, Answers.IsEnd, declared.answer.Answer.Answer, declared.answer.End.End, declared.answer.Outcome.Outcome, declared.answer.Verdict.Verdict, declared.tree.Program.Program}
-use Rattle.kahn_chain.specs.{Chain.IsCause, Chain.stands, declared.standing.Standing.Standing, declared.standing.Cause.Cause, declared.standing.Cause.TheVariants.Input, declared.standing.Cause.TheVariants.Stopped, declared.standing.Cause.TheVariants.Ring, Reasons.AreReasons, Reasons.IsReasonFor, declared.reason.Reason.Reason}
-use Rattle.kahn_chain.specs.declared.standing.Standing.TheVariants as S
+use Rattle.kahn_chain.specs.{Chain.IsCause, Chain.stands, declared.reason.Standing.Standing, declared.reason.Cause.Cause, declared.reason.Cause.TheVariants.Input, declared.reason.Cause.TheVariants.Stopped, declared.reason.Cause.TheVariants.Ring, Reasons.AreReasons, Reasons.IsReasonFor, declared.reason.Reason.Reason}
+use Rattle.kahn_chain.specs.declared.reason.Standing.TheVariants as S
 use Rattle.kahn_streams.specs.declared.answer.Outcome.TheVariants as outcome
 use Rattle.kahn_streams.specs.declared.answer.Verdict.TheVariants as verdict
 use Rattle.kahn_texts.specs.Formats.{last_text}

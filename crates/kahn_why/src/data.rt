@@ -34,7 +34,6 @@ fn add_string(json: &mut String, before: &str, text: &str) -> Result<(), AllocEr
     json.push_str("\"")
 }
 
-/// Adds a member that is a number.
 fn add_number(json: &mut String, name: &str, number: usize) -> Result<(), AllocError> {
     let mut digits = Buffer::new();
     add(json, &[name, digits.format(number)])

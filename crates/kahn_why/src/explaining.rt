@@ -62,7 +62,6 @@ fn refuse<W: Write>(
     }
 }
 
-/// Whether it is asked to be strict, and there are notes.
 fn is_strict_about(strict: bool, notes: &str) -> bool
     ensures { IsStrictAbout strict notes.now result }
 {

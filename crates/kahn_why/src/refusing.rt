@@ -26,7 +26,6 @@ fn refused_words(alloc: Global, program: &str, fault: SyntaxFault) -> Result<Str
     Ok(words)
 }
 
-/// A note with the words of a fault, where that has a place.
 fn placed_note(alloc: Global, program: &str, fault: SyntaxFault) -> Result<Option<Note>, NoMemory>
     ensures { IfOk result (IsPlacedNote program.now fault) }
 {
@@ -50,7 +49,6 @@ fn expected_of(fault: SyntaxFault) -> Option<(Span, What)>
     }
 }
 
-/// The note on a fault of the text, where it has a place.
 pub(crate) fn syntax_note(
     alloc: Global,
     program: &str,
@@ -68,7 +66,6 @@ pub(crate) fn syntax_note(
     }
 }
 
-/// A note in lines, where there is one.
 pub(crate) fn rendered(
     alloc: Global,
     path: &str,
@@ -83,7 +80,6 @@ pub(crate) fn rendered(
     }
 }
 
-/// The same in lines.
 fn syntax_refusal(
     alloc: Global,
     path: &str,
@@ -169,9 +165,7 @@ pub(crate) fn warned_lines(
     }
     let (told, more) = first_ones(&notes, MOST_NOTES);
     let mut lines = note_lines(alloc, path, text, told, "", &[], &[])?;
-    let mut unsaid = String::new(alloc);
-    add_more(&mut unsaid, "", "warning", more.len())?;
-    lines.push_str(unsaid.as_str())?;
+    add_more(&mut lines, "", "warning", more.len())?;
     Ok(lines)
 }
 
@@ -201,9 +195,7 @@ fn network_note(
     let told = fault_notes(alloc, program, &tree, &faults)?;
     let (notes, between) = (&told.notes, "\n");
     let mut lines = note_lines(alloc, path, program, notes, between, &comments, &faults)?;
-    let mut unsaid = String::new(alloc);
-    add_more(&mut unsaid, between, "fault", told.more)?;
-    lines.push_str(unsaid.as_str())?;
+    add_more(&mut lines, between, "fault", told.more)?;
     Ok(Some(lines))
 }
 

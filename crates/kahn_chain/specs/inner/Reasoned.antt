@@ -2,7 +2,7 @@
 use Rattle.std.specs.Prelude.{◌≡◌, ℕ, List, [], ◌∷◌, ◌++◌, All, Bool, drop, map}
 use Rattle.kahn_streams.specs.{Network.Schema, declared.answer.End.End, declared.answer.Outcome.Outcome, declared.answer.Verdict.Verdict}
 use Rattle.kahn_streams.specs.declared.answer.Outcome.TheVariants as outcome
-use Rattle.kahn_chain.specs.{Reasons.IsReasonFor, Reasons.lasts, Reasons.not_ended, Reasons.told_instance, declared.standing.Cause.Cause, declared.reason.Reason.Reason}
+use Rattle.kahn_chain.specs.{Reasons.IsReasonFor, Reasons.lasts, Reasons.not_ended, Reasons.told_instance, declared.reason.Cause.Cause, declared.reason.Reason.Reason}
 
 -- the reason of instance p, where it hasn't ended
 abbrev pub told_at : Verdict → ℕ → End → Cause → Bool → Outcome → List Reason

@@ -1,7 +1,7 @@
 -- Inner. A walk along the waits of an instance.
 use Rattle.std.specs.Prelude.{◌≡◌, ℕ, ◌<◌, ◌≤◌, List, Bool, true, false, length}
 use Rattle.kahn_streams.specs.Network.{Schema}
-use Rattle.kahn_chain.specs.{Chain.Awaits, Chain.Leads, Chain.LeadsOn, Chain.IsCause, declared.standing.Standing.Standing, declared.standing.Cause.Cause, declared.standing.Cause.TheVariants.Input, declared.standing.Cause.TheVariants.Stopped, declared.standing.Cause.TheVariants.Ring, declared.walk.WalkStep.WalkStep, declared.walk.WalkStep.TheVariants.On, declared.walk.WalkStep.TheVariants.Stop, declared.walk.Walked.Walked}
+use Rattle.kahn_chain.specs.{Chain.Awaits, Chain.Leads, Chain.LeadsOn, Chain.IsCause, declared.reason.Standing.Standing, declared.reason.Cause.Cause, declared.reason.Cause.TheVariants.Input, declared.reason.Cause.TheVariants.Stopped, declared.reason.Cause.TheVariants.Ring, declared.walk.WalkStep.WalkStep, declared.walk.WalkStep.TheVariants.On, declared.walk.WalkStep.TheVariants.Stop, declared.walk.Walked.Walked}
 
 -- the cause is at instance z itself
 abbrev pub IsHere : Schema → List Standing → ℕ → Cause → Type 0

@@ -1,9 +1,7 @@
 -- Inner. The first fault of each part, as the walk finds them.
 use Rattle.std.specs.Prelude.{◌≡◌, ℕ, List, [], ◌∷◌, ◌++◌, Option, None, Some, map}
-use Rattle.std.proofs.Common.{bytes_eq}
-use Rattle.std.specs.Map.{lookup}
-use Rattle.kahn_streams.specs.{declared.tree.Declaration.Declaration, declared.tree.Instance.Instance, declared.tree.Kind.Kind, declared.tree.Name.Name, declared.tree.Role.Role, declared.tree.Process.Process, declared.tree.Program.Program, View.bytes_of, Wires.lines_of, Wires.process_at, Wires.shown, Wiring.Global, Wiring.IsChannel, Wiring.IsProcess, Wiring.declared_of, Wiring.entries, declared.fault.CheckFault.CheckFault, Faults.repeated}
-use Rattle.kahn_check.specs.{Parts.faults_by_part, Parts.first_alone, Parts.firsts, Parts.name_parts, Parts.no_room, declared.globals.Globals.Globals, declared.part.CheckWalk.CheckWalk, inner.Globals.ArePlaced, inner.Tables.meant}
+use Rattle.kahn_streams.specs.{declared.tree.Declaration.Declaration, declared.tree.Instance.Instance, declared.tree.Process.Process, declared.tree.Program.Program, Wires.lines_of, Wires.process_at, Wires.shown, Wiring.Global, Wiring.IsChannel, Wiring.IsProcess, Wiring.declared_of, Wiring.entries, declared.fault.CheckFault.CheckFault}
+use Rattle.kahn_check.specs.{Parts.faults_by_part, Parts.first_alone, Parts.firsts, Parts.name_parts, declared.names.Entry.Entry, declared.part.CheckWalk.CheckWalk, inner.Globals.ArePlaced, inner.Tables.meant}
 
 abbrev pub first_fault : List CheckFault → Option CheckFault
 first_fault [] = None
@@ -22,25 +20,7 @@ first_then (Some f) fs = Some f
 abbrev pub HasAddedFirst : List CheckFault → List CheckFault → List CheckFault → Type 0
 HasAddedFirst p before after = after ≡ before ++ first_alone p
 
--- that of each part comes after those before
-abbrev pub HasAdded : List (List CheckFault) → List CheckFault → List CheckFault → Type 0
-HasAdded ps before after = after ≡ before ++ firsts ps
-
--- of a name that is declared for a channel, where so many more may be declared
-abbrev pub name_faults : List (List ℕ × Global) → ℕ → Name → List CheckFault
-name_faults g room x = no_room room x.span ++ repeated (lookup (bytes_eq (bytes_of x)) g) x.span
-
--- the table and the list of faults, where so many channels more may be declared, come out with the names that are left as those with 0 do with all
-pub record AreNamesTold (left : List (Name × Global)) (g : List (List ℕ × Global)) (room : ℕ) (fs : List CheckFault)
-    (all : List (Name × Global)) (g0 : List (List ℕ × Global)) (room0 : ℕ) (fs0 : List CheckFault) : Type 0 where
-  pub table : (rest : List (Name × Global)) → g ++ entries (left ++ rest) ≡ g0 ++ entries (all ++ rest)
-  pub told : (rest : List (Name × Global)) → fs ++ firsts (name_parts g room (left ++ rest)) ≡ fs0 ++ firsts (name_parts g0 room0 (all ++ rest))
-
--- the same of the names of one declaration
-abbrev pub HaveNamesTold : Kind → Role → List Name → List (List ℕ × Global) → ℕ → List CheckFault → List (List ℕ × Global) → ℕ → List CheckFault → Type 0
-HaveNamesTold kind role xs g0 room0 fs0 g room fs = AreNamesTold [] g room fs (map (λ x. (x, IsChannel kind role)) xs) g0 room0 fs0
-
--- and of one declaration, whatever follows
+-- the table and the list of faults, where so many channels more may be declared, come out with what follows as those with 0 do with one declaration more
 pub record HasTold (d : Declaration) (g0 : List (List ℕ × Global)) (room0 : ℕ) (fs0 : List CheckFault) (g : List (List ℕ × Global)) (room : ℕ) (fs : List CheckFault) : Type 0 where
   pub table : (rest : List Declaration) → g ++ entries (declared_of rest) ≡ g0 ++ entries (declared_of (d ∷ rest))
   pub told : (rest : List Declaration) → fs ++ firsts (name_parts g room (declared_of rest)) ≡ fs0 ++ firsts (name_parts g0 room0 (declared_of (d ∷ rest)))
@@ -57,7 +37,7 @@ made_all g [] = []
 made_all g (x ∷ xs) = made_of (meant g x) ++ made_all g xs
 
 -- where these processes are declared comes after those before
-abbrev pub HaveNumbers : Globals → List (Option Process) → List ℕ → List ℕ → Type 0
+abbrev pub HaveNumbers : List (List ℕ × Entry) → List (Option Process) → List ℕ → List ℕ → Type 0
 HaveNumbers g made before after = (ds : List Declaration) → ArePlaced ds g → map (process_at ds) after ≡ map (process_at ds) before ++ made
 
 -- ---- the whole walk

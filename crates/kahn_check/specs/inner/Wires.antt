@@ -16,12 +16,7 @@ line_in w r c = ((bytes_of c.0, c.1), (lookup (bytes_eq (bytes_of c.0)) w, looku
 abbrev pub lines_in : Ends → Ends → List (Name × (Kind × Role)) → List Line
 lines_in w r cs = map (line_in w r) cs
 
--- the wires and the faults of sides come out with the channels that are left as those with 0 do with all
-pub record AreWired (w r : Ends) (left : List (Name × (Kind × Role))) (ws : List Wire) (fs : List CheckFault) (all : List (Name × (Kind × Role))) (ws0 : List Wire) (fs0 : List CheckFault) : Type 0 where
-  pub lines : (rest : List (Name × (Kind × Role))) → map shown ws ++ lines_in w r (left ++ rest) ≡ map shown ws0 ++ lines_in w r (all ++ rest)
-  pub sides : (rest : List (Name × (Kind × Role))) → fs ++ firsts (sides_parts w r (left ++ rest)) ≡ fs0 ++ firsts (sides_parts w r (all ++ rest))
-
--- the same of one declaration, whatever follows
+-- the wires and the faults of sides come out with what follows as those with 0 do with one declaration more
 pub record HasWired (w r : Ends) (d : Declaration) (ws : List Wire) (fs : List CheckFault) (ws0 : List Wire) (fs0 : List CheckFault) : Type 0 where
   pub lines : (rest : List Declaration) → map shown ws ++ lines_in w r (declared_channels rest) ≡ map shown ws0 ++ lines_in w r (declared_channels (d ∷ rest))
   pub sides : (rest : List Declaration) → fs ++ firsts (sides_parts w r (declared_channels rest)) ≡ fs0 ++ firsts (sides_parts w r (declared_channels (d ∷ rest)))

@@ -1,6 +1,6 @@
 -- Inner. Who works on a run, and for how long.
 use Rattle.std.specs.Prelude.{◌≡◌, ℕ, ◌<◌, ◌≤◌, Option}
-use Rattle.kahn_crew.specs.declared.crewing.Crewing.{Crewing}
+use Rattle.kahn_crew.specs.declared.crew.Crewing.{Crewing}
 use Rattle.kahn_streams.specs.declared.{config.Config.Config, plan.Plan.Plan}
 
 -- as the configuration has it, with the number of the channel that is watched

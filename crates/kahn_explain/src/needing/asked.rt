@@ -50,7 +50,6 @@ fn place_given(word: Option<&str>) -> Option<Option<u64>>
     }
 }
 
-/// The line that a word names.
 fn line_named(network: &Network, word: &str) -> Option<Line>
     ensures { MatchOption result ((c : Line) → IsLineNamed network.now word.now c → ⊥) (IsLineNamed network.now word.now) }
 {
@@ -64,7 +63,6 @@ fn line_named(network: &Network, word: &str) -> Option<Line>
     }
 }
 
-/// Whether a line is an input.
 pub(crate) fn is_given(network: &Network, line: Line) -> bool
     requires { IsNetworkLine (network_of network.now) line }
     ensures { result ≡ true ↔ source (network_of network.now) line ≡ Given }

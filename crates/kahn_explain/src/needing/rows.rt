@@ -14,7 +14,6 @@ use kahn_needs::{Found, Seeker};
 use kahn_streams::{Input, Line, Network, Verdict};
 use std::alloc::Global;
 
-/// The row that heads the columns.
 fn needs_head(alloc: Global, network: &Network) -> TableText {
     let mut text = String::from_str(alloc, "place,value")?;
     for channel in 0..network.channels() {
@@ -54,7 +53,6 @@ fn add_rows(alloc: Global, text: &mut String, seeker: &mut Seeker<'_>) -> Result
     Ok(Found::Bound)
 }
 
-/// The table of a line, and how its search ended.
 pub(crate) fn table_of(
     alloc: Global,
     network: &Network,

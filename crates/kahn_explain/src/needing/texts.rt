@@ -39,7 +39,6 @@ fn add_count(
     Ok(())
 }
 
-/// Adds a value and what it needs.
 fn add_needs(
     alloc: Global,
     text: &mut String,

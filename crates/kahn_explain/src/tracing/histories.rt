@@ -27,7 +27,6 @@ pub(crate) fn recorded(
     }
 }
 
-/// The stream of a line of which an answer has one.
 fn streamed(answer: &Answer, line: Line) -> &Stream
     requires { HasLine answer.now line }
     ensures { HasStream answer.now result.now × (result.now.line ≡ line) }
@@ -62,7 +61,6 @@ fn history<'r>(network: &Network, run: &'r Recorded, channel: usize) -> &'r Stre
     }
 }
 
-/// Adds a stream, where that is one of prints.
 fn add_print<'r>(columns: &mut Vec<&'r Stream>, stream: &'r Stream) -> Result<(), AllocError>
     ensures { IfOk result (λ _. map (λ s. s.now) columns.new.items ≡ map (λ s. s.now) columns.old.items ++ print_part stream.now) }
 {

@@ -10,7 +10,6 @@ use std::alloc::{AllocError, Global};
 /// The text of a table.
 pub(crate) type TableText = Result<String, AllocError>;
 
-/// Adds numbers, each behind a comma.
 pub(crate) fn add_numbers(text: &mut String, numbers: &[u64]) -> Result<(), AllocError> {
     for number in numbers {
         let mut digits = Buffer::new();
@@ -31,7 +30,6 @@ pub(crate) fn add_line(text: &mut String, network: &Network, line: Line) -> Resu
     }
 }
 
-/// Adds a value as it is printed.
 pub(crate) fn add_value(text: &mut String, value: Value) -> Result<(), AllocError> {
     let mut buffer = Buffer::new();
     match value {

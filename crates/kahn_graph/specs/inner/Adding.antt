@@ -1,7 +1,7 @@
 -- Inner. Texts that grow by the texts of items.
 use Rattle.std.specs.Prelude.{◌≡◌, ℕ, Bool, true, false, ◌==◌, List, ◌∷◌, ◌++◌, Some, slice_get}
 use Rattle.kahn_streams.specs.{declared.tree.Argument.Argument, declared.tree.Instance.Instance, declared.tree.Parameter.Parameter, declared.tree.Program.Program, Network.Schema}
-use Rattle.kahn_chain.specs.{declared.standing.Standing.Standing, declared.standing.Standing.TheVariants.Waits, Chain.LeadsOn}
+use Rattle.kahn_chain.specs.{declared.reason.Standing.Standing, declared.reason.Standing.TheVariants.Waits, Chain.LeadsOn}
 use Rattle.kahn_graph.specs.Graph.{tip_text, values_text}
 
 -- behind the old text stands one of these

@@ -1,6 +1,6 @@
 -- Inner. Jobs on which nobody works, and jobs before their first event.
 use Rattle.std.specs.Prelude.{◌≡◌, ◌≤◌, ◌^◌}
-use Rattle.kahn_job.specs.inner.Words.{ℕ, Tapped, true, false, List, [], length, map, replicate, Option, None, Some, slice_get, slice_set, slice_index_or, Program, Side, Inner, Input, Output, Actual, Hands, Reads, Waiting, Writes, given_of, taken_of, network_of, instance_at, actual_at, role_at, AreInputsExtended, Lists, inputs_of, is_output, lane_name, CellView, IsAt, IsOpening}
+use Rattle.kahn_job.specs.inner.Words.{ℕ, Tapped, false, List, [], length, map, replicate, Option, None, Some, slice_get, slice_set, slice_index_or, Program, Side, Inner, Input, Output, Actual, Hands, Reads, Waiting, Writes, given_of, taken_of, network_of, instance_at, actual_at, role_at, AreInputsExtended, Lists, inputs_of, is_output, CellView, IsAt, IsOpening}
 use Rattle.kahn_job.specs.{inner.Ends.TaskEnd, inner.Ends.IsFlushed, inner.Ends.ShareLane, inner.Berths.AreServed, inner.Berths.AreJoinedOn, inner.Berths.HaveStayed, inner.Berths.Serves, inner.Berths.end_at, inner.Berths.end_in, inner.Settling.AreResting, inner.Ways.no_end, inner.Works.IsSamePlace, inner.Works.Work, inner.Works.IsJob, inner.Works.grown_work}
 
 abbrev pub rows_of : List Work → List (List TaskEnd)

@@ -1,7 +1,7 @@
 -- Inner. The words of the crates below that clauses and definitions of this crate use, passed on from one place.
 pub use Rattle.kahn_code.specs.{Progress.Paused, Standing.count}
 pub use Rattle.kahn_code.specs.Progress.{CellView, told_view}
-pub use Rattle.kahn_crew.specs.{declared.opening.Left.Left, declared.opening.CrewFault.CrewFault, declared.opening.CrewFault.TheVariants.NoMemory, declared.crewing.Crewing.Crewing, inner.Tasks.handed_to_task}
+pub use Rattle.kahn_crew.specs.{declared.opening.Left.Left, declared.opening.CrewFault.CrewFault, declared.opening.CrewFault.TheVariants.NoMemory, declared.crew.Crewing.Crewing, inner.Tasks.handed_to_task}
 pub use Rattle.kahn_streams.specs.declared.plan.Plan.{Plan}
 pub use Rattle.kahn_crew.specs.inner.Planned.{IsAsConfigured, IsCrew, plan_of_crew}
 pub use Rattle.kahn_crew.specs.inner.Left.{AreAll, HaveGone, IsLack, IsOver}

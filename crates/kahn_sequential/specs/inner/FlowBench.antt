@@ -2,9 +2,7 @@
 use Rattle.std.specs.Prelude.{◌≡◌, ℕ, ◌+◌, ◌-◌, ◌<◌, ◌≤◌, ◌^◌, Bool, List, ◌++◌, length, map, sum_by, take, Option, Some, slice_index_or}
 use Rattle.kahn_sequential.specs.inner.Below.{End, Input, Line, Plan, Program, Source, Token, Value, Verdict, inputs_of, network_of, nothing_gone, role_at, source, stream_lines, token_value}
 use Rattle.kahn_sequential.specs.HeldRuns.{HeldRun, seen_events, seen_of, values_by}
-use Rattle.kahn_sequential.specs.{Flows.Flowing, declared.rounds.PartEnd.PartEnd, declared.woken.Woken.Woken, inner.Noted.AreNoted, inner.Noted.AreSpent, inner.Numbers.HoldNumbers, inner.Bench.IsConcluded, inner.Bench.LacksMemory, inner.Workbench.Table, inner.Workbench.sight_of}
-use Rattle.std.specs.declared.alloc.Global.{Global}
-use Rattle.std.specs.declared.vec.Vec.{Vec}
+use Rattle.kahn_sequential.specs.{Flows.Flowing, declared.numbers.NumberRange.NumberRange, declared.rounds.PartEnd.PartEnd, declared.woken.Woken.Woken, inner.Noted.AreNoted, inner.Noted.AreSpent, inner.Numbers.HoldNumbers, inner.Bench.IsConcluded, inner.Bench.LacksMemory, inner.Workbench.Table, inner.Workbench.sight_of}
 use Rattle.kahn_sequential.specs.inner.Parts.{AreEnded, run_with}
 
 -- what contracts see of the run of a bench: all that its taps ever kept
@@ -32,7 +30,7 @@ AreLent b ts =
 
 -- all that the type keeps of this network by this plan: so much is left of the bound, there is room for so many ends, and where there
 -- is a verdict, it and the ends are those of the last part. That each tap stands where it says is told by the tap
-pub record IsFlowOf (t : Program) (plan : Plan) (b : Table) (budget room : ℕ) (ends : List End) (woken turned : Woken) (numbers : List (Vec ℕ Global)) (verdict : Option Verdict) (ts : List Token) : Type 0 where
+pub record IsFlowOf (t : Program) (plan : Plan) (b : Table) (budget room : ℕ) (ends : List End) (woken turned : Woken) (numbers : List NumberRange) (verdict : Option Verdict) (ts : List Token) : Type 0 where
   pub network : b.network ≡ t
   pub watch : b.watch ≡ plan.watch
   pub some : 0 < plan.quantum

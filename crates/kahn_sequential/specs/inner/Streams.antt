@@ -64,11 +64,7 @@ pub record IsBegun (N : Schema) (I : Inputs) (c : ℕ) (vs : List Value) (ts : L
   pub places : (k : ℕ) (t : Token) → slice_get ts k ≡ Some t → (t.line ≡ Channel c) × (t.place ≡ k)
   pub own : (k : ℕ) (t : Token) → slice_get ts k ≡ Some t → IsOwn N I t
 
--- where a channel is watched these tokens begin its list
-abbrev pub AreGiven : Schema → Inputs → Option ℕ → List Token → Type 0
-AreGiven N I watch ts = (c : ℕ) → watch ≡ Some c → IsBegun N I c (I c) ts
-
--- and where it is an input channel they are all of it
+-- where an input channel is watched these tokens are its list
 abbrev pub AreAllGiven : Schema → Inputs → Option ℕ → List Token → Type 0
 AreAllGiven N I watch ts = (c : ℕ) → watch ≡ Some c → role_at N c ≡ Input → map token_value ts ≡ I c
 

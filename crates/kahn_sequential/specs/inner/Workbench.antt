@@ -1,7 +1,7 @@
 -- Inner. The cells of a network over its plain queues, as a run on one thread has them.
 use Rattle.std.specs.Prelude.{◌≡◌, ◌⊎◌, ℕ, ◌+◌, ◌<◌, ◌≤◌, ◌^◌, ◌==◌, true, cond, min, vec_capacity, List, [], ◌++◌, length, map, replicate, Option, Some, slice_get, slice_index_or, if◌then◌else◌}
 use Rattle.kahn_sequential.specs.inner.Below.{Answer, End, Gone, IsAt, IsCutShort, IsOpening, IsRight, IsWellWired, Kept, Lists, More, Pause, Program, Queues, StoodBy, Stream, Tapped, Token, CellView, inputs_of, instance_at, kept_behind, most_values, network_of, nothing_gone, place_at, stream_line, stream_lines, tokens, told_view, waiting_of}
-use Rattle.kahn_sequential.specs.inner.Bench.{AreEnds, HasEndIn, HasRunCell, IsLast, LacksMemory, RunState, all_events, events_at}
+use Rattle.kahn_sequential.specs.inner.Bench.{AreEnds, HasEndIn, HasRunCell, LacksMemory, RunState, all_events, events_at}
 use Rattle.kahn_code.specs.declared.progress.Pause.TheVariants as pause
 use Rattle.kahn_sequential.specs.{HeldRuns.seen_at, HeldRuns.seen_of, declared.rounds.Round.Round, inner.Streams.IsOpenStream, inner.Streams.kept_lists, inner.Streams.printed_list}
 
@@ -108,11 +108,6 @@ pub record IsInRound (b : Table) (old : Round) (d : Table) (new : Round) (k : �
   pub advanced : HasAdvanced b d old new
   pub size : length new.ends.items ≡ k
   pub still : weight new ≡ weight old → AreEnds (sight_of d) new.left new.memory new.ends.items
-
--- rounds came to an end, with the last one in which nothing was done
-pub record HasComeToRest (b d : Table) (old new : Round) : Type 0 where
-  pub advanced : HasAdvanced b d old new
-  pub last : IsLast (sight_of d) (all_events (sight_of b) + old.left) new.left new.memory new.ends.items
 
 -- rounds for so many events were left, and it may go on with what is left of those
 pub record MayGoOn (b d : Table) (bound : ℕ) (r : Round) : Type 0 where

@@ -64,7 +64,6 @@ fn bytes_end(text: &[u8], from: usize, word: bool) -> usize
     at
 }
 
-/// Returns the sign of these two bytes.
 fn sign_of_two(first: u8, second: u8) -> Option<Sign>
     ensures some { IfSome result (λ s. bytes_of_sign s ≡ first ∷ second ∷ []) }
     ensures none { IfNone result ((s : Sign) → ¬ (bytes_of_sign s ≡ first ∷ second ∷ [])) }
@@ -79,7 +78,6 @@ fn sign_of_two(first: u8, second: u8) -> Option<Sign>
     }
 }
 
-/// Returns the sign of this byte.
 fn sign_of_one(byte: u8) -> Option<Sign>
     ensures some { IfSome result (λ s. bytes_of_sign s ≡ byte ∷ []) }
     ensures none { IfNone result ((s : Sign) → ¬ (bytes_of_sign s ≡ byte ∷ [])) }

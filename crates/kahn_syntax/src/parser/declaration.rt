@@ -15,7 +15,6 @@ use kahn_streams::{
 };
 use std::alloc::Global;
 
-// Reads the kind that comes first.
 fn next_kind(input: &[Lexeme]) -> Option<(Kind, &[Lexeme])>
     ensures first { IfSome result (λ r. (text : List ℕ) → terminals text input.now ≡ kind_terminal r.0 ∷ terminals text r.1.now) }
     ensures passed { IfSome result (λ r. IsPast input.now r.1.now) }
@@ -63,7 +62,6 @@ fn begins_declaration(input: &[Lexeme]) -> bool
     )
 }
 
-// Reads a declaration.
 fn read_declaration<'t>(alloc: Global, text: &str, input: &'t [Lexeme]) -> Read<'t, Declaration>
     requires proper { AreProper text.now input.now }
     ensures { ParsesPart result text.now (DeclarationPart ∷ []) (λ r xs l. IsShallow (declaration_tree r.0) × DeclarationSpans text.now r.0 xs l) input.now (λ r. r.1.now) }
@@ -96,7 +94,6 @@ fn read_role(input: &[Lexeme]) -> (Role, &[Lexeme])
     }
 }
 
-// Reads a process with its body.
 fn read_process<'t>(alloc: Global, text: &str, input: &'t [Lexeme]) -> Read<'t, Process>
     requires proper { AreProper text.now input.now }
     ensures { ParsesPart result text.now (ProcessPart ∷ []) (λ r xs l. IsShallow (process_tree r.0) × ProcessSpans text.now r.0 xs l) input.now (λ r. r.1.now) }
@@ -156,7 +153,6 @@ struct Group {
     names: Vec<Name>,
 }
 
-// Reads a group of parameters.
 fn read_group<'t>(alloc: Global, text: &str, input: &'t [Lexeme]) -> Read<'t, Group>
     requires proper { AreProper text.now input.now }
     ensures { ParsesPart result text.now (GroupPart ∷ []) (λ r. ParameterGroup (lexemes text.now) (group r.0.taking r.0.names.items)) input.now (λ r. r.1.now) }
@@ -183,7 +179,6 @@ fn read_taking(kind: Kind, input: &[Lexeme]) -> (Taking, &[Lexeme])
     }
 }
 
-// Adds parameters of these names.
 fn add_parameters(
     parameters: &mut Vec<Parameter>,
     taking: Taking,
@@ -214,7 +209,6 @@ fn read_variables<'t>(alloc: Global, text: &str, input: &'t [Lexeme]) -> Read<'t
     Ok((variables, rest))
 }
 
-// Adds variables of these names.
 fn add_variables(variables: &mut Vec<Variable>, kind: Kind, names: Vec<Name>) -> Result<(), Stop>
     ensures items { IfOk result (λ _. variables.new.items ≡ variables.old.items ++ map (variable_with kind) names.items) }
     ensures stop { IfErr result (λ e. e ≡ NoMemory) }

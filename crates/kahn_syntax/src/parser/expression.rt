@@ -83,7 +83,6 @@ fn read_level<'t>(
     made(alloc, input, rest, Form::Level(first, further))
 }
 
-// Reads an operand of this level.
 #[cycle(expression)]
 fn read_operand<'t>(
     alloc: Global,

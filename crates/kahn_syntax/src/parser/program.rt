@@ -40,7 +40,6 @@ pub fn one_tree()
     ensures { (t u : ProgramTree) (ks : List Terminal) → Spells t ks → Spells u ks → t ≡ u }
 {}
 
-// The fault of these lexemes where reading stopped.
 fn fault_of(text: &str, lexemes: &[Lexeme], stop: Stop) -> SyntaxFault
     requires halts { Halts (terminals text.now lexemes.now) stop }
     ensures found { (t : ProgramTree) → Spells t (terminals text.now lexemes.now) → nesting t ≤ 64 → result ≡ SyntaxFault.NoMemory }
@@ -62,7 +61,6 @@ fn fault_of(text: &str, lexemes: &[Lexeme], stop: Stop) -> SyntaxFault
     }
 }
 
-// Reads a whole program.
 fn read_program(alloc: Global, text: &str, lexemes: &[Lexeme]) -> Result<Program, Stop>
     requires proper { AreProper text.now lexemes.now }
     ensures read { IfOk result (λ p. (nesting (program_tree p) ≤ 64) × ProgramSpans text.now p lexemes.now) }
@@ -113,7 +111,6 @@ fn read_instances<'t>(alloc: Global, text: &str, input: &'t [Lexeme]) -> Read<'t
     }
 }
 
-// Reads an instance.
 fn read_instance<'t>(alloc: Global, text: &str, input: &'t [Lexeme]) -> Read<'t, Instance>
     requires proper { AreProper text.now input.now }
     ensures { ParsesPart result text.now (InstancePart ∷ []) (λ r. InstanceSpans text.now r.0) input.now (λ r. r.1.now) }
@@ -145,7 +142,6 @@ fn read_arguments<'t>(alloc: Global, text: &str, input: &'t [Lexeme]) -> Read<'t
     }
 }
 
-// Reads an argument.
 fn read_argument<'t>(alloc: Global, text: &str, input: &'t [Lexeme]) -> Read<'t, Argument>
     requires proper { AreProper text.now input.now }
     ensures { ParsesPart result text.now (ArgumentPart ∷ []) (λ r. ArgumentSpans text.now r.0) input.now (λ r. r.1.now) }

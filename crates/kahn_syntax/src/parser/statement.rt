@@ -37,7 +37,6 @@ pub fn read_statements<'t>(
     }
 }
 
-// Reads a statement.
 #[cycle(statement)]
 fn read_statement<'t>(
     alloc: Global,
@@ -130,7 +129,6 @@ fn read_simple<'t>(
     }
 }
 
-// Reads an assignment.
 fn read_assign<'t>(
     alloc: Global,
     text: &str,

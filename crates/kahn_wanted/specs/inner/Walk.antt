@@ -4,9 +4,9 @@ use Rattle.std.specs.Borrow.{Bor}
 use Rattle.kahn_syntax.specs.{declared.lexeme.Class.Class, Grammar.Terminal, Grammar.word, Grammar.numeral, Grammar.name, Texts.sign_terminal}
 use Rattle.kahn_syntax.specs.declared.lexeme.Class.TheVariants as class
 use Rattle.kahn_syntax.specs.inner.Machine.{RuleToken, a_word, either, a_sign, a_number, a_name, an_operator, Rule, step, whole, ors, ands, denials, relations, sums, terms, factors, Part, ProgramPart, DeclarationsPart, RolePart, GroupsPart, GroupPart, TakingPart, VariablesPart, StatementPart, SimplePart, InstancePart, ArgumentsPart, ArgumentPart, ExpressionPart, OperatorsPart, NamesTail, StatementsTail, GroupsTail, ArgumentsTail, InstancesTail, ElseTail, LastTail, TokenPart, LevelPart}
-use Rattle.kahn_wanted.specs.declared.awaited.{Awaited.Awaited, Lead.Lead}
-use Rattle.kahn_wanted.specs.declared.awaited.Awaited.TheVariants as awaited
-use Rattle.kahn_wanted.specs.declared.awaited.Lead.TheVariants as lead
+use Rattle.kahn_wanted.specs.declared.grammar.{Awaited.Awaited, Lead.Lead}
+use Rattle.kahn_wanted.specs.declared.grammar.Awaited.TheVariants as awaited
+use Rattle.kahn_wanted.specs.declared.grammar.Lead.TheVariants as lead
 
 abbrev pub lead_of : Lead → RuleToken
 lead_of (lead.Word w) = a_word w

@@ -36,35 +36,30 @@ pub struct Explanation {
     pub told: Finding,
 }
 
-/// Whether an end is a fault.
 fn is_fault(outcome: Outcome) -> bool
     ensures { result ≡ is_fault outcome }
 {
     matches!(outcome, Outcome::Faulted(_))
 }
 
-/// Whether a cause is a ring.
 fn is_ring(cause: Cause) -> bool
     ensures { result ≡ is_ring cause }
 {
     matches!(cause, Cause::Ring(_))
 }
 
-/// Whether an instance has a fault.
 fn has_fault(reasons: &[Reason]) -> bool
     ensures { result ≡ has_fault reasons.now }
 {
     reasons.iter().any(|reason| is_fault(reason.end.outcome))
 }
 
-/// Whether there is a ring.
 fn has_ring(reasons: &[Reason]) -> bool
     ensures { result ≡ has_ring reasons.now }
 {
     reasons.iter().any(|reason| is_ring(reason.cause))
 }
 
-/// What a run came to that ended so.
 fn came_to(verdict: Verdict, reasons: &[Reason]) -> Finding
     ensures { result ≡ came_to verdict reasons.now }
 {

@@ -34,7 +34,6 @@ pub(crate) struct Story<'a> {
     pub reasons: &'a [Reason],
 }
 
-/// The instance at which a cause is.
 pub(crate) fn source_of(cause: Cause) -> usize {
     match cause {
         Cause::Input(one, _) | Cause::Stopped(one, _) | Cause::Ring(one) => one,
@@ -53,7 +52,6 @@ pub(crate) fn led_to(story: &Story, one: usize, on_ring: bool) -> Result<Vec<Rea
     Ok(those)
 }
 
-/// Adds a number, and a word for one or for several.
 pub(crate) fn add_count(text: &mut String, count: usize, one: &str, several: &str) -> Wrote {
     let mut buffer = Buffer::new();
     text.push_str(buffer.format(count))?;
@@ -93,7 +91,6 @@ pub(crate) fn for_ever(reason: &Reason) -> &'static str {
     if reason.lasts { ": for ever" } else { "" }
 }
 
-/// Whether there was input.
 pub(crate) fn is_fed(network: &Network, input: &Input) -> bool {
     (0..network.channels()).any(|channel| input.count(channel) > 0)
 }

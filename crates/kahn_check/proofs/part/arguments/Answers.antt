@@ -1,5 +1,5 @@
-use Rattle.kahn_check.proofs.Common.{arith, ◌≡◌, ◌+◌, ◌∷◌, [], drop, common_steps}
-use Rattle.kahn_check.proofs.Told.{arguments_end, arguments_step}
+use Rattle.kahn_check.proofs.Common.{arith, ap, ◌≡◌, ◌∙◌, ◌+◌, ◌∷◌, [], drop, common_steps, option_or}
+use Rattle.kahn_check.proofs.Told.{arguments_end, arguments_step, or_first}
 use Rattle.kahn_check.proofs.part.arguments.Goals as goal
 
 pub loop-number-preserved : goal.loop-number-preserved
@@ -8,8 +8,9 @@ loop-number-preserved c =
     let split : drop q c.args.parameters.now ≡ c.in-Some.parameter.now ∷ drop (q + 1) c.args.parameters.now = grind (arith, common_steps) in
     let rest : drop q c.args.arguments.now ≡ c.index-arguments-number.result ∷ drop (q + 1) c.args.arguments.now = grind (arith, common_steps) in
     let here = rw (split, rest) at c.loop-number.invariant in
-    let h = c.in_ok-found.ensures in
-    arguments_step _ _ _ _ _ _ _ _ _ _ _ _ _ _ _ _ _ _ here h.found h.tables
+    let h = c.in_ok-argument.ensures in
+    let found = c.or-found.ensures ∙ ap (option_or c.loop-number.found) h.found ∙ or_first c.loop-number.found _ in
+    arguments_step _ _ _ _ _ _ _ _ _ _ _ _ _ _ _ _ _ _ here found h.tables
 
 pub returns : goal.returns
 returns c =

@@ -1,13 +1,16 @@
-use Rattle.kahn_sequential.proofs.Common.{subst, inputs_of, network_of, IsCountedAlone}
+use Rattle.kahn_sequential.proofs.Common.{subst, inputs_of, network_of, IsKeptAlone}
 use Rattle.kahn_sequential.proofs.counted.run_counted.Goals as goal
 
 pub returns : goal.returns
 returns c =
     let plan = c.in_ok-plan.ensures in
     let watch = c.in_ok-plan.plan.watch in
-    let run = c.in_ok-run_counting.field-0 in
-    let all = subst (λ n. IsCountedAlone c.args.network.now c.args.input watch n run) plan.rest.1 c.in_ok-run_counting.ensures in
+    let run = c.in_ok-run_kept.field-0 in
+    let all = subst (λ n. IsKeptAlone c.args.network.now c.args.input watch n run c.run_kept.new.recording) plan.rest.1 c.in_ok-run_kept.ensures in
     record {
-      told = (plan.allowed, (watch, plan.watched, all));
+      told = (plan.allowed, (watch, plan.watched, (all.0, all.1)));
       exact = c.finished_exactly.ensures.settles (network_of c.args.network.now) (inputs_of c.args.input) c.args.config.bound watch run.answer all.0;
     }
+
+pub run_kept-requires-clause-opened : goal.run_kept-requires-clause-opened
+run_kept-requires-clause-opened c v e = absurd cc

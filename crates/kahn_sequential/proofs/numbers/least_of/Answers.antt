@@ -1,4 +1,4 @@
-use Rattle.kahn_sequential.proofs.Common.{arith, ◌<◌, length, slice_index_or, sym, subst, slice_get-get_or, slice_get_within, is_in}
+use Rattle.kahn_sequential.proofs.Common.{arith, ◌<◌, length, slice_index_or, slice_get-get_or, slice_get_within}
 use Rattle.kahn_sequential.proofs.Numbered.{each_least}
 use Rattle.kahn_sequential.proofs.numbers.least_of.Goals as goal
 
@@ -10,8 +10,8 @@ loop-instance-preserved c =
     let below : i < length instances = omega (arith, c.loop-instance-test.true, c.loop-instance.auto.instance-index-end) in
     record {
       from = h.1 c.loop-instance.invariant.from;
-      each = each_least c.args.lists.now instances i (slice_index_or instances i 0) c.args.from c.loop-instance.least c.least_in-least.result c.loop-instance.invariant.each h.0
-          (slice_get-get_or instances i 0 below) (λ j k le. h.2 j (subst (λ l. is_in l j) (sym c.numbers_at.ensures) k) le);
+      each = each_least c.args.spans.now instances i (slice_index_or instances i 0) c.args.from c.loop-instance.least c.least_in-least.result c.loop-instance.invariant.each h.0
+          (slice_get-get_or instances i 0 below) (λ j k le. h.2 j k le);
     }
 
 pub returns-clause-least : goal.returns-clause-least

@@ -3,6 +3,6 @@ use Rattle.kahn_sequential.proofs.numbers.numbers_of.Given as goal
 
 abbrev pub invariant-loop-number : goal.invariant-loop-number
 invariant-loop-number l = record {
-  count : length l.lists.items ≡ length (network_of l.network).instances;
-  numbers : HoldNumbersTo l.number (network_of l.network) l.lines l.lists.items;
+  count : length l.spans.items ≡ length (network_of l.network).instances;
+  numbers : HoldNumbersTo l.number (network_of l.network) l.lines l.spans.items;
 }

@@ -1,5 +1,5 @@
 -- The count is opened on the blank's own ledger.
 use Rattle.kahn_sequential.proofs.one.run_on_alone.Given as goal
 
-abbrev pub ghosts-run_part_alone : goal.ghosts-run_part_alone
-ghosts-run_part_alone g a = record { name = a.blank.name; parts = a.blank.parts }
+abbrev pub ghosts-run_until_wide : goal.ghosts-run_until_wide
+ghosts-run_until_wide g a = record { name = a.blank.name; parts = a.blank.parts }

@@ -14,10 +14,10 @@ loop-channel-preserved c =
     let y = c.add_sent_on.new.stream in
     let short = c.requires.each n x (next_old i.changed (search rules) c.index_mut.ensures.value) in
     record {
-      changed = one_changed i.changed (search rules) c.index_mut.ensures.value (adds_one c.args.network.now c.args.queues.now c.args.instance n x y short c.in_ok-add_sent_on.ensures);
+      changed = one_changed i.changed (search rules) c.index_mut.ensures.value (adds_one c.args.network.now c.args.queues.now n x y short c.in_ok-add_sent_on.ensures);
       size = length-set c.loop-channel.streams.items n y ∙ i.size;
     }
 
 pub returns : goal.returns
 returns c =
-    all_added c.args.network.now c.args.queues.now c.args.instance c.args.streams.now.items c.loop-channel.streams.items c.requires (all_changed c.loop-channel.invariant.changed (search rules))
+    all_added c.args.network.now c.args.queues.now c.args.streams.now.items c.loop-channel.streams.items c.requires (all_changed c.loop-channel.invariant.changed (search rules))

@@ -5,6 +5,6 @@ use Rattle.kahn_sequential.proofs.recorded.add_sent.Given as goal
 
 abbrev pub invariant-loop-channel : goal.invariant-loop-channel
 invariant-loop-channel l = record {
-  changed : ChangedTo (Adds l.network l.queues l.instance) l.fn.streams.items l.streams.items l.channel;
+  changed : ChangedTo (Adds l.network l.queues) l.fn.streams.items l.streams.items l.channel;
   size : length l.streams.items ≡ length (network_of l.network).channels;
 }

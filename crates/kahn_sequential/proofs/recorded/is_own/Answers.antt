@@ -1,9 +1,12 @@
-use Rattle.kahn_sequential.proofs.Common.{subst, sym, network_of, IsReadByOthers}
+use Rattle.std.proofs.Common.{◌≡◌, ◌∙◌, ◌==◌, ap, sym, subst, true, false, true≢false}
+use Rattle.kahn_sequential.proofs.Recording.{same_number}
 use Rattle.kahn_sequential.proofs.recorded.is_own.Goals as goal
 
-pub returns-in-Some : goal.returns-in-Some
-returns-in-Some c e w x =
-    subst (λ s. IsReadByOthers (network_of c.args.network.now) s.instance c.args.channel) (sym (c.in-Some.ensures.only.1 w x)) (c.reads.ensures e)
-
-pub returns-in-None : goal.returns-in-None
-returns-in-None c e w x = absurd (c.in-None.ensures.only w x)
+pub returns : goal.returns
+returns c e w x r y same =
+    let writer = c.in-Some.writer.instance in
+    let reader = c.in-Some-reader.reader.instance in
+    let one : writer ≡ reader = ap (λ s. s.instance) (sym (c.in-Some.ensures.only.1 w x)) ∙ (sym same ∙ ap (λ s. s.instance) (c.in-Some-reader.ensures.only.1 r y)) in
+    let no : (writer == reader) ≡ false = e in
+    let yes : (writer == reader) ≡ true = subst (λ n. (writer == n) ≡ true) one (same_number writer) in
+    absurd (true≢false (sym yes ∙ no))

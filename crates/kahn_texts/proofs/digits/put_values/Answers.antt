@@ -1,10 +1,11 @@
-use Rattle.kahn_texts.proofs.Common.{◌≡◌, ◌+◌, ◌≤◌, ◌++◌, length, take, drop, flat_map, sym, ap, subst, ◌∙◌, arith, rules, flat_map-append, length-append, Appends, Appends-trans, AppendsFront, take-append-drop}
+use Rattle.kahn_texts.proofs.Common.{◌≡◌, ◌+◌, ◌++◌, length, take, drop, flat_map, sym, ap, subst, ◌∙◌, rules, flat_map-append, length-append, Appends, Appends-trans, AppendsFront, take-append-drop}
 use Rattle.kahn_texts.proofs.{Cut.taken_on, Writing.fails, Writing.few_on, Writing.goes_on_front, Writing.stops}
+use Rattle.kahn_texts.specs.inner.Layouts.{separated}
 use Rattle.kahn_texts.proofs.digits.put_values.Goals as goal
 
 pub loop-from-preserved : goal.loop-from-preserved
 loop-from-preserved g c =
-    let text_of = g.F.Layout.text in
+    let text_of = separated c.args.layout in
     let i = c.loop-from.invariant in
     let xs = c.args.values.now in
     let k = c.loop-from.from in
@@ -26,7 +27,7 @@ loop-from-preserved g c =
 
 pub returns-in_err-put-clause-text : goal.returns-in_err-put-clause-text
 returns-in_err-put-clause-text g c =
-    let text_of = g.F.Layout.text in
+    let text_of = separated c.args.layout in
     let i = c.loop-from.invariant in
     let xs = c.args.values.now in
     let k = c.loop-from.from in

@@ -12,8 +12,8 @@ returns c =
     (λ e. let none : c.is_empty.result ≡ true = c.is_empty.ensures ∙ ap (λ n. n == 0) (c.in_ok-faults.faults.ok.0 ∙ ap length e) in cc (none, c.if-is_empty.false)) in
     let tells = rw c.deref.ensures.value at told.ensures.told in
     let some_told = rw c.deref.ensures.value at told.ensures.some in
-    let lines = string_bytes c.push_str.new.self in
+    let lines = string_bytes c.add_more.new.text in
     let stand = rw c.deref-2.ensures.value at c.in_ok-lines.ensures in
-    let all = all_longer path program _ _ lines told.told.notes.items c.in_ok-push_str.ensures.bytes stand in
-    told_faults path program c.in-Ok.tree faults c.push_str.new.self (c.in-Ok.ensures.spells, c.in-Ok.ensures.nesting) some c.in_ok-faults.ensures (c.part_by_part.ensures.first c.in-Ok.tree)
+    let all = all_longer path program _ _ lines told.told.notes.items c.in_ok-add_more.ensures stand in
+    told_faults path program c.in-Ok.tree faults c.add_more.new.text (c.in-Ok.ensures.spells, c.in-Ok.ensures.nesting) some c.in_ok-faults.ensures (c.part_by_part.ensures.first c.in-Ok.tree)
     (told.told.notes.items, tells, some_told, all)

@@ -16,7 +16,7 @@ returns c =
     let path = c.args.path.now in
     let text = c.args.text.now in
     let notes = c.in_ok-notes.notes.items in
-    let new = string_bytes c.push_str.new.self in
+    let new = string_bytes c.add_more.new.text in
     let first : c.first_ones.result.0.now ≡ take most_notes notes = c.first_ones.ensures.first ∙ ap (take most_notes) c.deref.ensures.value in
     let some : notes ≡ [] → new ≡ [] = (λ e. let none : c.is_empty.result ≡ true = c.is_empty.ensures ∙ ap (λ n. n == 0) (c.in_ok-notes.notes.ok.0 ∙ ap length e) in cc (none, c.if-is_empty.false)) in
-    (notes, c.in_ok-notes.ensures, subst (All (StandsIn path text new)) first (all_longer path text _ _ new _ c.in_ok-push_str.ensures.bytes c.in_ok-lines.ensures), some)
+    (notes, c.in_ok-notes.ensures, subst (All (StandsIn path text new)) first (all_longer path text _ _ new _ c.in_ok-add_more.ensures c.in_ok-lines.ensures), some)

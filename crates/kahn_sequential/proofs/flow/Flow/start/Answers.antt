@@ -1,11 +1,6 @@
 use Rattle.kahn_sequential.proofs.Common.{ℕ, Option, Some, arith, rules, ◌≡◌, ◌≤◌, slice_get, length, vec_capacity, refl, sym, ◌∙◌, subst, Program, Lists, IsInRange, IsWatched, network_of, inputs_of, AreAllGiven, stream_lines, HoldNumbers}
-use Rattle.kahn_sequential.proofs.{Flowed.all_lent, Flowed.none_let_go, Righted.events_seen, Righted.none_done, Giving.begun_none, Named.line_declared}
+use Rattle.kahn_sequential.proofs.{Flowed.all_lent, Flowed.none_let_go, Righted.events_seen, Righted.none_done, Named.line_declared}
 use Rattle.kahn_sequential.proofs.flow.Flow.start.Goals as goal
-
-pub give_watched-requires : goal.give_watched-requires
-give_watched-requires c =
-    let I = inputs_of c.args.input in
-    record { begun = λ channel e. begun_none (network_of c.args.network.now) I channel (I channel) c.new-given.result.items (search rules) }
 
 pub numbers_of-requires : goal.numbers_of-requires
 numbers_of-requires c j d at =
@@ -18,9 +13,9 @@ invariant_of-result c =
     let r : IsInRange plan.workers plan.quantum plan.bound = rw (p.workers, p.rest.0, p.rest.1) p.allowed in
     let b = c.in_ok-bench.bench in
     let e = c.in_ok-bench.ensures in
-    let ts = c.give_watched.new.tokens.items in
+    let ts = c.in_ok-given.given.items in
     let all = subst (λ (x : Program × Lists × Option ℕ). AreAllGiven (network_of x.0) (inputs_of x.1) x.2 ts) (λ i. (sym e.names.0 i, sym e.names.1 i, sym e.names.2 i))
-    c.in_ok-give_watched.ensures.all in record {
+    c.in_ok-given.ensures in record {
       network = e.names.0;
       watch = e.names.2;
       some = let q = r.2 in omega (arith, q);
@@ -40,9 +35,9 @@ returns c =
     let p = c.in_ok-plan.ensures in
     let b = c.in_ok-bench.bench in
     let e = c.in_ok-bench.ensures in
-    let ts = c.give_watched.new.tokens.items in
+    let ts = c.in_ok-given.given.items in
     let all = subst (λ (x : Program × Lists × Option ℕ). AreAllGiven (network_of x.0) (inputs_of x.1) x.2 ts) (λ i. (sym e.names.0 i, sym e.names.1 i, sym e.names.2 i))
-    c.in_ok-give_watched.ensures.all in
+    c.in_ok-given.ensures in
     record {
       run = record {
         allowed = p.allowed;

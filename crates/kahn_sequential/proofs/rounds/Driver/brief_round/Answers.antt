@@ -2,13 +2,13 @@ use Rattle.std.proofs.Common.{refl, rules}
 use Rattle.kahn_sequential.proofs.Turns.{begun, moved_on}
 use Rattle.kahn_sequential.proofs.rounds.Driver.brief_round.Goals as goal
 
-pub visit_brief-requires-clause-may : goal.visit_brief-requires-clause-may
-visit_brief-requires-clause-may g c = c.loop-instance.invariant.moved.may
+pub pass_or_turn-requires-clause-may : goal.pass_or_turn-requires-clause-may
+pass_or_turn-requires-clause-may g c = c.loop-instance.invariant.moved.may
 
 pub loop-instance-preserved : goal.loop-instance-preserved
 loop-instance-preserved g c =
     let i = c.loop-instance.invariant in
-    let v = c.visit_brief.ensures in
+    let v = c.pass_or_turn.ensures in
     record { moved = moved_on i.moved v; count = search rules }
 
 pub loop-instance-init : goal.loop-instance-init

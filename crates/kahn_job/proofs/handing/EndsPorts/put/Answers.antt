@@ -1,0 +1,5 @@
+use Rattle.kahn_job.proofs.Berthed.{same_ends}
+use Rattle.kahn_job.proofs.handing.EndsPorts.put.Goals as goal
+
+pub returns-clause-which : goal.returns-clause-which
+returns-clause-which c = let p = c.args.self.now.ports in same_ends p.ghost_name c.args.parameter p.now.items c.index_mut.result.now c.put.new.self c.index_mut.ensures.value c.put.ensures.advances.0

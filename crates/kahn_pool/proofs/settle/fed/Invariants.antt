@@ -1,5 +1,0 @@
-use Rattle.kahn_pool.proofs.Common.{ℕ, ◌<◌, IsWithinInput, end_at}
-use Rattle.kahn_pool.proofs.settle.fed.Given as goal
-
-abbrev pub invariant-loop-parameter : goal.invariant-loop-parameter
-invariant-loop-parameter l = (q : ℕ) → q < l.parameter → IsWithinInput (end_at l.task.work.ends q)
