@@ -1,14 +1,16 @@
-//! Why a run has no report, and what the program ends with.
+//! Why a run has no report, what the program ends with, and what it reports at the end.
 
 ghost use Rattle.std.specs.Prelude.{◌≡◌};
-ghost use Rattle.kahn_fault.specs.Status.{live_status_of, work_status, status_of};
+ghost use Rattle.kahn_fault.specs.{Status.live_status_of, Status.work_status, Status.status_of, Places.fault_span, Telling.pointer_text, Telling.told_text};
+ghost use Rattle.kahn_streams.specs.Written.{Writes};
 
-use crate::message::{path_words, read_said};
+use crate::message::{check_span, fault_line, path_words, read_said, syntax_span};
 use crate::work::WorkFault;
 use kahn_check::CheckFault;
-use kahn_streams::{InputFault, RunFault, Verdict};
+use kahn_streams::{InputFault, RunFault, Span, Verdict};
 use kahn_syntax::SyntaxFault;
-use kahn_texts::{ReadFault, TextFault};
+use kahn_texts::{ReadFault, TextFault, WriteFault, write_line};
+use std::io::Write;
 use thiserror::Error;
 
 /// Why a run has no report. It is displayed in the words of its line, without the program's name and without a place.
@@ -28,7 +30,6 @@ pub enum Fault {
     Work(WorkFault),
 }
 
-/// Returns the status of a run without a report.
 fn work_status(fault: WorkFault) -> u8
     ensures { result ≡ work_status fault }
 {
@@ -70,5 +71,60 @@ pub fn live_status(answer: &Result<Verdict, Fault>, refused: bool) -> u8
     match (refused, status(answer)) {
         (true, 0) => 1,
         (_, status) => status,
+    }
+}
+
+/// What was reported.
+#[derive(Drop)]
+pub struct Told {
+    /// The status that the program ends with. A line that couldn't be written doesn't change it.
+    pub status: u8,
+    /// Whether the line of the fault went out, if there is a fault.
+    pub line: Result<(), WriteFault>,
+}
+
+/// Reports the fault of a run over this program text, if there is one, in one line, and returns the status. Never allocates.
+pub fn tell<W: Write>(answer: &Result<Verdict, Fault>, program: &str, writer: &mut W) -> Told
+    ensures status { result.status ≡ status_of answer.now }
+    ensures line { Writes (W.contents writer.old) (W.contents writer.new) result.line (told_text program.now answer.now) }
+{
+    let line = match answer {
+        Ok(_) => Ok(()),
+        Err(fault) => fault_line(fault, program, writer),
+    };
+    Told {
+        status: status(answer),
+        line,
+    }
+}
+
+/// Returns where a program text is at fault, if it is one place.
+fn fault_span(fault: WorkFault) -> Option<Span>
+    ensures { result ≡ fault_span fault }
+{
+    match fault {
+        WorkFault::Syntax(fault) => syntax_span(fault),
+        WorkFault::Check(fault) => check_span(fault),
+        WorkFault::Text(_) | WorkFault::Run(_) | WorkFault::Write(_) => None,
+    }
+}
+
+/// Reports, in one line, which program says more of the fault of a run, if it has a place in the program text, whose path this is.
+pub fn tell_explain<W: Write>(
+    answer: &Result<Verdict, Fault>,
+    path: &str,
+    writer: &mut W,
+) -> Result<(), WriteFault>
+    ensures { Writes (W.contents writer.old) (W.contents writer.new) result (pointer_text path.now answer.now) }
+{
+    match answer {
+        Ok(_) | Err(Fault::Open(_) | Fault::Program(_, _) | Fault::InputText(_, _)) => Ok(()),
+        Err(Fault::Work(fault)) => match fault_span(*fault) {
+            Some(_) => write_line(
+                writer,
+                &[b"kahn_explain ", path.as_bytes(), b" says more\n"],
+            ),
+            None => Ok(()),
+        },
     }
 }

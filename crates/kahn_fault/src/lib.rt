@@ -3,16 +3,15 @@
 
 mod fault;
 mod message;
-mod reasons;
-mod telling;
 mod texts;
 mod work;
 
-pub use fault::{Fault, live_status, status};
+pub use fault::{Fault, Told, live_status, status, tell, tell_explain};
 pub use message::{fault_line, line_counted};
-pub use reasons::{shown_path, tell_reason, tell_shown, tell_unread};
-pub use telling::{Told, tell, tell_explain};
-pub use texts::{MOST_INPUT_BYTES, MOST_PROGRAM_BYTES, Texts, input_of, program_of, read_texts};
+pub use texts::{
+    MOST_INPUT_BYTES, MOST_PROGRAM_BYTES, Texts, input_of, program_of, read_texts, shown_path,
+    tell_reason, tell_shown, tell_unread,
+};
 pub use work::{WorkFault, fault_lies};
 
 // For the crates above.

@@ -31,7 +31,6 @@ pub(crate) enum Says<'a> {
     Placed(Span, &'static str),
 }
 
-/// Writes a line of words, of what stands between, and of more words.
 fn put_between<'a, W: Write, C: CallCount>(
     writer: &mut W,
     before: &'a str,
@@ -43,20 +42,6 @@ fn put_between<'a, W: Write, C: CallCount>(
 {
     let (before, between, after) = (before.as_bytes(), between.as_bytes(), after.as_bytes());
     put_line(writer, &[b"kahn: ", before, between, after, b"\n"], writes)
-}
-
-/// Writes a line with a number between its words.
-fn put_number<W: Write, C: CallCount>(
-    writer: &mut W,
-    before: &str,
-    number: usize,
-    after: &str,
-    writes: &mut C,
-) -> Result<(), WriteFault>
-    ensures { WritesCounted W.contents C.count writer.old writer.new result writes.old writes.new (between_line before.now (decimal number) after.now) }
-{
-    let mut buffer = Buffer::new();
-    put_between(writer, before, buffer.format(number), after, writes)
 }
 
 /// Writes a line with two numbers before its words.
@@ -77,24 +62,7 @@ fn put_place<'a, W: Write, C: CallCount>(
     )
 }
 
-/// Writes a line with a place in the program text; a place beyond the text is reported as its end.
-fn put_placed<W: Write, C: CallCount>(
-    writer: &mut W,
-    program: &str,
-    place: Span,
-    words: &str,
-    writes: &mut C,
-) -> Result<(), WriteFault>
-    ensures { WritesCounted W.contents C.count writer.old writer.new result writes.old writes.new (placed_line program.now (Some place) words.now) }
-{
-    let from = place.from.min(program.len());
-    let (line, column) = Span { from, to: from }.place(program);
-    let mut first = Buffer::new();
-    let mut second = Buffer::new();
-    let (line, column) = (first.format(line), second.format(column));
-    put_place(writer, line, column, words, writes)
-}
-
+/// Writes a line; a place beyond the program text is reported as its end.
 fn put_said<W: Write, C: CallCount>(
     writer: &mut W,
     program: &str,
@@ -103,10 +71,24 @@ fn put_said<W: Write, C: CallCount>(
 ) -> Result<(), WriteFault>
     ensures { WritesCounted W.contents C.count writer.old writer.new result writes.old writes.new (said_line program.now said.entry) }
 {
+    let mut first = Buffer::new();
+    let mut second = Buffer::new();
     match said {
-        Says::Words(first, second) => put_between(writer, first, second, "", writes),
-        Says::Numbered(before, number, after) => put_number(writer, before, number, after, writes),
-        Says::Placed(place, words) => put_placed(writer, program, place, words, writes),
+        Says::Words(before, after) => put_between(writer, before, after, "", writes),
+        Says::Numbered(before, number, after) => {
+            put_between(writer, before, first.format(number), after, writes)
+        }
+        Says::Placed(place, words) => {
+            let from = place.from.min(program.len());
+            let (line, column) = Span { from, to: from }.place(program);
+            put_place(
+                writer,
+                first.format(line),
+                second.format(column),
+                words,
+                writes,
+            )
+        }
     }
 }
 
@@ -210,7 +192,6 @@ fn placed_said(place: Option<Span>, words: &'static str) -> Says<'static>
     }
 }
 
-/// Returns what is said of a run without a report.
 fn work_said(fault: WorkFault) -> Says<'static>
     ensures { (program : List ℕ) → said_line program result ≡ work_line program fault }
 {

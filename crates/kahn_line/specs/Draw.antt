@@ -1,7 +1,7 @@
 -- Believed. What the words of the command line of the program that draws ask for.
 use Rattle.std.specs.Prelude.{◌≡◌, ◌<◌, ◌^◌, List, codes, option_map, string_bytes}
 use Rattle.clap.specs.Words.{App, Text, new_rule, with_rule}
-use Rattle.kahn_line.specs.{Line.bare_app, Line.file_of, Line.number_for, Line.number_rule, Line.text_rule, declared.draw.DrawOptions.DrawOptions}
+use Rattle.kahn_line.specs.{Line.bare_app, Line.file_of, Line.number_for, Line.number_rule, Line.text_rule, declared.line.DrawOptions.DrawOptions}
 
 -- the program text's path without a name, the input text's, and the bound of a run
 abbrev pub draw_app : App

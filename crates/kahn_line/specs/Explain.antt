@@ -1,7 +1,7 @@
 -- Believed. What the words of the command line of the program that explains ask for.
 use Rattle.std.specs.Prelude.{◌≡◌, List, codes, option_map, string_bytes}
 use Rattle.clap.specs.Words.{App, Text, new_rule, with_rule}
-use Rattle.kahn_line.specs.{Line.IsSetBy, Line.bare_app, Line.file_of, Line.flag_rule, Line.is_flagged, Line.number_rule, Line.text_of, Line.text_rule, declared.explain.ExplainOptions.ExplainOptions}
+use Rattle.kahn_line.specs.{Line.IsSetBy, Line.bare_app, Line.file_of, Line.flag_rule, Line.is_flagged, Line.number_rule, Line.text_of, Line.text_rule, declared.line.ExplainOptions.ExplainOptions}
 
 -- the program text's path without a name, and the options
 abbrev pub explain_app : App

@@ -2,7 +2,7 @@
 use Rattle.std.specs.Prelude.{◌≡◌, ℕ, Bool, List, ◌∷◌, ◌++◌, ◌&&◌, Option, None, Some, ◌==◌, length, slice_index, codes, if◌then◌else◌, map, nat_lt, option_map, string_bytes, unwrap_or, []}
 use Rattle.std.specs.{List.after_first, List.before_first, List.position_or_len, Borrow.Bor, Char.is_ascii_digit, Str.bytes_eq, declared.alloc.Global.Global, declared.string.String.String}
 use Rattle.clap.specs.{Words.Row, Words.Text, Words.all_of, Words.rows_of, declared.parser.matches.Found.Found}
-use Rattle.kahn_line.specs.declared.parts.PlainNames.{PlainNames}
+use Rattle.kahn_line.specs.declared.live.PlainNames.{PlainNames}
 
 -- what comes before and after the first such sign; a word without it is the first part alone
 abbrev pub parted : ℕ → Text → Text × Option Text

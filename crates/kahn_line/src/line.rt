@@ -1,9 +1,8 @@
-//! The command line.
+//! The command lines of the programs that do one run: that of `kahn`, of the program that draws, and of the one that explains.
 
 ghost use Rattle.std.specs.Prelude.{◌≡◌, IfOk, codes, false, map, option_map, string_bytes};
 ghost use Rattle.clap.specs.Words.{app_of, first_value, found_of, new_rule, one_text, rule_of};
-ghost use Rattle.kahn_line.specs.Line.{bare_app, file_named, flag_rule, was_given, kahn_app, number_rule, text_rule, IsAsked, IsRead, IsSet, IsTold, ReadsOr};
-ghost use Rattle.kahn_line.specs.declared.line.LineFault.TheVariants.{NoMemory};
+ghost use Rattle.kahn_line.specs.{Line.bare_app, Line.file_named, Line.flag_rule, Line.was_given, Line.kahn_app, Line.number_rule, Line.text_rule, Line.IsAsked, Line.IsRead, Line.IsSet, Line.IsTold, Line.ReadsOr, declared.line.LineFault.TheVariants.NoMemory, Draw.IsDraw, Draw.draw_app, Explain.IsExplain, Explain.explain_app};
 
 use clap::builder::ValueParser;
 use clap::error::ErrorKind;
@@ -106,10 +105,8 @@ pub(crate) fn text_arg<'a>(alloc: Global, name: &'a str, value: &'a str, help: &
     ensures rule { rule_of result ≡ text_rule name.entry.now }
     ensures local { result.global ≡ false }
 {
-    Arg::new(alloc, name)
-        .long(name)
-        .value_name(value)
-        .help(help)
+    let named = Arg::new(alloc, name).long(name);
+    named.value_name(value).help(help)
 }
 
 pub(crate) fn number_arg<'a>(
@@ -128,7 +125,6 @@ pub(crate) fn number_arg<'a>(
         .default_value(given)
 }
 
-/// Makes the argument of the program text's path, which is optional.
 pub(crate) fn program_arg<'a>(alloc: Global) -> Arg<'a>
     ensures rule { rule_of result ≡ new_rule (codes "PROGRAM") }
     ensures local { result.global ≡ false }
@@ -136,15 +132,12 @@ pub(crate) fn program_arg<'a>(alloc: Global) -> Arg<'a>
     Arg::new(alloc, "PROGRAM").help("File of the program text; without it, standard input")
 }
 
-/// Makes an option without a text.
 pub(crate) fn flag_arg<'a>(alloc: Global, name: &'a str, help: &'a str) -> Arg<'a>
     ensures rule { rule_of result ≡ flag_rule name.entry.now }
     ensures local { result.global ≡ false }
 {
-    Arg::new(alloc, name)
-        .long(name)
-        .action(ArgAction::SetTrue)
-        .help(help)
+    let named = Arg::new(alloc, name).long(name);
+    named.action(ArgAction::SetTrue).help(help)
 }
 
 /// Whether an option without a text was given, by what was found for it.
@@ -167,14 +160,8 @@ pub(crate) fn bare<'a>(
 ) -> Result<Command<'a>, AllocError>
     ensures { IfOk result (λ c. app_of c ≡ bare_app name.entry.now) }
 {
-    Ok(
-        Command::new(alloc, name)
-            .bin_name(name)?
-            .version(VERSION)
-            .override_usage(usage)
-            .about(about)
-            .after_help(more),
-    )
+    let named = Command::new(alloc, name).bin_name(name)?.version(VERSION);
+    Ok(named.override_usage(usage).about(about).after_help(more))
 }
 
 fn command<'a>(alloc: Global) -> Result<Command<'a>, AllocError>
@@ -183,13 +170,13 @@ fn command<'a>(alloc: Global) -> Result<Command<'a>, AllocError>
     let usage = "kahn [PROGRAM] [--input FILE] [OPTIONS]";
     let about =
         "Runs a network of processes that send one another values over channels, and reports what was sent.";
-    let workers = "Threads at most, as many as have work, 1 to 16";
+    let threads = "Threads at most, as many as have work, 1 to 16";
     let watch =
         "Reports one more channel besides the output channels; kahn_explain --trace shows all";
     bare(alloc, "kahn", usage, about, MORE)?
         .arg(program_arg(alloc))?
         .arg(text_arg(alloc, "input", "FILE", INPUT))?
-        .arg(number_arg(alloc, "workers", 1, 16, "4", workers))?
+        .arg(number_arg(alloc, "workers", 1, 16, "4", threads))?
         .arg(number_arg(alloc, "quantum", 1, 1_000_000, "1000", QUANTUM))?
         .arg(number_arg(alloc, "bound", 0, 281_474_976_710_655, "1000000", BOUND))?
         .arg(text_arg(alloc, "watch", "NAME", watch))
@@ -212,14 +199,12 @@ fn file_named(word: &str) -> &str
     if word == "-" { "/dev/stdin" } else { word }
 }
 
-/// Copies the file that a word names, if there is one.
 pub(crate) fn file_copied(alloc: Global, word: Option<&str>) -> Result<Option<String>, AllocError>
     ensures { IfOk result (λ copy. option_map string_bytes copy ≡ option_map file_named (option_map (λ t. t.now) word.entry)) }
 {
     copied(alloc, word.map(file_named))
 }
 
-/// The number that was found for a name, or another one where none was.
 pub(crate) fn number_or(matches: &ArgMatches<'_>, name: &str, other: u64) -> u64
     ensures { ReadsOr other (one_text (found_of matches.now) name.now) result }
 {
@@ -245,7 +230,7 @@ pub(crate) fn config_of(
 
 /// Reads the words of a command line, the first of which is the name of the program. Fails with `Refused` if clap
 /// refuses the words or they ask for the help or the version, and with `NoMemory` if memory was refused.
-pub fn read_line<'a, S: AsStr>(alloc: Global, words: &'a [S]) -> Result<Options, LineFault>
+pub fn read_line<S: AsStr>(alloc: Global, words: &[S]) -> Result<Options, LineFault>
     ensures { IsRead kahn_app IsAsked (map S.text words.now) result }
 {
     let matches = command(alloc)?.try_get_matches_from(words)?;
@@ -253,5 +238,211 @@ pub fn read_line<'a, S: AsStr>(alloc: Global, words: &'a [S]) -> Result<Options,
         program: copied(alloc, matches.get_str("PROGRAM"))?,
         input: copied(alloc, matches.get_str("input"))?,
         config: config_of(alloc, &matches, 4, "bound")?,
+    })
+}
+
+// The text after the options in the help of the program that draws.
+static MORE_OF_DRAW: &str = "\
+A box is an instance, with its number, process and value arguments; a second border means that its process prints. An
+arrow is a channel, from its writer to its reader; a dashed one has logical values. Inputs and outputs are marked.
+
+  kahn_draw program.kahn | dot -Tsvg > program.svg
+
+With `--input`, which may name an empty file such as /dev/null, the program is run. A box then shows how its process ended,
+and its colour too; the arrow of an output channel shows how many values were sent on it, and processes that wait on one
+another in a ring are red.
+
+  kahn_draw program.kahn --input data.txt | dot -Tsvg > program.svg
+
+Exit status:
+  0  the picture was written
+  1  program or input refused
+  2  command line refused
+  4  no memory
+  5  a file can't be read or isn't UTF-8, or the picture can't be written";
+
+/// What the command line asks for.
+#[derive(Debug, Drop)]
+pub struct DrawOptions {
+    /// The path of the program text, or nothing for standard input.
+    pub program: Option<String>,
+    /// The path of the input text of a run, or nothing for no run.
+    pub input: Option<String>,
+    /// After how many events the run is stopped.
+    pub bound: u64,
+}
+
+fn draw_command<'a>(alloc: Global) -> Result<Command<'a>, AllocError>
+    ensures { IfOk result (λ c. app_of c ≡ draw_app) }
+{
+    let usage = "kahn_draw [PROGRAM] [--input FILE] [OPTIONS]";
+    let about = "Draws the network of a program, in the language of Graphviz.";
+    bare(alloc, "kahn_draw", usage, about, MORE_OF_DRAW)?
+        .arg(program_arg(alloc))?
+        .arg(text_arg(alloc, "input", "FILE", INPUT))?
+        .arg(number_arg(alloc, "bound", 0, 281_474_976_710_655, "1000000", BOUND))
+}
+
+/// Reads the words of a command line, as `read_line` does.
+pub fn read_draw_line<S: AsStr>(alloc: Global, words: &[S]) -> Result<DrawOptions, LineFault>
+    ensures { IsRead draw_app IsDraw (map S.text words.now) result }
+{
+    let matches = draw_command(alloc)?.try_get_matches_from(words)?;
+    Ok(DrawOptions {
+        program: file_copied(alloc, matches.get_str("PROGRAM"))?,
+        input: file_copied(alloc, matches.get_str("input"))?,
+        bound: number_or(&matches, "bound", 1_000_000),
+    })
+}
+
+// The text after the options in the help of the program that explains.
+static MORE_OF_EXPLAIN: &str = "\
+kahn_explain first says in one line what came of the run. Then it writes each cause once: a deadlock, which is a ring of
+processes that wait on one another; a process that has a fault, waits on an input, or wants more events; or one that has
+ended. Below it stands who waits because of it. With `--all` it writes each process that hasn't ended, and where its chain
+of waits leads. If values are left that nobody took, the second line says of which channel most. The last line says how the
+run ended. With a program whose process 1 waits on 2, and 2 on 1:
+
+  kahn_explain ring.kahn
+
+  deadlock: 1 stage and 2 stage wait on one another
+  ring.kahn:4:17: error: 1 stage waits on A from 2 stage, in a deadlock: for ever
+   4 |     repeat send wait(U) + 1 on W
+     |                 ^^^^^^^
+     = this ring wants a first value (let one of its processes send before it waits), or one of them takes more than another sends: kahn_explain --trace shows what came
+  ring.kahn:4:17: error: 2 stage waits on B from 1 stage, in a deadlock: for ever
+   4 |     repeat send wait(U) + 1 on W
+     |                 ^^^^^^^
+  finished 2
+
+`for ever` means: whatever is added to the input, and however long the run is.
+
+If the program text is refused, kahn_explain shows the place, with its source line and carets below. If something can't
+be there, it names all that may be there.
+
+Before the explanation, it warns of what is allowed but seldom meant: a comment that goes on over statements, a name that
+is never read, a process without an instance, a loop that does nothing, a statement that is never reached. With `--strict`
+a program with a warning isn't run.
+
+With `--trace` it writes all values of all channels as a CSV table, in place of the explanation: a column for each channel
+and each process that prints, a row for each place. The run keeps all values then, and the table comes
+after it. Warnings go to standard error then, and so does the explanation if the status isn't 0. If the run
+was stopped, the columns are beginnings. With a program that doubles what comes on A, and the input `A: 1 2`:
+
+  kahn_explain double.kahn --input data.txt --trace
+
+  place,A,B
+  1,1,2
+  2,2,4
+
+With `--channels` it writes how many values each channel carried, in the same way: who sends on it and who takes from it,
+how many values were sent and taken, and how many are left that nobody took:
+
+  kahn_explain double.kahn --input data.txt --channels
+
+  channel,from,to,sent,taken,left
+  A,,1 double,2,2,0
+  B,1 double,,2,0,2
+
+With `--check` nothing is run: it only says what is wrong with the program text and the network, and with the input text
+if there is one, and what it warns of. With `--json` it writes the same as data: a line for each note, an object of JSON.
+
+With `--needs OUT:PLACE` it writes what the value at that place of a channel needs, whatever the schedule: the least number
+of values of each channel, and of events of each process, of how many in the whole run. Places are counted from 1, and the
+prints of process 1 are `--needs 1:PLACE`. Without `:PLACE` it writes a CSV table, with a row for each value of OUT:
+
+  kahn_explain double.kahn --input data.txt --needs B:1
+
+  B:1 = 2 needs A: 1 of 2
+  events of 1 double: 3 of 7
+
+With `--wakes IN:PLACE` it goes the other way round: it writes the same of the first value of each output that needs that
+value of an input.
+
+Exit status:
+  0  the run finished, without a deadlock and without a fault; or it is known what a value needs, or that it never comes
+  1  program, input or word of `--needs` or `--wakes` refused; with `--strict`, also for a warning
+  2  command line refused
+  3  the run was stopped by the bound
+  4  no memory
+  5  a file can't be read or isn't UTF-8, or the lines can't be written
+  6  run refused: no thread could be started
+  7  processes are in a deadlock
+  8  a process has a fault of arithmetic, whatever else there is";
+
+/// What the command line asks for.
+#[derive(Debug, Drop)]
+pub struct ExplainOptions {
+    /// The path of the program text, or nothing for standard input.
+    pub program: Option<String>,
+    /// The path of the input text, or nothing for the empty text.
+    pub input: Option<String>,
+    /// How the run is set up. No channel is watched.
+    pub config: Config,
+    /// Whether each process is told that hasn't ended, and not only each cause.
+    pub all: bool,
+    /// Whether a program with a warning is refused.
+    pub strict: bool,
+    /// Whether a table of all histories is written.
+    pub trace: bool,
+    /// Whether a table of how many values each channel carried is written.
+    pub channels: bool,
+    /// Whether the texts are only looked at, and no run is done.
+    pub check: bool,
+    /// The line or the place of a line whose needs are written, or nothing.
+    pub needs: Option<String>,
+    /// The place of an input, of which is written which values are the first that need it, or nothing.
+    pub wakes: Option<String>,
+    /// Whether the texts are only looked at, and what is said of them is written as data.
+    pub json: bool,
+}
+
+fn explain_command<'a>(alloc: Global) -> Result<Command<'a>, AllocError>
+    ensures { IfOk result (λ c. app_of c ≡ explain_app) }
+{
+    let usage = "kahn_explain [PROGRAM] [--input FILE] [OPTIONS]";
+    let about = "Runs a network of processes, and explains why the run stopped.";
+    let workers = "As of kahn, 1 to 16; without effect here, where one thread runs";
+    let trace = "Writes all values of all channels, as a CSV table";
+    let channels = "Writes how many values each channel carried, as a CSV table";
+    let check = "Looks at the texts alone, for editors and repositories: nothing is run";
+    let needs =
+        "Writes what the value at a place of a channel needs; without a place, a CSV table of all";
+    let wakes =
+        "Writes which value of each output is the first that needs the value at a place of an input";
+    let json = "As --check, and writes each note as an object of JSON, for editors";
+    bare(alloc, "kahn_explain", usage, about, MORE_OF_EXPLAIN)?
+        .arg(program_arg(alloc))?
+        .arg(text_arg(alloc, "input", "FILE", INPUT))?
+        .arg(number_arg(alloc, "workers", 1, 16, "4", workers))?
+        .arg(number_arg(alloc, "quantum", 1, 1_000_000, "1000", QUANTUM))?
+        .arg(number_arg(alloc, "bound", 0, 281_474_976_710_655, "1000000", BOUND))?
+        .arg(flag_arg(alloc, "all", "Tells each process that hasn't ended"))?
+        .arg(flag_arg(alloc, "strict", "Refuses a program with a warning"))?
+        .arg(flag_arg(alloc, "trace", trace))?
+        .arg(flag_arg(alloc, "channels", channels))?
+        .arg(flag_arg(alloc, "check", check))?
+        .arg(text_arg(alloc, "needs", "OUT[:PLACE]", needs))?
+        .arg(text_arg(alloc, "wakes", "IN[:PLACE]", wakes))?
+        .arg(flag_arg(alloc, "json", json))
+}
+
+/// Reads the words of a command line, as `read_line` does.
+pub fn read_explain_line<S: AsStr>(alloc: Global, words: &[S]) -> Result<ExplainOptions, LineFault>
+    ensures { IsRead explain_app IsExplain (map S.text words.now) result }
+{
+    let matches = explain_command(alloc)?.try_get_matches_from(words)?;
+    Ok(ExplainOptions {
+        program: file_copied(alloc, matches.get_str("PROGRAM"))?,
+        input: file_copied(alloc, matches.get_str("input"))?,
+        config: config_of(alloc, &matches, 4, "bound")?,
+        all: was_given(matches.get_str("all")),
+        strict: was_given(matches.get_str("strict")),
+        trace: was_given(matches.get_str("trace")),
+        channels: was_given(matches.get_str("channels")),
+        check: was_given(matches.get_str("check")),
+        needs: copied(alloc, matches.get_str("needs"))?,
+        wakes: copied(alloc, matches.get_str("wakes"))?,
+        json: was_given(matches.get_str("json")),
     })
 }

@@ -1,13 +1,13 @@
-//! The command line of the program that is fed line by line.
+//! The command line of the program that is fed line by line, and its words that have two parts.
 
-ghost use Rattle.std.specs.Prelude.{◌≡◌, IfOk, codes, map, string_bytes};
+ghost use Rattle.std.specs.Prelude.{◌≡◌, IfOk, codes, map, string_bytes, ◌<◌, ◌≤◌, ◌∷◌, ◌++◌, Some, length, option_copied, option_map};
 ghost use Rattle.clap.specs.Words.{app_of, found_of};
-ghost use Rattle.kahn_line.specs.{Line.IsRead, Live.IsLive, Live.live_app, Parts.found_texts, Parts.input_named, Parts.joined_words, Parts.set_line};
+ghost use Rattle.kahn_line.specs.{Line.IsRead, Live.IsLive, Live.live_app, Parts.found_texts, Parts.input_named, Parts.joined_words, Parts.set_line, Parts.IsJoinedBy, Parts.columns_given, Parts.lent, Parts.parted, Parts.plain_parts, Parts.takes_behind};
 
 use crate::line::{
-    LineFault, QUANTUM, bare, config_of, file_copied, flag_arg, number_arg, text_arg, was_given,
+    LineFault, QUANTUM, bare, config_of, copied, file_copied, flag_arg, number_arg, text_arg,
+    was_given,
 };
-use crate::parts::{PlainNames, input_named, joined_words, plain_of, set_line};
 use clap::{Arg, ArgAction, ArgMatches, Command};
 use kahn_streams::Config;
 use std::alloc::{AllocError, Global};
@@ -82,11 +82,12 @@ fn live_command<'a>(alloc: Global) -> Result<Command<'a>, AllocError>
     let about =
         "Runs a network of processes on the lines of its standard input, and shows after each line what is new.";
     let program = "File of the program text";
+    let keep_going = "Leaves the status 0 even if lines were refused";
+    let plain = "Is short for --in INPUT --out OUTPUT";
     let step =
         "Limit of events after each line, 1 to 281474976710655; if one needs more, its answers come late";
     let watch =
         "Shows one more channel besides the output channels; with --plain, write --plain INPUT,NAME";
-    let keep_going = "Leaves the status 0 even if lines were refused";
     let strict =
         "Ends with 8 if a process has a fault of arithmetic, and else with 7 if processes wait on one another";
     let at_end =
@@ -95,7 +96,6 @@ fn live_command<'a>(alloc: Global) -> Result<Command<'a>, AllocError>
         "Reads bare values of this input channel alone, or rows with one value for each of these";
     let outputs =
         "Writes bare values of this channel alone, one a line, or rows of these; with --in alone, those of the first stream";
-    let plain = "Is short for --in INPUT --out OUTPUT";
     bare(alloc, "kahn_live", usage, about, MORE)?
         .arg(Arg::new(alloc, "PROGRAM").required(true).help(program))?
         .arg(number_arg(alloc, "quantum", 1, 1_000_000, "1000", QUANTUM))?
@@ -126,26 +126,134 @@ fn lines_at_end(
 }
 
 /// Reads the words of a command line, which have to name a program text, as `read_line` does.
-pub fn read_live_line<'a, S: AsStr>(alloc: Global, words: &'a [S]) -> Result<LiveOptions, LineFault>
+pub fn read_live_line<S: AsStr>(alloc: Global, words: &[S]) -> Result<LiveOptions, LineFault>
     ensures { IsRead live_app IsLive (joined_words (map S.text words.now)) result }
 {
     let words = joined_words(alloc, words)?;
     let matches = live_command(alloc)?.try_get_matches_from(words.as_slice())?;
-    let plain = plain_of(
-        alloc,
-        matches.get_str("in"),
-        matches.get_str("out"),
-        matches.get_str("plain"),
-    )?;
+    let (inputs, outputs) = (matches.get_str("in"), matches.get_str("out"));
+    let plain = plain_of(alloc, inputs, outputs, matches.get_str("plain"))?;
+    let set = config_of(alloc, &matches, 1, "step")?;
     Ok(LiveOptions {
         program: file_copied(alloc, matches.get_str("PROGRAM"))?,
-        config: Config {
-            workers: 1,
-            ..config_of(alloc, &matches, 1, "step")?
-        },
+        config: Config { workers: 1, ..set },
         keep_going: was_given(matches.get_str("keep-going")),
         strict: was_given(matches.get_str("strict")),
         at_end: lines_at_end(alloc, &matches, &plain)?,
         plain,
     })
+}
+
+/// Channels whose values stand alone in the lines of input and output.
+#[derive(Debug, Drop)]
+pub struct PlainNames {
+    /// The name of the channel whose values are taken, or nothing where lines have names.
+    pub input: String,
+    /// The name of the channel whose values are shown, or nothing for the first stream of a report.
+    pub output: Option<String>,
+}
+
+/// Returns the parts of a word before and after the first such sign; a word without it has one part.
+pub fn parted(word: &str, sign: char) -> (&str, Option<&str>)
+    requires { sign < 128 }
+    ensures first { result.0.now ≡ (parted sign word.now).0 }
+    ensures second { option_map (λ t. t.now) result.1 ≡ (parted sign word.now).1 }
+{
+    match word.split_once(sign) {
+        Some((before, behind)) => (before, Some(behind)),
+        None => (word, None),
+    }
+}
+
+/// Whether a word is `--at-end`, and the one after it begins as a negative number does.
+fn takes_behind(word: &str, value: &str) -> bool
+    ensures { result ≡ takes_behind word.now value.now }
+{
+    word == "--at-end" && matches!(value.as_bytes(), [b'-', digit, ..] if digit.is_ascii_digit())
+}
+
+fn joined(alloc: Global, word: &str, sign: &str, value: &str) -> Result<String, AllocError>
+    ensures { IfOk result (λ text. string_bytes text ≡ word.now ++ (sign.now ++ value.now)) }
+{
+    let mut text = String::from_str(alloc, word)?;
+    text.push_str(sign)?;
+    text.push_str(value)?;
+    Ok(text)
+}
+
+/// Adds a word, joined with the next one if that belongs to it, and returns the words that are left.
+fn add_joined<'w, S: AsStr>(
+    alloc: Global,
+    all: &mut Vec<String>,
+    word: &S,
+    behind: &'w [S],
+) -> Result<&'w [S], AllocError>
+    ensures fewer { IfOk result (λ left. length left.now ≤ length behind.now) }
+    ensures joined { IfOk result (λ left. IsJoinedBy S.text all.old.items (word.now ∷ behind.now) all.new.items left.now) }
+{
+    let word = word.as_str();
+    if let Some((value, left)) = behind.split_first() {
+        let value = value.as_str();
+        if takes_behind(word, value) {
+            all.push(joined(alloc, word, "=", value)?)?;
+            return Ok(left);
+        }
+    }
+    all.push(String::from_str(alloc, word)?)?;
+    Ok(behind)
+}
+
+/// Joins a negative number after `--at-end` to it, in these words.
+fn joined_words<S: AsStr>(alloc: Global, words: &[S]) -> Result<Vec<String>, AllocError>
+    ensures { IfOk result (λ all. map string_bytes all.items ≡ joined_words (map S.text words.now)) }
+{
+    let mut all = Vec::new(alloc);
+    let mut rest = words;
+    'words: while let Some((word, behind)) = rest.split_first() {
+        rest = add_joined(alloc, &mut all, word, behind)?;
+    }
+    Ok(all)
+}
+
+/// Returns the line `NAME: VALUE` of a word `NAME=VALUE`. A word without `=` is values of the input channel that is given, or the line.
+fn set_line(alloc: Global, input: Option<&str>, word: &str) -> Result<String, AllocError>
+    ensures { IfOk result (λ line. string_bytes line ≡ set_line (option_copied input.entry) word.now) }
+{
+    let (name, value) = parted(word, '=');
+    match (value, input) {
+        (Some(value), _) => joined(alloc, name, ": ", value),
+        (None, Some(input)) => joined(alloc, input, ": ", name),
+        (None, None) => String::from_str(alloc, name),
+    }
+}
+
+/// Returns the name of the channel whose values stand alone in the lines of input, if they do.
+pub fn input_named(plain: &Option<PlainNames>) -> Option<&str>
+    ensures { option_copied result ≡ input_named plain.now }
+{
+    match plain {
+        Some(plain) => Some(plain.input.as_str()),
+        None => None,
+    }
+}
+
+/// Returns the channels that the words of `--in` and `--out` name, if one of them is there, and else those of the short form.
+fn plain_of<'a>(
+    alloc: Global,
+    inputs: Option<&'a str>,
+    outputs: Option<&'a str>,
+    word: Option<&'a str>,
+) -> Result<Option<PlainNames>, AllocError>
+    ensures { IfOk result (λ p. option_map plain_parts p ≡ columns_given (lent inputs.entry) (lent outputs.entry) (lent word.entry)) }
+{
+    let (input, output) = match (inputs, outputs, word) {
+        (Some(inputs), outputs, _) => (inputs, outputs),
+        (None, Some(outputs), _) => ("", Some(outputs)),
+        (None, None, Some(word)) => parted(word, ','),
+        (None, None, None) => return Ok(None),
+    };
+    Ok(Some(PlainNames {
+        input: String::from_str(alloc, input)?,
+        output: copied(alloc, output)?,
+    }))
 }

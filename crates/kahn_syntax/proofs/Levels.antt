@@ -1,11 +1,12 @@
 -- Operators of one level with their operands, read one after another.
-use Rattle.kahn_syntax.proofs.Common.{◌≡◌, ℕ, ◌+◌, ◌≤◌, ◌<◌, ◌≢◌, max, List, [], ◌∷◌, ◌++◌, refl, sym, ap, ◌∙◌, subst, arith, Operand, Level, Or, Sum, Term, Operator, Terminal, at, tighter, rung_of, ExpressionTree, level, OperandTrees, no_operand, operand, expression_words, operands_words, expression_nesting, operands_nesting, rank, FormedOperands, expression_tree, operands_of, FitsLevel, level_or_first}
-use Rattle.kahn_syntax.specs.declared.parser.operator.Level.TheVariants.{And}
+use Rattle.kahn_syntax.proofs.Common.{◌≡◌, ℕ, ◌+◌, ◌≤◌, ◌<◌, ◌≢◌, max, List, [], ◌∷◌, ◌++◌, refl, sym, ap, ◌∙◌, subst, arith, Operand, Level, Or, Relation, Sum, Term, Operator, Bool, true, is_alone, Terminal, at, tighter, rung_of, ExpressionTree, level, OperandTrees, no_operand, operand, expression_words, operands_words, expression_nesting, operands_nesting, rank, FormedOperands, expression_tree, operands_of, FitsLevel, level_or_first}
+use Rattle.kahn_syntax.specs.declared.parser.expression.Level.TheVariants.{And}
 
 -- how many functions are called below an operand of this level before a lexeme is read
 abbrev pub height : Level → ℕ
-height Or = 9
-height And = 7
+height Or = 10
+height And = 8
+height Relation = 5
 height Sum = 3
 height Term = 1
 
@@ -55,10 +56,19 @@ joined_fits n e no_operand a b f h = (omega (arith, f.0), f.1)
 joined_fits n e (operand o g os) a b f h =
     (omega (arith, h.0), (omega (arith, h.0, f.0), f.1, omega (arith, h.0), subst (λ k. FormedOperands k (operand o g os)) (sym h.0) h, λ four. absurd (a (sym h.0 ∙ four))))
 
-pub level_fits : (v : Level) (e : ExpressionTree) (os : OperandTrees) → FitsLevel (at (tighter (rung_of v))) e → FormedOperands (at (rung_of v)) os → FitsLevel (at (rung_of v)) (level_or_first e os)
-level_fits Or e os f h = joined_fits 1 e os (λ x. cc) (omega arith) f h
-level_fits v e os f h = joined_fits (at (rung_of v)) e os (λ x. cc) (omega arith) f h
+pub level_fits : (v : Level) (e : ExpressionTree) (os : OperandTrees) → (is_alone v ≡ true → os ≡ no_operand) → FitsLevel (at (tighter (rung_of v))) e → FormedOperands (at (rung_of v)) os
+    → FitsLevel (at (rung_of v)) (level_or_first e os)
+level_fits Or e os n f h = joined_fits 1 e os (λ x. cc) (omega arith) f h
+level_fits Relation e os n f h = subst (λ os. FitsLevel 4 (level_or_first e os)) (sym (n refl)) (omega (arith, f.0), f.1)
+level_fits v e os n f h = joined_fits (at (rung_of v)) e os (λ x. cc) (omega arith) f h
 
 pub compared_fits : (o : Operator) (e f : ExpressionTree) → rank o ≡ 4 → FitsLevel 5 e → FitsLevel 5 f → FitsLevel 4 (level e (operand o f no_operand))
 compared_fits o e f r g h =
     (omega (arith, r), (omega (arith, r, g.0), g.1, omega (arith, r), (refl, omega (arith, r, h.0), h.1, tt), λ four. tt))
+
+-- the node of one operator, of a level where no two follow one another
+pub alone_fits : (v : Level) (e : ExpressionTree) (os : List Operand) (o : Operand) → is_alone v ≡ true → os ≡ o ∷ [] → rank o.operator ≡ at (rung_of v) → FitsLevel (at (tighter (rung_of v))) e
+    → FitsLevel (at (tighter (rung_of v))) (expression_tree o.expression) → FitsLevel (at (rung_of v)) (level_or_first e (operands_of os))
+alone_fits Relation e os o a q r f g = subst (λ os. FitsLevel 4 (level_or_first e (operands_of os))) (sym q) (compared_fits o.operator e (expression_tree o.expression) r f g)
+alone_fits Or e os o a q r f g = absurd cc
+alone_fits _ e os o a q r f g = absurd cc

@@ -1,5 +1,5 @@
 -- How the parts that are open go on, over what the parser reads.
-use Rattle.kahn_syntax.proofs.Common.{AreProper, FitsLevel, FormSpans, expression_nesting, factors, form_tree, Action, StopsAs, head_parts, Then, Else, Do, On, End, ElseTail, StatementsTail, ◌≡◌, ◌≢◌, ℕ, ◌+◌, ◌≤◌, ◌<◌, List, [], ◌∷◌, ◌++◌, ◌⊎◌, ⊎_elim, length, true, false, cond, Some, None, Result, Ok, Err, true≢false, refl, sym, ap, ◌∙◌, subst, arith, append_assoc, Span, Class, Lexeme, MatchResult, Expression, Form, Covers, Statement, Stop, Refused, TooDeep, NoMemory, Terminal, word, terminal, terminals, First, RuleToken, accepts, leads, class_of, a_kind, a_name, a_number, a_sign, a_word, an_operator, either, rules_of, starts, enters, followed, opened_by, argument_rules, declaration_rules, other_rules, process_rules, simple_rules, Part, ProgramPart, DeclarationsPart, DeclarationPart, ProcessPart, GroupsPart, GroupPart, VariablesPart, InstancePart, ArgumentsPart, ArgumentPart, ExpressionPart, OperatorsPart, StatementPart, SimplePart, GroupsTail, ArgumentsTail, TokenPart, LevelPart, levels, step, Refuses, TooFar, fate, Operator, Level, Or, operator_terminal, rank, Rung, whole, ors, denials, relations, sums, at, tighter, rung_of, Kind, kind_terminal, IsAbsent, Reads, Moves, Stops, Halts, ExpressionRead, StatementRead, IsStated, Begin, Close, If, Integer, Logical, NameClass, Not, NotWord, Process, Semicolon, SignClass, Word, Name, NameSpans, name, name_of, SomeBetween, Takes}
+use Rattle.kahn_syntax.proofs.Common.{AreProper, FitsLevel, FormSpans, expression_nesting, factors, form_tree, Action, StopsAs, head_parts, Then, Else, Do, On, End, ElseTail, StatementsTail, ◌≡◌, ◌≢◌, ℕ, ◌+◌, ◌≤◌, ◌<◌, List, [], ◌∷◌, ◌++◌, ◌⊎◌, ⊎_elim, length, true, false, cond, Some, None, Result, Ok, Err, true≢false, refl, sym, ap, ◌∙◌, subst, arith, append_assoc, Span, Class, Lexeme, MatchResult, Expression, Form, Covers, Statement, Stop, Refused, TooDeep, NoMemory, Terminal, word, terminal, terminals, First, RuleToken, accepts, leads, class_of, a_kind, a_name, a_number, a_sign, a_word, an_operator, either, rules_of, starts, enters, followed, opened_by, argument_rules, declaration_rules, other_rules, process_rules, simple_rules, Part, ProgramPart, DeclarationsPart, DeclarationPart, ProcessPart, GroupsPart, GroupPart, VariablesPart, InstancePart, ArgumentsPart, ArgumentPart, ExpressionPart, OperatorsPart, StatementPart, SimplePart, GroupsTail, ArgumentsTail, TokenPart, LevelPart, levels, step, Refuses, TooFar, fate, Operator, Level, Or, Relation, is_alone, operator_terminal, rank, Rung, whole, ors, denials, relations, sums, at, tighter, rung_of, Kind, kind_terminal, IsAbsent, Reads, Moves, Stops, Halts, ExpressionRead, StatementRead, IsStated, Begin, Close, If, Integer, Logical, NameClass, Not, NotWord, Process, Semicolon, SignClass, Word, Name, NameSpans, name, name_of, SomeBetween, Takes}
 use Rattle.kahn_syntax.proofs.Spanning.{some_more}
 use Rattle.std.specs.Result.{IsErrAnd}
 use Rattle.kahn_syntax.specs.inner.Reads.{PartRead}
@@ -192,15 +192,33 @@ pub level_chain : (v : Level) → IsChain (rung_of v)
 level_chain Or = tt
 level_chain _ = tt
 
-level_other : (v : Level) → IsOther (rung_of v)
-level_other Or = tt
-level_other _ = tt
+-- what is open behind an operand that follows an operator
+abbrev pub after_operator : Level → List Part
+after_operator Relation = []
+after_operator v = OperatorsPart (rung_of v) ∷ []
 
--- an operator of the level, of which more may follow
-pub operator_more : (text : List ℕ) (d : ℕ) (v : Level) (o : Operator) (qs : List Part) (i j : List Lexeme) → Bound d qs → rank o ≡ at (rung_of v) →
+pub after_levels : (v : Level) (d : ℕ) → Depth d (after_operator v) d
+after_levels Relation d s l = l
+after_levels Or d s l = l
+after_levels _ d s l = l
+
+pub after_alone : (v : Level) → is_alone v ≡ true → after_operator v ≡ []
+after_alone Relation e = refl
+after_alone Or e = absurd (true≢false (sym e))
+after_alone _ e = absurd (true≢false (sym e))
+
+pub after_more : (v : Level) → is_alone v ≡ false → after_operator v ≡ OperatorsPart (rung_of v) ∷ []
+after_more Relation e = absurd (true≢false e)
+after_more Or e = refl
+after_more _ e = refl
+
+-- an operator of the level
+pub operator_next : (text : List ℕ) (d : ℕ) (v : Level) (o : Operator) (i j : List Lexeme) → d ≤ 64 → rank o ≡ at (rung_of v) →
     terminals text i ≡ operator_terminal o ∷ terminals text j →
-    Moves text d (OperatorsPart (rung_of v) ∷ qs) (ExpressionPart (tighter (rung_of v)) ∷ OperatorsPart (rung_of v) ∷ qs) i j
-operator_more text d v o qs i j b h e = record { fates = λ s l. ap (fate 64 (OperatorsPart (rung_of v) ∷ qs ++ s)) e ∙ take_operator (rung_of v) 64 (qs ++ s) o (terminals text j) (level_other v) h (b s l) }
+    Moves text d (OperatorsPart (rung_of v) ∷ []) (ExpressionPart (tighter (rung_of v)) ∷ after_operator v) i j
+operator_next text d Relation o i j b h e = comparison text d o [] i j (λ s l. omega (arith, l, b)) h e
+operator_next text d Or o i j b h e = record { fates = λ s l. ap (fate 64 (OperatorsPart ors ∷ s)) e ∙ take_operator ors 64 s o (terminals text j) tt h (omega (arith, l, b)) }
+operator_next text d v o i j b h e = record { fates = λ s l. ap (fate 64 (OperatorsPart (rung_of v) ∷ s)) e ∙ take_operator (rung_of v) 64 s o (terminals text j) tt h (omega (arith, l, b)) }
 
 -- what a call answers for a (tighter ∷ []) level, where no more than it stands here
 pub opened : (text : List ℕ) (d : ℕ) (g f : Rung) (i : List Lexeme) → at g ≤ at f → Moves text d (ExpressionPart g ∷ []) (ExpressionPart f ∷ []) i i →

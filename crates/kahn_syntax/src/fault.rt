@@ -4,7 +4,7 @@ ghost use Rattle.std.specs.Prelude.{◌≡◌};
 ghost use Rattle.kahn_syntax.specs.declared.fault.SyntaxFault.TheVariants.{NoMemory};
 
 use kahn_streams::Span;
-use std::alloc::{AllocError, AllocFailed};
+use std::alloc::AllocFailed;
 use thiserror::Error;
 
 /// Why a lexeme is unexpected.
@@ -48,14 +48,6 @@ pub enum SyntaxFault {
     /// Memory was refused.
     #[error("no memory")]
     NoMemory,
-}
-
-impl From<AllocError> for SyntaxFault {
-    ghost from_gives = { λ _ e. e ≡ NoMemory };
-
-    fn from(_error: AllocError) -> Self {
-        SyntaxFault::NoMemory
-    }
 }
 
 impl<T: Drop> From<AllocFailed<T>> for SyntaxFault {

@@ -2,7 +2,6 @@
 #![tactic(auto)]
 
 mod fault;
-mod keyword;
 mod lexeme;
 mod lexer;
 mod parser;
@@ -14,5 +13,4 @@ pub use kahn_streams::{
 };
 pub use lexeme::{Class, Keyword, Lexeme, Sign};
 pub use lexer::{lex, one_list};
-pub use parser::program::one_tree;
-pub use parser::{one_fault, parse};
+pub use parser::{one_fault, one_tree, parse};

@@ -4,8 +4,8 @@
 use Rattle.std.specs.Prelude.{◌≡◌, ◌≢◌, ℕ, ◌+◌, ◌-◌, ◌≤◌, ◌<◌, List, [], ◌∷◌, ◌++◌, length, slice_index, Bool, true, false, ◌==◌, ◌||◌, codes, All, take, if◌then◌else◌, ◌⊎◌, MatchOption, Option, map, slice_index_or, decimal, flat_map}
 use Rattle.std.specs.{List.slice_split, List.concat, Char.is_ascii_alphabetic, Char.is_ascii_alphanumeric, Str.str_eq_ignore_ascii_case, Str.Parse.IsNumeral, Str.Parse.without_leading_sign, Str.Parse.signed_digits_value, declared.alloc.Global.Global, declared.string.String.String, declared.vec.Vec.Vec}
 use Rattle.kahn_streams.specs.{declared.value.Value.Value, declared.tree.Program.Program, declared.entries.InputFault.InputFault, declared.value.Value.TheVariants.Integer, declared.value.Value.TheVariants.Logical, Inputs.Entry, Inputs.entry_of, Inputs.IsFirstRefused, Inputs.IsInputOf, Inputs.Lists, declared.value.Line.Line, View.bytes_of, Network.channel_names, Network.channels_of, Written.line_feed, Written.spaced_text, declared.value.Line.TheVariants.Channel, declared.value.Line.TheVariants.Print, declared.value.Failure.TheVariants.Overflow, declared.value.Failure.TheVariants.Division, Answers.values_of, declared.answer.Stream.Stream, declared.answer.Outcome.Outcome, declared.answer.Outcome.TheVariants.Ended, declared.answer.Outcome.TheVariants.Waits, declared.answer.Outcome.TheVariants.Faulted, declared.answer.Outcome.TheVariants.More, declared.answer.End.End, declared.answer.Verdict.Verdict, declared.answer.Verdict.TheVariants.Finished, declared.answer.Verdict.TheVariants.Bound, declared.answer.Verdict.TheVariants.Memory, declared.answer.Answer.Answer}
-use Rattle.kahn_texts.specs.{declared.entries.EntryFault.EntryFault, declared.entries.EntryFault.TheVariants.NoHead, declared.entries.EntryFault.TheVariants.NoValues, declared.input.TextFault.TextFault, declared.input.TextFault.TheVariants.BadLine, declared.input.TextFault.TheVariants.BadValue, declared.input.TextFault.TheVariants.Input, declared.input.TextFault.TheVariants.TooLong, declared.input.TextFault.TheVariants.NoMemory}
-use Rattle.kahn_texts.specs.declared.entries.EntryFault.TheVariants as line_fault
+use Rattle.kahn_texts.specs.{declared.input.EntryFault.EntryFault, declared.input.EntryFault.TheVariants.NoHead, declared.input.EntryFault.TheVariants.NoValues, declared.input.TextFault.TextFault, declared.input.TextFault.TheVariants.BadLine, declared.input.TextFault.TheVariants.BadValue, declared.input.TextFault.TheVariants.Input, declared.input.TextFault.TheVariants.TooLong, declared.input.TextFault.TheVariants.NoMemory}
+use Rattle.kahn_texts.specs.declared.input.EntryFault.TheVariants as line_fault
 use Rattle.kahn_texts.specs.declared.input.TextFault.TheVariants as text_fault
 use mir.Val.{SFits as FitsSigned}
 use mir.Syntax.{w64}

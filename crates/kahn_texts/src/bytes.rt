@@ -1,11 +1,12 @@
-//! Writing bytes.
+//! Writing bytes, and counts of calls.
 
-ghost use Rattle.std.specs.Prelude.{◌≡◌, ◌+◌, ◌≤◌, IfSome, length, flat_map};
+ghost use Rattle.std.specs.Prelude.{◌≡◌, ◌+◌, ◌≤◌, IfSome, length, flat_map, ℕ};
 ghost use Rattle.std.specs.Io.KnownBytes.{Keeps};
 ghost use Rattle.kahn_streams.specs.Written.{Writes};
 
-use crate::counts::{CallCount, uncounted};
+use kahn_streams::{About, Steps};
 use std::io::Write;
+use std::sync::ledger::Ledger;
 use thiserror::Error;
 
 /// Why a text wasn't written whole.
@@ -105,4 +106,52 @@ pub fn write_line<W: Write>(writer: &mut W, pieces: &[&[u8]]) -> Result<(), Writ
 {
     put_line(writer, pieces, &mut uncounted())?;
     flush(writer, &mut uncounted())
+}
+
+/// What counts the calls of a reader or writer.
+pub trait CallCount {
+    // the calls so far
+    ghost count: { Self → ℕ };
+
+    /// Counts one more.
+    fn tick(&mut self)
+        ensures { count self.new ≡ count self.old + 1 };
+}
+
+impl<L: Ledger> CallCount for Steps<L> {
+    ghost count = { λ s. s };
+
+    #[inline(always)]
+    fn tick(&mut self) {
+        Steps::tick(self);
+    }
+}
+
+/// A count that only contracts see. It has no bytes.
+#[derive(Drop)]
+pub struct GhostCount {
+    calls: About<u64>,
+}
+
+impl CallCount for GhostCount {
+    ghost count = { λ u. u.calls.value };
+
+    #[inline(always)]
+    fn tick(&mut self) {
+        self.calls = one_more(self);
+    }
+}
+
+fn one_more(_count: &GhostCount) -> About<u64>
+    ghost calls: { ℕ }
+    ensures { result.value ≡ calls }
+{
+    About::named()
+}
+
+/// A count of no calls.
+pub fn uncounted() -> GhostCount {
+    GhostCount {
+        calls: About::named(),
+    }
 }

@@ -4,7 +4,7 @@ ghost use Rattle.std.specs.Prelude.{◌≡◌, ◌+◌, ◌<◌, ◌≤◌, Matc
 ghost use Rattle.std.specs.Str.{IsUtf8};
 ghost use Rattle.kahn_texts.specs.Reading.{IsTextRead};
 
-use crate::counts::{CallCount, uncounted};
+use crate::bytes::{CallCount, uncounted};
 use std::alloc::Global;
 use std::io::Read;
 use thiserror::Error;

@@ -4,11 +4,8 @@ ghost use Rattle.std.specs.Prelude.{◌≡◌, ◌<◌, ◌≤◌, ◌++◌, len
 ghost use Rattle.kahn_streams.specs.Written.{Writes};
 ghost use Rattle.kahn_texts.specs.{Formats.HasItsLines, Formats.IsLine, Formats.report_text, Formats.stream_text, inner.Pieces.ArePieceTexts, inner.Pieces.IsPieceText, inner.Pieces.IsTextAt, inner.Pieces.piece_text};
 
-use crate::bytes::{WriteFault, put};
-use crate::counts::uncounted;
-use crate::digits::{Layout, put_values};
-use crate::news::write_closing;
-use crate::write::{put_closing, put_head, put_line_values};
+use crate::bytes::{WriteFault, put, uncounted};
+use crate::write::{Layout, put_closing, put_head, put_line_values, put_values, write_closing};
 use kahn_streams::{Answer, Network, Stream, Values};
 use std::alloc::Global;
 use std::io::Write;
@@ -44,13 +41,9 @@ fn places(alloc: Global, count: usize) -> Vec<Option<Vec<u8>>>
 fn text_of(alloc: Global, piece: &Values<'_>) -> Option<Vec<u8>>
     ensures { IsPieceText piece.now result }
 {
-    let Ok(mut text) = Vec::with_capacity(alloc, ROOM) else {
-        return None;
-    };
-    match put_values(&mut text, Layout::Spaced, piece, &mut uncounted()) {
-        Ok(()) => Some(text),
-        Err(_) => None,
-    }
+    let mut text = Vec::with_capacity(alloc, ROOM).ok()?;
+    put_values(&mut text, Layout::Spaced, piece, &mut uncounted()).ok()?;
+    Some(text)
 }
 
 /// Formats the first pieces, as many as there are texts, by at most `threads` threads.
@@ -227,6 +220,5 @@ pub fn write_for<R: Threads + Sync, W: Write>(
     requires { HasItsLines network.now answer.now }
     ensures { Writes (W.contents writer.old) (W.contents writer.new) result (report_text network.now answer.now) }
 {
-    let threads = threads_for(rt, workers);
-    write_report_by(rt, alloc, writer, network, answer, threads)
+    write_report_by(rt, alloc, writer, network, answer, threads_for(rt, workers))
 }

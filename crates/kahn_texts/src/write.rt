@@ -1,16 +1,13 @@
-//! The report text, written piece by piece.
+//! The report text, written piece by piece, and what goes out while a run goes on.
 
-ghost use Rattle.std.specs.Prelude.{◌≡◌, ◌+◌, ◌<◌, ◌≤◌, ◌++◌, length, flat_map, All};
-ghost use Rattle.kahn_streams.specs.Written.{Writes, line_feed, spaced_text};
-ghost use Rattle.kahn_texts.specs.{Flushes.FlushesOnce, News.closing_text};
-ghost use Rattle.kahn_texts.specs.Formats.{report_text, line_head, values_line, stream_text, outcome_word, waited_name, end_words, end_text, ends_text, last_line, IsLine, HasItsLines};
+ghost use Rattle.std.specs.Prelude.{◌≡◌, ◌+◌, ◌<◌, ◌≤◌, ◌++◌, length, flat_map, All, ◌*◌, drop};
+ghost use Rattle.kahn_streams.specs.Written.{Writes, line_feed, spaced_text, value_text};
+ghost use Rattle.kahn_texts.specs.{Flushes.FlushesOnce, News.closing_text, Formats.report_text, Formats.line_head, Formats.values_line, Formats.stream_text, Formats.outcome_word, Formats.waited_name, Formats.end_words, Formats.end_text, Formats.ends_text, Formats.last_line, Formats.IsLine, Formats.HasItsLines, Formats.channel_name, Formats.process_name, News.more_text, News.plain_text, inner.Layouts.separated};
+ghost use Rattle.std.specs.Fmt.{signed_decimal};
 
-use crate::bytes::{WriteFault, flush, put, put_all, put_line};
-use crate::counts::{CallCount, uncounted};
-use crate::digits::{Layout, put_values};
-use crate::names::{channel_name, process_name};
-use itoa::Buffer;
-use kahn_streams::{Answer, End, Failure, Line, Network, Outcome, Stream, Values, Verdict};
+use crate::bytes::{CallCount, WriteFault, flush, put, put_all, put_line, uncounted};
+use itoa::{Buffer, write_digits};
+use kahn_streams::{Answer, End, Failure, Line, Network, Outcome, Stream, Value, Values, Verdict};
 use std::io::Write;
 
 /// Writes what a stream's line begins with.
@@ -224,4 +221,183 @@ pub fn write_report<W: Write>(
     ensures { Writes (W.contents writer.old) (W.contents writer.new) result (report_text network.now answer.now) }
 {
     write_counted(writer, network, answer, &mut uncounted(), &mut uncounted())
+}
+
+/// Returns the declared name of a channel, or nothing past the last. Never allocates.
+pub fn channel_name(network: &Network, channel: usize) -> &str
+    ensures { result.now ≡ channel_name network.now channel }
+{
+    if channel >= network.channels() {
+        return "";
+    }
+    network.channel(channel).name
+}
+
+/// Returns the name of an instance's process, or nothing past the last. Never allocates.
+pub fn process_name(network: &Network, instance: usize) -> &str
+    ensures { result.now ≡ process_name network.now instance }
+{
+    match network.program().instances.get(instance) {
+        Some(found) => found.process.text.as_str(),
+        None => "",
+    }
+}
+
+/// Writes a line with the heading of a stream, as in a report, and these new values, or nothing if there are none. It doesn't flush.
+pub fn write_news<W: Write>(
+    writer: &mut W,
+    network: &Network,
+    line: Line,
+    values: &Values<'_>,
+) -> Result<(), WriteFault>
+    requires { IsLine network.now line }
+    ensures { Writes (W.contents writer.old) (W.contents writer.new) result (more_text network.now line values.now) }
+{
+    if values.is_empty() {
+        return Ok(());
+    }
+    put_line_values(writer, network, line, values, &mut uncounted())
+}
+
+/// Writes values, each on a line of its own. It doesn't flush, and never allocates.
+pub fn write_plain<W: Write>(writer: &mut W, values: &Values<'_>) -> Result<(), WriteFault>
+    ensures { Writes (W.contents writer.old) (W.contents writer.new) result (plain_text values.now) }
+{
+    put_values(writer, Layout::Lined, values, &mut uncounted())
+}
+
+/// Writes the last lines of a report, those of the ends and of the verdict with the sum of the events, and flushes.
+pub fn write_closing<W: Write>(
+    writer: &mut W,
+    network: &Network,
+    verdict: Verdict,
+    ends: &[End],
+    events: u64,
+) -> Result<(), WriteFault>
+    ensures { Writes (W.contents writer.old) (W.contents writer.new) result (closing_text network.now verdict ends.now events) }
+{
+    closing_counted(
+        writer,
+        network,
+        verdict,
+        ends,
+        events,
+        &mut uncounted(),
+        &mut uncounted(),
+    )
+}
+
+/// How many values one write has.
+const TOGETHER: usize = 32;
+
+/// Room for these, each of 20 bytes at most and a space.
+const ROOM: usize = 21 * TOGETHER;
+
+/// Places a text so that it ends at `end`, and returns where it begins.
+#[inline(always)]
+fn place(text: &[u8], room: &mut [u8], end: usize) -> usize
+    requires { (length text.now ≤ end) × (end ≤ length room.old) }
+    ensures begins { result + length text.now ≡ end }
+    ensures placed { drop result room.new ≡ text.now ++ drop end room.old }
+{
+    let start = end - text.len();
+    room[start..end].copy_from_slice(text);
+    start
+}
+
+/// Places a number so that it ends at `end`, and returns where it begins.
+#[inline(always)]
+#[tactic(auto, using(crate::proofs::Writing::digits_within))]
+fn place_number(number: i64, room: &mut [u8], end: usize) -> usize
+    requires { (20 ≤ end) × (end ≤ length room.old) }
+    ensures near { (result ≤ end) × (end ≤ result + 20) }
+    ensures placed { drop result room.new ≡ signed_decimal number ++ drop end room.old }
+{
+    let start = write_digits(number.unsigned_abs(), room, end);
+    if number < 0 {
+        place(b"-", room, start)
+    } else {
+        start
+    }
+}
+
+/// Places a value so that it ends at `end`, and returns where it begins.
+#[inline(always)]
+fn place_value(value: Value, room: &mut [u8], end: usize) -> usize
+    requires { (20 ≤ end) × (end ≤ length room.old) }
+    ensures near { (result ≤ end) × (end ≤ result + 20) }
+    ensures placed { drop result room.new ≡ value_text value ++ drop end room.old }
+{
+    match value {
+        Value::Integer(number) => place_number(number, room, end),
+        Value::Logical(true) => place(b"true", room, end),
+        Value::Logical(false) => place(b"false", room, end),
+    }
+}
+
+/// How values are separated.
+#[derive(Clone, Copy)]
+pub(crate) enum Layout {
+    /// A space before each.
+    Spaced,
+    /// Each on a line of its own.
+    Lined,
+}
+
+/// Places a value and its separator so that they end at `end`, and returns where they begin.
+#[inline(always)]
+fn place_separated(layout: Layout, value: Value, room: &mut [u8], end: usize) -> usize
+    requires { (21 ≤ end) × (end ≤ length room.old) }
+    ensures near { (result ≤ end) × (end ≤ result + 21) }
+    ensures placed { drop result room.new ≡ separated layout value ++ drop end room.old }
+{
+    match layout {
+        Layout::Spaced => {
+            let start = place_value(value, room, end);
+            place(b" ", room, start)
+        }
+        Layout::Lined => {
+            let start = place(b"\n", room, end);
+            place_value(value, room, start)
+        }
+    }
+}
+
+/// Places values at the end of `room`, the last one first, as digits are made, and returns their text.
+#[tactic(auto, using(crate::proofs::Cut::drop_on))]
+fn place_values<'a>(layout: Layout, values: &Values<'_>, room: &'a mut [u8]) -> &'a [u8]
+    requires { 21 * length values.now ≤ length room.old }
+    ensures { result.now ≡ flat_map (separated layout) values.now }
+{
+    let mut start = room.len();
+    let mut left = values.len();
+    while left > 0 {
+        left -= 1;
+        let Some(value) = values.get(left) else {
+            unreachable!()
+        };
+        start = place_separated(layout, value, room, start);
+    }
+    &room[start..]
+}
+
+/// Writes values, `TOGETHER` by one write.
+pub(crate) fn put_values<W: Write, C: CallCount>(
+    writer: &mut W,
+    layout: Layout,
+    values: &Values<'_>,
+    writes: &mut C,
+) -> Result<(), WriteFault>
+    ensures text { Writes (W.contents writer.old) (W.contents writer.new) result (flat_map (separated layout) values.now) }
+    ensures few { C.count writes.new ≤ C.count writes.old + length (flat_map (separated layout) values.now) }
+{
+    let mut room = [0; ROOM];
+    let mut from = 0;
+    while from < values.len() {
+        let (_, left) = values.split_at(from);
+        let (first, _) = left.split_at(TOGETHER.min(left.len()));
+        put(writer, place_values(layout, &first, &mut room), writes)?;
+        from += first.len();
+    }
+    Ok(())
 }

@@ -1,8 +1,8 @@
 -- Inner. What the lexer meets at one place of a text.
 use Rattle.std.specs.Prelude.{◌≡◌, ℕ, List, Bool, true, false}
-use Rattle.kahn_syntax.specs.{Names.Item, declared.lexer.forms.LexemeForm.LexemeForm, Texts.IsWord, Texts.IsWordByte, Texts.IsDigit, Texts.IsRun, Texts.IsSign, Texts.IsLexemeAt, Texts.IsComment}
+use Rattle.kahn_syntax.specs.{Names.Item, declared.lexer.LexemeForm.LexemeForm, Texts.IsWord, Texts.IsWordByte, Texts.IsDigit, Texts.IsRun, Texts.IsSign, Texts.IsLexemeAt, Texts.IsComment}
 use Rattle.kahn_syntax.specs.declared.lexer.Item.TheVariants as item
-use Rattle.kahn_syntax.specs.declared.lexer.forms.LexemeForm.TheVariants as form
+use Rattle.kahn_syntax.specs.declared.lexer.LexemeForm.TheVariants as form
 
 -- a word, or else a number, goes on with this byte
 abbrev pub IsFormByte : Bool → ℕ → Type 0

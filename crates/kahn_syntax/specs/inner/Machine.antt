@@ -1,7 +1,7 @@
 -- Inner. What may still come, as a stack of the parts that are open, and what one terminal does to it; the levels of expressions.
 use Rattle.std.specs.Prelude.{ℕ, List, [], ◌∷◌, ◌++◌, ◌+◌, ◌==◌, ◌||◌, length, Bool, true, false, cond, nat_le, Option, Some, None, is_some}
 use Rattle.std.specs.Str.{bytes_eq}
-use Rattle.kahn_syntax.specs.Names.{Keyword, Sign, Class, Operator, Level, Or, And, Sum, Term}
+use Rattle.kahn_syntax.specs.Names.{Keyword, Sign, Class, Operator, Level, Or, And, Relation, Sum, Term}
 use Rattle.kahn_syntax.specs.declared.lexeme.Keyword.TheVariants as keyword
 use Rattle.kahn_syntax.specs.declared.lexeme.Sign.TheVariants as mark
 use Rattle.kahn_syntax.specs.declared.lexeme.Class.TheVariants as class
@@ -58,8 +58,14 @@ tighter factors = factors
 abbrev pub rung_of : Level → Rung
 rung_of Or = ors
 rung_of And = ands
+rung_of Relation = relations
 rung_of Sum = sums
 rung_of Term = terms
+
+-- whether no two operators of a level follow one another, as comparisons don't
+abbrev pub is_alone : Level → Bool
+is_alone Relation = true
+is_alone _ = false
 
 -- terminals of one use: this keyword, one of these two, this sign, any number, any name, an operator of the level of this one
 pub data RuleToken : Type 0 where
@@ -185,7 +191,6 @@ expression_rules sums = operand_rules sums (operand_rules terms factor_rules)
 expression_rules terms = operand_rules terms factor_rules
 expression_rules factors = factor_rules
 
--- comparisons don't follow one another
 abbrev pub operator_rules : Rung → List Rule
 operator_rules ors = (an_operator operator.Or, ExpressionPart ands ∷ OperatorsPart ors ∷ []) ∷ []
 operator_rules ands = (an_operator operator.And, ExpressionPart denials ∷ OperatorsPart ands ∷ []) ∷ []

@@ -1,10 +1,10 @@
 -- Inner. What each function of the parser reads, and where it stops.
 use Rattle.std.specs.Prelude.{◌≡◌, ℕ, List, [], ◌∷◌, ◌++◌, ◌+◌, ◌≤◌, false, length, map, Some, Result, MatchResult}
-use Rattle.kahn_syntax.specs.Names.{Action, Expression, Form, Operator, Span, Statement, Stop, Refused, TooDeep, Class, Lexeme, Keyword, Argument, Declaration}
+use Rattle.kahn_syntax.specs.Names.{Action, Expression, Span, Statement, Stop, Refused, TooDeep, Class, Lexeme, Keyword, Argument, Declaration}
 use Rattle.kahn_syntax.specs.declared.parser.cursor.Stop.TheVariants.{NoMemory}
 use Rattle.kahn_syntax.specs.declared.lexeme.Sign.TheVariants as mark
-use Rattle.kahn_syntax.specs.Grammar.{Between, Ended, DeclarationTree, declaration_nesting, declarations_nesting, Terminal, word, sign, operator_terminal, ExpressionTree, binds, Formed, expression_nesting, FormedStatement, FormedStatements, IsSimple, AreSome, statement_nesting, statements_nesting}
-use Rattle.kahn_syntax.specs.Texts.{Covers, terminals, AreProper, declaration_tree, expression_tree, statement_tree, statement_trees, FormSpans, Takes, ArgumentSpans, DeclarationSpans, ExpressionSpans, StatementSpans, StatementsSpan}
+use Rattle.kahn_syntax.specs.Grammar.{Between, Ended, DeclarationTree, declaration_nesting, declarations_nesting, Terminal, word, sign, ExpressionTree, binds, Formed, expression_nesting, FormedStatement, FormedStatements, IsSimple, AreSome, statement_nesting, statements_nesting}
+use Rattle.kahn_syntax.specs.Texts.{Covers, terminals, AreProper, declaration_tree, expression_tree, statement_tree, statement_trees, Takes, ArgumentSpans, DeclarationSpans, ExpressionSpans, StatementSpans, StatementsSpan}
 use Rattle.kahn_syntax.specs.inner.Machine.{Rung, whole, at, RuleToken, class_of, leads, Part, ProgramPart, ExpressionPart, StatementPart, SimplePart, StatementsTail, TokenPart, levels, Fate, Refuses, TooFar, fate, a_word}
 
 -- an expression that may stand at this level
@@ -86,11 +86,6 @@ DeclarationsSpan text ds xs r = (declarations_nesting (map declaration_tree ds) 
 -- arguments and the bracket after them
 abbrev pub ClosedArgumentsSpan : List ℕ → List Argument → List Lexeme → List Lexeme → Type 0
 ClosedArgumentsSpan text arguments xs r = (a : List Lexeme) × Between (Takes text (sign mark.Comma)) (ArgumentSpans text) arguments xs a × Takes text (sign mark.Close) a r
-
--- an operator between two operands
-abbrev pub SpansOperation : Expression → Operator → Expression → Form → Type 0
-SpansOperation left operator right f = (text : List ℕ) (xs a b r : List Lexeme) →
-    ExpressionSpans text left xs a → Takes text (operator_terminal operator) a b → ExpressionSpans text right b r → FormSpans text f xs r
 
 -- a statement that does this, with the span of what was read
 abbrev pub IsStated : Statement → Action → List Lexeme → List Lexeme → Type 0

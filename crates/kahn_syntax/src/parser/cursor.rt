@@ -1,11 +1,11 @@
 //! The lexemes that are still to be read, and why reading stops.
 
-ghost use Rattle.std.specs.Prelude.{◌≡◌, ℕ, ◌≤◌, ◌<◌, ◌+◌, List, [], false, length, IfOk, IfErr, IfSome, IfNone, MatchOption};
-ghost use Rattle.kahn_syntax.specs.{Texts.First, Texts.AreProper, Texts.IsUnsigned, Texts.Placed, Texts.IsPast, Texts.Covers, inner.Reads.IsAbsent, declared.parser.cursor.Stop.TheVariants.Refused, declared.parser.cursor.Stop.TheVariants.TooDeep, declared.parser.cursor.Stop.TheVariants.NoMemory};
+ghost use Rattle.std.specs.Prelude.{◌≡◌, ℕ, ◌≤◌, ◌<◌, ◌+◌, List, [], false, length, IfOk, IfErr, IfSome, IfNone, MatchOption, MatchResult, ◌∷◌, ◌⊎◌};
+ghost use Rattle.kahn_syntax.specs.{Texts.First, Texts.AreProper, Texts.IsUnsigned, Texts.Placed, Texts.IsPast, Texts.Covers, inner.Reads.IsAbsent, declared.parser.cursor.Stop.TheVariants.Refused, declared.parser.cursor.Stop.TheVariants.TooDeep, declared.parser.cursor.Stop.TheVariants.NoMemory, inner.Reads.IsStated, Grammar.name, Grammar.SomeNames, Texts.terminals, Texts.name_of, Texts.lexemes, Texts.NameSpans, inner.Machine.leads, inner.Machine.TokenPart, inner.Machine.NamesTail, inner.Machine.a_name, inner.Reads.ParsesPart};
 
-use crate::lexeme::{Class, Lexeme};
-use kahn_streams::Span;
-use std::alloc::{AllocError, AllocFailed};
+use crate::lexeme::{Class, Lexeme, Sign};
+use kahn_streams::{Action, Expression, Form, Name, Span, Statement};
+use std::alloc::{AllocError, AllocFailed, Global};
 
 /// The most levels of nesting.
 pub const DEEPEST: usize = 64;
@@ -115,4 +115,76 @@ pub fn span_at(lexemes: &[Lexeme], left: usize) -> Span
     ensures { Placed lexemes.now result left }
 {
     lexemes[lexemes.len() - left].span
+}
+
+/// Makes an expression of this form, from the first lexeme of the input to the last one before the rest.
+pub fn made<'t>(
+    alloc: Global,
+    input: &[Lexeme],
+    rest: &'t [Lexeme],
+    form: Form,
+) -> Read<'t, Box<Expression>>
+    requires { length rest.now < length input.now }
+    ensures { MatchResult result (λ r. (r.0.value.form ≡ form) × Covers r.0.value.span input.now rest.now × (r.1.now ≡ rest.now)) (λ e. e ≡ NoMemory) }
+{
+    let span = reach(input, rest);
+    let expression = Box::new(alloc, Expression { span, form })?;
+    Ok((expression, rest))
+}
+
+/// Makes a statement that does this, from the first lexeme of the input to the last one before the rest.
+pub fn stated<'t>(
+    alloc: Global,
+    input: &[Lexeme],
+    rest: &'t [Lexeme],
+    action: Action,
+) -> Read<'t, Box<Statement>>
+    requires { length rest.now < length input.now }
+    ensures { MatchResult result (λ r. IsStated r.0.value action input.now rest.now × (r.1.now ≡ rest.now)) (λ e. e ≡ NoMemory) }
+{
+    let span = Some(reach(input, rest));
+    let statement = Box::new(alloc, Statement { span, action })?;
+    Ok((statement, rest))
+}
+
+/// Reads the name that comes first.
+pub fn read_name<'t>(alloc: Global, text: &str, input: &'t [Lexeme]) -> Read<'t, Name>
+    requires proper { AreProper text.now input.now }
+    ensures words { IfOk result (λ r. terminals text.now input.now ≡ name (name_of r.0) ∷ terminals text.now r.1.now) }
+    ensures spans { IfOk result (λ r. NameSpans text.now r.0 input.now r.1.now) }
+    ensures shorter { IfOk result (λ r. length input.now ≡ length r.1.now + 1) }
+    ensures proper { IfOk result (λ r. AreProper text.now r.1.now) }
+    ensures stop { IfErr result (λ e. (e ≡ NoMemory) ⊎ ((leads a_name (terminals text.now input.now) ≡ false) × (e ≡ Refused false (length input.now)))) }
+{
+    match input {
+        [
+            Lexeme {
+                span,
+                what: Class::Name,
+            },
+            rest @ ..,
+        ] => {
+            let text = String::from_str(alloc, &text[span.from..span.to])?;
+            Ok((Name { text, span: *span }, rest))
+        }
+        _ => Err(Stop::Refused(false, input.len())),
+    }
+}
+
+/// Reads one name or more, with commas between.
+#[tactic(auto, using(crate::proofs::Moves::members_begin))]
+pub fn read_names<'t>(alloc: Global, text: &str, input: &'t [Lexeme]) -> Read<'t, Vec<Name>>
+    requires proper { AreProper text.now input.now }
+    ensures { ParsesPart result text.now (TokenPart a_name ∷ NamesTail ∷ []) (λ r. SomeNames (lexemes text.now) r.0.items) input.now (λ r. r.1.now) }
+{
+    let mut names = Vec::new(alloc);
+    let mut rest = input;
+    'names: loop {
+        let (name, after) = read_name(alloc, text, rest)?;
+        names.push(name)?;
+        let Some(further) = past(after, Class::Sign(Sign::Comma)) else {
+            return Ok((names, after));
+        };
+        rest = further;
+    }
 }

@@ -7,8 +7,7 @@ ghost use Rattle.kahn_syntax.specs.Grammar.{kind_terminal, role_words, taking_wo
 ghost use Rattle.kahn_syntax.specs.inner.Machine.{DeclarationsPart, DeclarationPart, ProcessPart, RolePart, GroupsPart, GroupPart, TakingPart, VariablesPart, a_kind, leads, starts, head_parts, declaration_rules};
 
 use crate::lexeme::{Class, Keyword, Lexeme, Sign};
-use crate::parser::cursor::{Read, Stop, expect, next, past};
-use crate::parser::names::{read_name, read_names};
+use crate::parser::cursor::{Read, Stop, expect, next, past, read_name, read_names};
 use crate::parser::statement::read_statements;
 use kahn_streams::{
     Declaration, Direction, Kind, Name, Parameter, Process, Role, Taking, Variable,
@@ -138,7 +137,7 @@ fn read_parameters<'t>(alloc: Global, text: &str, input: &'t [Lexeme]) -> Read<'
     let mut rest = input;
     'groups: loop {
         let (group, after) = read_group(alloc, text, rest)?;
-        add_parameters(&mut parameters, group.taking, group.names)?;
+        add_parameters(&mut parameters, group.0, group.1)?;
         let Some(further) = past(after, Class::Sign(Sign::Semicolon)) else {
             return Ok((parameters, after));
         };
@@ -146,26 +145,19 @@ fn read_parameters<'t>(alloc: Global, text: &str, input: &'t [Lexeme]) -> Read<'
     }
 }
 
-// Names of parameters that take the same.
-#[derive(Drop)]
-struct Group {
-    taking: Taking,
-    names: Vec<Name>,
-}
-
-fn read_group<'t>(alloc: Global, text: &str, input: &'t [Lexeme]) -> Read<'t, Group>
+// Reads names of parameters that take the same.
+fn read_group<'t>(alloc: Global, text: &str, input: &'t [Lexeme]) -> Read<'t, (Taking, Vec<Name>)>
     requires proper { AreProper text.now input.now }
-    ensures { ParsesPart result text.now (GroupPart ∷ []) (λ r. ParameterGroup (lexemes text.now) (group r.0.taking r.0.names.items)) input.now (λ r. r.1.now) }
+    ensures { ParsesPart result text.now (GroupPart ∷ []) (λ r. ParameterGroup (lexemes text.now) (group r.0.0 r.0.1.items)) input.now (λ r. r.1.now) }
 {
     let Some((kind, rest)) = next_kind(input) else {
         return Err(Stop::Refused(false, input.len()));
     };
     let (taking, rest) = read_taking(kind, rest);
     let (names, rest) = read_names(alloc, text, rest)?;
-    Ok((Group { taking, names }, rest))
+    Ok(((taking, names), rest))
 }
 
-// Reads what the parameters of a group of this kind take.
 fn read_taking(kind: Kind, input: &[Lexeme]) -> (Taking, &[Lexeme])
     ensures spans { (text : List ℕ) (xs : _) → Takes text (kind_terminal kind) xs input.now → TakesAll (lexemes text) (taking_words result.0 []) xs result.1.now }
     ensures proper { (text : List ℕ) → AreProper text input.now → AreProper text result.1.now }
@@ -193,7 +185,6 @@ fn add_parameters(
     Ok(())
 }
 
-// Reads the variables of a body: none or more.
 fn read_variables<'t>(alloc: Global, text: &str, input: &'t [Lexeme]) -> Read<'t, Vec<Variable>>
     requires proper { AreProper text.now input.now }
     ensures { ParsesPart result text.now (VariablesPart ∷ []) (λ r. Variables (lexemes text.now) variable_with r.0.items) input.now (λ r. r.1.now) }

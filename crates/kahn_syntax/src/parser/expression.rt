@@ -1,16 +1,13 @@
 //! Expressions.
 
-ghost use Rattle.std.specs.Prelude.{◌≡◌, ℕ, ◌≤◌, ◌+◌, length, Some};
+ghost use Rattle.std.specs.Prelude.{◌≡◌, ℕ, ◌≤◌, ◌+◌, length, Some, List, ◌∷◌, false, IfSome, IfNone};
+ghost use Rattle.kahn_syntax.specs.{Texts.AreProper, Texts.IsPast, inner.Reads.ParsesBefore, inner.Reads.ParsesExpression, inner.Machine.a_word, inner.Machine.is_alone, inner.Machine.class_of, inner.Machine.denials, inner.Machine.factors, inner.Machine.rung_of, inner.Machine.tighter, inner.Machine.whole, Grammar.word, Grammar.operator_terminal, Grammar.rank, Texts.terminals, inner.Machine.at, inner.Machine.leads, inner.Machine.operator_rules, inner.Machine.starts};
 ghost use Rattle.kahn_syntax.specs.declared.lexeme.Keyword.TheVariants as keyword;
 ghost use Rattle.kahn_syntax.specs.declared.lexeme.Class.TheVariants as class;
-ghost use Rattle.kahn_syntax.specs.{Texts.First, Texts.AreProper, Texts.IsPast, inner.Reads.ParsesBefore, inner.Reads.ParsesExpression, inner.Machine.a_word, inner.Machine.class_of, inner.Machine.denials, inner.Machine.factors, inner.Machine.relations, inner.Machine.rung_of, inner.Machine.tighter, inner.Machine.whole};
 
 use crate::lexeme::{Class, Keyword, Lexeme, Sign};
-use crate::parser::build::{compared, made};
-use crate::parser::cursor::{Read, Stop, deeper, expect, next, past};
-use crate::parser::names::read_name;
-use crate::parser::operator::{Level, next_comparison, next_not, next_operator};
-use kahn_streams::{Expression, Form, Operand};
+use crate::parser::cursor::{Read, Stop, deeper, expect, made, next, past, read_name};
+use kahn_streams::{Expression, Form, Operand, Operator};
 use std::alloc::Global;
 
 /// Reads an expression.
@@ -54,7 +51,7 @@ pub fn read_before<'t>(
     Ok((expression, rest))
 }
 
-// Reads operands with operators of this level between.
+// Reads operands with operators of this level between: comparisons don't follow one another.
 #[cycle(expression)]
 fn read_level<'t>(
     alloc: Global,
@@ -75,6 +72,9 @@ fn read_level<'t>(
             operator,
             expression: Box::into_inner(expression),
         })?;
+        if is_alone(level) {
+            return made(alloc, input, left, Form::Level(first, further));
+        }
         rest = left;
     }
     if further.is_empty() {
@@ -98,6 +98,7 @@ fn read_operand<'t>(
     match level {
         Level::Or => read_level(alloc, text, input, Level::And, depth),
         Level::And => read_denial(alloc, text, input, depth),
+        Level::Relation => read_level(alloc, text, input, Level::Sum, depth),
         Level::Sum => read_level(alloc, text, input, Level::Term, depth),
         Level::Term => read_factor(alloc, text, input, depth),
     }
@@ -116,32 +117,11 @@ fn read_denial<'t>(
     ensures { ParsesExpression result text.now depth denials (λ r. r.0.value) input.now (λ r. r.1.now) }
 {
     let Some(rest) = next_not(input) else {
-        return read_relation(alloc, text, input, depth);
+        return read_level(alloc, text, input, Level::Relation, depth);
     };
     let inner = deeper(input, depth)?;
     let (operand, rest) = read_denial(alloc, text, rest, inner)?;
     made(alloc, input, rest, Form::Not(operand))
-}
-
-// Reads a sum, or two with a comparison between.
-#[cycle(expression)]
-fn read_relation<'t>(
-    alloc: Global,
-    text: &str,
-    input: &'t [Lexeme],
-    depth: usize,
-) -> Read<'t, Box<Expression>>
-    requires depth { depth ≤ 64 }
-    requires proper { AreProper text.now input.now }
-    ensures { ParsesExpression result text.now depth relations (λ r. r.0.value) input.now (λ r. r.1.now) }
-{
-    let (left, rest) = read_level(alloc, text, input, Level::Sum, depth)?;
-    let Some((operator, after)) = next_comparison(rest) else {
-        return Ok((left, rest));
-    };
-    let (right, rest) = read_level(alloc, text, after, Level::Sum, depth)?;
-    let form = compared(alloc, left, operator, right)?;
-    made(alloc, input, rest, form)
 }
 
 // Reads an operand that no operator splits.
@@ -160,7 +140,12 @@ fn read_factor<'t>(
         Some((Class::Number(number), rest)) => made(alloc, input, rest, Form::Number(number)),
         Some((Class::Word(Keyword::True), rest)) => made(alloc, input, rest, Form::Logical(true)),
         Some((Class::Word(Keyword::False), rest)) => made(alloc, input, rest, Form::Logical(false)),
-        Some((Class::Word(Keyword::Wait), rest)) => read_wait(alloc, text, input, rest),
+        Some((Class::Word(Keyword::Wait), rest)) => {
+            let rest = expect(rest, Class::Sign(Sign::Open))?;
+            let (name, rest) = read_name(alloc, text, rest)?;
+            let rest = expect(rest, Class::Sign(Sign::Close))?;
+            made(alloc, input, rest, Form::Wait(name))
+        }
         Some((Class::Sign(Sign::Minus), rest)) => {
             let inner = deeper(input, depth)?;
             let (operand, rest) = read_factor(alloc, text, rest, inner)?;
@@ -180,21 +165,62 @@ fn read_factor<'t>(
     }
 }
 
-// Reads a channel in brackets, after the `wait` that the input begins with.
-fn read_wait<'t>(
-    alloc: Global,
-    text: &str,
-    input: &'t [Lexeme],
-    rest: &'t [Lexeme],
-) -> Read<'t, Box<Expression>>
-    requires first { First (class.Word keyword.Wait) input.now rest.now }
-    requires proper { AreProper text.now rest.now }
-    requires follows { length input.now ≡ length rest.now + 1 }
-    requires passed { IsPast input.now rest.now }
-    ensures { (depth : ℕ) → depth ≤ 64 → ParsesExpression result text.now depth factors (λ r. r.0.value) input.now (λ r. r.1.now) }
+/// A level of operators with two operands. From `Or` to `Term` they bind ever tighter.
+#[derive(Clone, Copy)]
+pub enum Level {
+    Or,
+    And,
+    Relation,
+    Sum,
+    Term,
+}
+
+fn is_alone(level: Level) -> bool
+    ensures { result ≡ is_alone level }
 {
-    let rest = expect(rest, Class::Sign(Sign::Open))?;
-    let (name, rest) = read_name(alloc, text, rest)?;
-    let rest = expect(rest, Class::Sign(Sign::Close))?;
-    made(alloc, input, rest, Form::Wait(name))
+    matches!(level, Level::Relation)
+}
+
+/// Returns the operator of this level that comes first, and the lexemes after it.
+pub fn next_operator(input: &[Lexeme], level: Level) -> Option<(Operator, &[Lexeme])>
+    ensures first { IfSome result (λ r. (text : List ℕ) → terminals text input.now ≡ operator_terminal r.0 ∷ terminals text r.1.now) }
+    ensures passed { IfSome result (λ r. IsPast input.now r.1.now) }
+    ensures ranked { IfSome result (λ r. rank r.0 ≡ at (rung_of level)) }
+    ensures proper { IfSome result (λ r. (text : List ℕ) → AreProper text input.now → AreProper text r.1.now) }
+    ensures lacks { IfNone result ((text : List ℕ) → starts (operator_rules (rung_of level)) (terminals text input.now) ≡ false) }
+    ensures shorter { IfSome result (λ r. length input.now ≡ length r.1.now + 1) }
+{
+    let (class, rest) = next(input)?;
+    let operator = match (level, class) {
+        (Level::Or, Class::Word(Keyword::Or)) => Operator::Or,
+        (Level::And, Class::Word(Keyword::And)) => Operator::And,
+        (Level::Relation, Class::Sign(Sign::Equal)) => Operator::Equal,
+        (Level::Relation, Class::Sign(Sign::Unequal)) => Operator::Unequal,
+        (Level::Relation, Class::Sign(Sign::Less)) => Operator::Less,
+        (Level::Relation, Class::Sign(Sign::AtMost)) => Operator::AtMost,
+        (Level::Relation, Class::Sign(Sign::Greater)) => Operator::Greater,
+        (Level::Relation, Class::Sign(Sign::AtLeast)) => Operator::AtLeast,
+        (Level::Sum, Class::Sign(Sign::Plus)) => Operator::Add,
+        (Level::Sum, Class::Sign(Sign::Minus)) => Operator::Subtract,
+        (Level::Term, Class::Sign(Sign::Times)) => Operator::Multiply,
+        (Level::Term, Class::Word(Keyword::Div)) => Operator::Divide,
+        (Level::Term, Class::Word(Keyword::Mod)) => Operator::Remainder,
+        _ => return None,
+    };
+    Some((operator, rest))
+}
+
+/// Returns the lexemes after `not`, if it comes first in one of its two forms.
+pub fn next_not(input: &[Lexeme]) -> Option<&[Lexeme]>
+    ensures first { IfSome result (λ r. (text : List ℕ) → terminals text input.now ≡ word keyword.Not ∷ terminals text r.now) }
+    ensures passed { IfSome result (λ r. IsPast input.now r.now) }
+    ensures proper { IfSome result (λ r. (text : List ℕ) → AreProper text input.now → AreProper text r.now) }
+    ensures lacks { IfNone result ((text : List ℕ) → leads (a_word keyword.Not) (terminals text input.now) ≡ false) }
+    ensures shorter { IfSome result (λ r. length input.now ≡ length r.now + 1) }
+{
+    match next(input)? {
+        (Class::Word(Keyword::Not), rest) => Some(rest),
+        (Class::Sign(Sign::Not), rest) => Some(rest),
+        _ => None,
+    }
 }

@@ -18,20 +18,20 @@ returns g c =
     let same : map string_bytes c.as_slice.result.now ≡ words = ap (map string_bytes) c.as_slice.ensures.value ∙ c.in_ok-words.ensures in
     let matches = subst (λ (ws : List Text). HasMatchesOf (app_of c.in_ok-live_command.field-0) ws c.in_ok-matches.matches) same c.in_ok-matches.ensures.matches in
     let f = found live_app refl refl refl c.in_ok-live_command.field-0 c.in_ok-matches.matches words c.in_ok-matches.ensures.parsed matches is in
-    let set = c.in_ok-config_of.ensures in
+    let set = c.in_ok-set.ensures in
     let quantum = number f (codes "quantum") 1 1000000 1000 (refl, tt) 113 refl ((λ e. omega arith), (λ e. omega arith), (λ e. omega arith)) _ set.quantum (omega arith) (omega arith) in
     let step = number f (codes "step") 1 281474976710655 1000000 (refl, tt) 115 refl ((λ e. omega arith), (λ e. omega arith), (λ e. omega arith)) _ set.bound (omega arith) (omega arith) in
     let most = step.2 in (
       record {
-        program = c.in_ok-file_copied.ensures ∙ ap (option_map file_named) c.get_str-4.ensures ∙ file f (codes "PROGRAM");
+        program = c.in_ok-file_copied.ensures ∙ ap (option_map file_named) c.get_str-2.ensures ∙ file f (codes "PROGRAM");
         watch = set.watch ∙ text f (codes "watch");
         workers = refl;
         quantum = quantum.0;
         step = step.0;
-        keep_going = c.was_given.ensures ∙ ap was_given c.get_str-5.ensures ∙ named f (codes "keep-going");
-        strict = c.was_given-2.ensures ∙ ap was_given c.get_str-6.ensures ∙ named f (codes "strict");
+        keep_going = c.was_given.ensures ∙ ap was_given c.get_str-3.ensures ∙ named f (codes "keep-going");
+        strict = c.was_given-2.ensures ∙ ap was_given c.get_str-4.ensures ∙ named f (codes "strict");
         at_end = c.in_ok-lines_at_end.ensures ∙ ap (λ rs. map (set_line (input_named c.in_ok-plain.plain)) (row_texts (codes "at-end") rs)) f.rows;
-        plain = c.in_ok-plain.ensures ∙ given c.get_str.ensures c.get_str-2.ensures c.get_str-3.ensures ∙ given (text f (codes "in")) (text f (codes "out")) (text f (codes "plain"));
+        plain = c.in_ok-plain.ensures ∙ given c.get_str-inputs.ensures c.get_str-outputs.ensures c.get_str.ensures ∙ given (text f (codes "in")) (text f (codes "out")) (text f (codes "plain"));
         in_range = (omega arith, omega arith, quantum.1, quantum.2, omega arith);
       },
       ap₂ fault_of (sym is) (sym same) ∙ c.in_ok-matches.ensures.kinds (ap is_simple_and_free is),

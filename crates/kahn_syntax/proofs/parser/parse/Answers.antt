@@ -1,4 +1,4 @@
-use Rattle.kahn_syntax.proofs.Parsing.{AreLexemes, IfErr-weaker, Lexeme, List, ProgramTree, Spells, SyntaxFault, length, nesting, same_lexemes, subst, sym, terminals, ℕ, ◌≡◌, ◌≤◌}
+use Rattle.kahn_syntax.proofs.Parsing.{AreLexemes, Lexeme, List, ProgramTree, Spells, SyntaxFault, length, nesting, same_lexemes, subst, sym, terminals, ℕ, ◌≡◌, ◌≤◌}
 use Rattle.kahn_syntax.specs.declared.fault.SyntaxFault.TheVariants.{NoMemory}
 use Rattle.kahn_syntax.proofs.parser.parse.Goals as goal
 
@@ -7,10 +7,10 @@ found_of : (text : List ℕ) (ls : List Lexeme) (e : SyntaxFault) → AreLexemes
     (xs : List Lexeme) (t : ProgramTree) → AreLexemes text xs → Spells t (terminals text xs) → nesting t ≤ 64 → e ≡ NoMemory
 found_of text ls e a f xs t b s l = f t (subst (λ ys. Spells t (terminals text ys)) (same_lexemes text 0 (length text) xs ls b.1 a.1) s) l
 
-pub returns-in-Ok-clause-found : goal.returns-in-Ok-clause-found
-returns-in-Ok-clause-found c =
-    IfErr-weaker c.parse_lexemes.result
-    (λ e. (t : ProgramTree) → Spells t (terminals c.args.text.now c.deref.result.now) → nesting t ≤ 64 → e ≡ NoMemory)
-    (λ e. (xs : List Lexeme) (t : ProgramTree) → AreLexemes c.args.text.now xs → Spells t (terminals c.args.text.now xs) → nesting t ≤ 64 → e ≡ NoMemory)
-    (λ e h. found_of c.args.text.now c.deref.result.now e (subst (AreLexemes c.args.text.now) (sym c.deref.ensures.value) c.in-Ok.ensures.lexed) h)
-    c.parse_lexemes.ensures.found
+pub returns-in-Ok-clause-spells : goal.returns-in-Ok-clause-spells
+returns-in-Ok-clause-spells c =
+    (c.deref.result.now, subst (AreLexemes c.args.text.now) (sym c.deref.ensures.value) c.in_ok-lexemes.ensures.lexed, c.in-Ok.ensures.read.1)
+
+pub returns-clause-found : goal.returns-clause-found
+returns-clause-found c =
+    found_of c.args.text.now c.deref-in-Err.result.now c.fault_of.result (subst (AreLexemes c.args.text.now) (sym c.deref-in-Err.ensures.value) c.in_ok-lexemes.ensures.lexed) c.fault_of.ensures.found

@@ -22,7 +22,7 @@ groups-preserved c =
     let a = c.in_ok-group.after.now in
     let o = c.groups.rest.now in
     let g = c.in_ok-group.group in
-    let s = subst (λ ps. SomeParametersSpan T ps i a) (sym c.in_ok-add_parameters.ensures.items) (c.groups.invariant.spans (group g.taking g.names.items) a c.in_ok-group.ensures.spans) in
+    let s = subst (λ ps. SomeParametersSpan T ps i a) (sym c.in_ok-add_parameters.ensures.items) (c.groups.invariant.spans (group g.0 g.1.items) a c.in_ok-group.ensures.spans) in
     let j = c.in-Some.further.now in
     record {
       spans = λ h r p. parameters_next T _ _ h i a j r refl s (one_lexeme T (sign Semicolon) a j c.in-Some.ensures.passed (c.in-Some.ensures.first.1 T)) p;
@@ -46,7 +46,7 @@ returns-in_default c =
     let a = c.in_ok-group.after.now in
     let o = c.groups.rest.now in
     let g = c.in_ok-group.group in
-    let s = subst (λ ps. SomeParametersSpan T ps i a) (sym c.in_ok-add_parameters.ensures.items) (c.groups.invariant.spans (group g.taking g.names.items) a c.in_ok-group.ensures.spans) in
+    let s = subst (λ ps. SomeParametersSpan T ps i a) (sym c.in_ok-add_parameters.ensures.items) (c.groups.invariant.spans (group g.0 g.1.items) a c.in_ok-group.ensures.spans) in
     record {
       spans = some_are_parameters T _ i a s;
       shorter = omega (arith, c.in_ok-group.ensures.shorter, c.groups.invariant.shorter);

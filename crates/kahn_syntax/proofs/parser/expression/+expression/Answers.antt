@@ -1,4 +1,4 @@
-use Rattle.kahn_syntax.proofs.Parsing.{made_one, nothing, Close, Else, ExpressionPart, ExpressionRead, ExpressionSpans, False, FitsLevel, FormedOperands, If, IsUnsigned, LevelPart, Minus, NameClass, NotWord, Number, Open, OperandsSpan, OperatorsPart, SignClass, Takes, Then, TokenPart, True, Word, a_sign, a_word, ap, arith, at, call, call_stops, choice_parts, compared_fits, comparison, deep, denials, drop, stopped, expected, expression_nesting, expression_tree, factor_rules, factors, false, first_of, form_tree, formed_next, hidden-the_row-Operand-0, joined_made, joined_nesting, level_chain, level_ends, level_fits, made, name, name_of, no_operand, no_operands, number_fits, one, one_lexeme, only_memory, opened, opens_chain, opens_denial, opens_whole, operands_made, operands_nesting, operands_nesting_next, operands_next, operands_of, operands_row, operands_row_spans, operator_more, operator_terminal, ors, refl, refused, relations, rules, rung_of, sign, starts, subst, sums, sym, terminals, then, then_stops, tighter, to_z-of_z, unexpected, vec_len, w64, whole, word, [], ◌∙◌, ◌∷◌, ◌≡◌}
+use Rattle.kahn_syntax.proofs.Parsing.{made_one, nothing, Close, Else, ExpressionPart, ExpressionRead, ExpressionSpans, False, FitsLevel, FormedOperands, If, IsUnsigned, LevelPart, Minus, NameClass, NotWord, Number, Open, OperandsSpan, OperatorsPart, SignClass, Takes, Then, TokenPart, True, Word, a_sign, a_word, ap, arith, at, call, call_stops, choice_parts, deep, denials, drop, stopped, expected, expression_nesting, expression_tree, factor_rules, factors, false, first_of, form_tree, formed_next, hidden-the_row-Operand-0, joined_made, joined_nesting, level_chain, level_ends, level_fits, made, name, name_of, no_operand, no_operands, number_fits, one, one_lexeme, only_memory, opened, opens_chain, opens_denial, opens_whole, operands_made, operands_nesting, operands_nesting_next, operands_next, operands_of, operands_row, operands_row_spans, operator_next, after_alone, after_levels, after_more, after_operator, is_alone, alone_fits, Moves, ◌++◌, true≢false, operator_terminal, ors, refl, refused, relations, rules, rung_of, sign, starts, subst, sums, sym, terminals, then, then_stops, tighter, to_z-of_z, unexpected, vec_len, w64, whole, word, [], ◌∙◌, ◌∷◌, ◌≡◌, Wait, a_name, no_name, token}
 use Rattle.kahn_syntax.specs.Grammar.{numeral}
 use Rattle.std.specs.Prelude.{◌==◌, length, true}
 use Rattle.kahn_syntax.proofs.parser.expression.+expression.Goals as goal
@@ -10,13 +10,18 @@ pub read_level-read_operand-requires-in-Some : goal.read_level-read_operand-requ
 read_level-read_operand-requires-in-Some t c = (omega (arith, c.requires.1.0, c.in-Some.ensures.shorter, c.operands.invariant.shorter), (c.requires.1.1.0, c.in-Some.ensures.proper c.args.text.now c.operands.invariant.proper))
 
 pub read_level-returns-in_err-expression : goal.read_level-returns-in_err-expression
-read_level-returns-in_err-expression t c = stopped _ _ c.from_residual-in_err-expression.result c.from_residual-in_err-expression.ensures.1 (then_stops _ (then (c.operands.invariant.reads) (operator_more c.args.text.now c.args.depth c.args.level c.in-Some.operator [] c.operands.rest.now c.in-Some.after.now (λ s l. omega (arith, l, c.requires.1.1.0)) c.in-Some.ensures.ranked (c.in-Some.ensures.first c.args.text.now))) (call_stops c.args.text.now c.args.depth c.args.depth (ExpressionPart (tighter (rung_of c.args.level)) ∷ []) (OperatorsPart (rung_of c.args.level) ∷ []) c.in-Some.after.now _ (λ s l. omega (arith, l, c.requires.1.1.0)) c.in_err-expression.ensures))
+read_level-returns-in_err-expression t c =
+    let T = c.args.text.now in let v = c.args.level in
+    stopped _ _ c.from_residual-in_err-expression.result c.from_residual-in_err-expression.ensures.1 (then_stops _
+    (then c.operands.invariant.reads (operator_next T c.args.depth v c.in-Some.operator c.operands.rest.now c.in-Some.after.now c.requires.1.1.0 c.in-Some.ensures.ranked (c.in-Some.ensures.first T)))
+    (call_stops T c.args.depth c.args.depth (ExpressionPart (tighter (rung_of v)) ∷ []) (after_operator v) c.in-Some.after.now _ (after_levels v c.args.depth) c.in_err-expression.ensures))
 
 pub read_level-operands-init : goal.read_level-operands-init
 read_level-operands-init t c =
     record {
       spans = (c.in_ok-first.rest.now, c.in_ok-first.ensures.spans, subst (λ os. OperandsSpan c.args.text.now os c.in_ok-first.rest.now c.in_ok-first.rest.now) (sym c.new-further.ensures.items) refl);
       formed = subst (λ os. FormedOperands (at (rung_of c.args.level)) (operands_of os)) (sym c.new-further.ensures.items) tt;
+      single = λ e. c.new-further.ensures.items;
       nesting = omega (arith, ap (λ os. operands_nesting (operands_of os)) c.new-further.ensures.items, c.in_ok-first.ensures.nesting);
       shorter = c.in_ok-first.ensures.shorter;
       proper = c.in_ok-first.ensures.proper;
@@ -25,14 +30,19 @@ read_level-operands-init t c =
 
 pub read_level-operands-preserved : goal.read_level-operands-preserved
 read_level-operands-preserved t c =
-    let v = subst (λ e. ExpressionRead c.args.text.now c.args.depth (tighter (rung_of c.args.level)) e c.in-Some.after.now c.in_ok-expression.left.now) (sym c.into_inner.ensures) c.in_ok-expression.ensures in
+    let w = subst (λ e. ExpressionRead c.args.text.now c.args.depth (tighter (rung_of c.args.level)) e c.in-Some.after.now c.in_ok-expression.left.now) (sym c.into_inner.ensures) c.in_ok-expression.ensures in
+    let T = c.args.text.now in let v = c.args.level in
+    let more : is_alone v ≡ false = sym c.is_alone.ensures ∙ c.if-is_alone.false in
     record {
-      spans = (c.operands.invariant.spans.0, c.operands.invariant.spans.1, operands_next c.args.text.now _ _ _ _ c.operands.rest.now c.in-Some.after.now c.in_ok-expression.left.now c.in_ok-push.ensures.items c.operands.invariant.spans.2 (one_lexeme c.args.text.now (operator_terminal c.in-Some.operator) c.operands.rest.now c.in-Some.after.now c.in-Some.ensures.passed (c.in-Some.ensures.first c.args.text.now)) v.spans);
-      formed = formed_next c.args.level _ _ _ c.in_ok-push.ensures.items c.operands.invariant.formed c.in-Some.ensures.ranked v.formed;
-      nesting = operands_nesting_next _ (expression_tree c.in_ok-first.first.value) _ _ _ c.in_ok-push.ensures.items c.operands.invariant.nesting v.nesting;
-      shorter = omega (arith, c.in-Some.ensures.shorter, v.shorter, c.operands.invariant.shorter);
-      proper = v.proper;
-      reads = (then (then (c.operands.invariant.reads) (operator_more c.args.text.now c.args.depth c.args.level c.in-Some.operator [] c.operands.rest.now c.in-Some.after.now (λ s l. omega (arith, l, c.requires.1.1.0)) c.in-Some.ensures.ranked (c.in-Some.ensures.first c.args.text.now))) (call c.args.text.now c.args.depth c.args.depth (ExpressionPart (tighter (rung_of c.args.level)) ∷ []) (OperatorsPart (rung_of c.args.level) ∷ []) c.in-Some.after.now c.in_ok-expression.left.now (λ s l. omega (arith, l, c.requires.1.1.0)) v.reads));
+      spans = (c.operands.invariant.spans.0, c.operands.invariant.spans.1, operands_next T _ _ _ _ c.operands.rest.now c.in-Some.after.now c.in_ok-expression.left.now c.in_ok-push.ensures.items c.operands.invariant.spans.2 (one_lexeme T (operator_terminal c.in-Some.operator) c.operands.rest.now c.in-Some.after.now c.in-Some.ensures.passed (c.in-Some.ensures.first T)) w.spans);
+      formed = formed_next v _ _ _ c.in_ok-push.ensures.items c.operands.invariant.formed c.in-Some.ensures.ranked w.formed;
+      single = λ e. absurd (true≢false (sym e ∙ more));
+      nesting = operands_nesting_next _ (expression_tree c.in_ok-first.first.value) _ _ _ c.in_ok-push.ensures.items c.operands.invariant.nesting w.nesting;
+      shorter = omega (arith, c.in-Some.ensures.shorter, w.shorter, c.operands.invariant.shorter);
+      proper = w.proper;
+      reads = subst (λ ps. Moves T c.args.depth (ExpressionPart (rung_of v) ∷ []) ps c.args.input.now c.in_ok-expression.left.now) (after_more v more) (then
+          (then c.operands.invariant.reads (operator_next T c.args.depth v c.in-Some.operator c.operands.rest.now c.in-Some.after.now c.requires.1.1.0 c.in-Some.ensures.ranked (c.in-Some.ensures.first T)))
+          (call T c.args.depth c.args.depth (ExpressionPart (tighter (rung_of v)) ∷ []) (after_operator v) c.in-Some.after.now c.in_ok-expression.left.now (after_levels v c.args.depth) w.reads));
     }
 
 pub read_denial-returns-in_err-inner : goal.read_denial-returns-in_err-inner
@@ -41,23 +51,11 @@ read_denial-returns-in_err-inner t c = stopped _ _ c.from_residual.result c.from
 pub read_denial-read_denial-requires : goal.read_denial-read_denial-requires
 read_denial-read_denial-requires t c = (omega (arith, c.requires.1.0, c.in-Some.ensures.shorter), (c.in_ok-inner.ensures.deeper.1, c.in-Some.ensures.proper c.args.text.now c.requires.1.1.1))
 
-pub read_relation-returns-in_err-left : goal.read_relation-returns-in_err-left
-read_relation-returns-in_err-left t c = stopped _ _ c.from_residual.result c.from_residual.ensures.1 (then_stops _ (opens_chain c.args.text.now c.args.depth relations [] c.args.input.now tt) (call_stops c.args.text.now c.args.depth c.args.depth (ExpressionPart sums ∷ []) (OperatorsPart relations ∷ []) c.args.input.now _ (λ s l. omega (arith, l, c.requires.1.1.0)) c.in_err-left.ensures))
-
-pub read_relation-read_level-requires-2 : goal.read_relation-read_level-requires-2
-read_relation-read_level-requires-2 t c = (omega (arith, c.requires.1.0, c.in-Some.ensures.shorter, c.in_ok-left.ensures.shorter), (c.requires.1.1.0, c.in-Some.ensures.proper c.args.text.now c.in_ok-left.ensures.proper))
-
-pub read_relation-returns-in_err-right : goal.read_relation-returns-in_err-right
-read_relation-returns-in_err-right t c = stopped _ _ c.from_residual-in_err-right.result c.from_residual-in_err-right.ensures.1 (then_stops _ (then (then (opens_chain c.args.text.now c.args.depth relations [] c.args.input.now tt) (call c.args.text.now c.args.depth c.args.depth (ExpressionPart sums ∷ []) (OperatorsPart relations ∷ []) c.args.input.now c.in_ok-left.rest.now (λ s l. omega (arith, l, c.requires.1.1.0)) c.in_ok-left.ensures.reads)) (comparison c.args.text.now c.args.depth c.in-Some.operator [] c.in_ok-left.rest.now c.in-Some.after.now (λ s l. omega (arith, l, c.requires.1.1.0)) c.in-Some.ensures.ranked (c.in-Some.ensures.first c.args.text.now))) (call_stops c.args.text.now c.args.depth c.args.depth (ExpressionPart sums ∷ []) ([]) c.in-Some.after.now _ (λ s l. omega (arith, l, c.requires.1.1.0)) c.in_err-right.ensures))
-
 pub read_expression-returns-in_err-inner : goal.read_expression-returns-in_err-inner
 read_expression-returns-in_err-inner t c = stopped _ _ c.from_residual.result c.from_residual.ensures.1 (deep c.args.text.now c.args.depth (ExpressionPart whole) ([]) (ExpressionPart whole ∷ TokenPart (a_word Then) ∷ ExpressionPart whole ∷ TokenPart (a_word Else) ∷ ExpressionPart whole ∷ LevelPart ∷ []) (word If) c.args.input.now c.in-Some.rest.now _ (λ s l. omega (arith, l, c.in_err-inner.ensures.stop.0)) (λ s. refl) (c.in-Some.ensures.first.1 c.args.text.now) c.in_err-inner.ensures.stop.1)
 
-pub read_factor-read_wait-requires-clause-proper : goal.read_factor-read_wait-requires-clause-proper
-read_factor-read_wait-requires-clause-proper t c = c.in-Some-Word-Wait-default.ensures.proper c.args.text.now c.requires.1.1.1
-
 pub read_factor-returns-in_err-inner-in-Some-Sign-Minus-default : goal.read_factor-returns-in_err-inner-in-Some-Sign-Minus-default
-read_factor-returns-in_err-inner-in-Some-Sign-Minus-default t c = stopped _ _ c.from_residual.result c.from_residual.ensures.1 (deep c.args.text.now c.args.depth (ExpressionPart factors) ([]) (ExpressionPart factors ∷ LevelPart ∷ []) (sign Minus) c.args.input.now c.in-Some-Sign-Minus-default.rest.now _ (λ s l. omega (arith, l, c.in_err-inner-in-Some-Sign-Minus-default.ensures.stop.0)) (λ s. refl) ((first_of _ (SignClass Minus) c.args.input.now c.in-Some-Sign-Minus-default.rest.now (c.in-Some-Sign-Minus-default.field-0-0-is ∙ ap SignClass c.in-Some-Sign-Minus-default.field-0-0-0-is) c.in-Some-Sign-Minus-default.ensures.first.0).1 c.args.text.now) c.in_err-inner-in-Some-Sign-Minus-default.ensures.stop.1)
+read_factor-returns-in_err-inner-in-Some-Sign-Minus-default t c = stopped _ _ c.from_residual-in_err-inner-in-Some-Sign-Minus-default.result c.from_residual-in_err-inner-in-Some-Sign-Minus-default.ensures.1 (deep c.args.text.now c.args.depth (ExpressionPart factors) ([]) (ExpressionPart factors ∷ LevelPart ∷ []) (sign Minus) c.args.input.now c.in-Some-Sign-Minus-default.rest.now _ (λ s l. omega (arith, l, c.in_err-inner-in-Some-Sign-Minus-default.ensures.stop.0)) (λ s. refl) ((first_of _ (SignClass Minus) c.args.input.now c.in-Some-Sign-Minus-default.rest.now (c.in-Some-Sign-Minus-default.field-0-0-is ∙ ap SignClass c.in-Some-Sign-Minus-default.field-0-0-0-is) c.in-Some-Sign-Minus-default.ensures.first.0).1 c.args.text.now) c.in_err-inner-in-Some-Sign-Minus-default.ensures.stop.1)
 
 pub read_factor-read_factor-requires : goal.read_factor-read_factor-requires
 read_factor-read_factor-requires t c = (omega (arith, c.requires.1.0, c.in-Some-Sign-Minus-default.ensures.first.1), (c.in_ok-inner-in-Some-Sign-Minus-default.ensures.deeper.1, c.in-Some-Sign-Minus-default.ensures.proper c.args.text.now c.requires.1.1.1))
@@ -151,22 +149,7 @@ read_before-returns t c =
 
 pub read_denial-returns-in_default : goal.read_denial-returns-in_default
 read_denial-returns-in_default t c =
-    opened c.args.text.now c.args.depth denials relations c.args.input.now (omega arith) (opens_denial c.args.text.now c.args.depth [] c.args.input.now (c.in_default.ensures.lacks c.args.text.now)) c.read_relation.result (λ x. x.0.value) (λ x. x.1.now) c.read_relation.ensures
-
-pub read_relation-returns-in_default : goal.read_relation-returns-in_default
-read_relation-returns-in_default t c =
-    record {
-      spans = c.in_ok-left.ensures.spans;
-      formed = (omega (arith, c.in_ok-left.ensures.formed.0), c.in_ok-left.ensures.formed.1);
-      nesting = c.in_ok-left.ensures.nesting;
-      shorter = c.in_ok-left.ensures.shorter;
-      proper = c.in_ok-left.ensures.proper;
-      reads = (then (then (opens_chain c.args.text.now c.args.depth relations [] c.args.input.now tt) (call c.args.text.now c.args.depth c.args.depth (ExpressionPart sums ∷ []) (OperatorsPart relations ∷ []) c.args.input.now c.in_ok-left.rest.now (λ s l. omega (arith, l, c.requires.1.1.0)) c.in_ok-left.ensures.reads)) (nothing c.args.text.now c.args.depth (OperatorsPart relations) [] c.in_ok-left.rest.now refl (c.in_default.ensures.lacks c.args.text.now)));
-    }
-
-pub read_factor-returns-in-Some-Word-Wait-default : goal.read_factor-returns-in-Some-Word-Wait-default
-read_factor-returns-in-Some-Word-Wait-default t c =
-    c.read_wait.ensures c.args.depth c.requires.1.1.0
+    opened c.args.text.now c.args.depth denials relations c.args.input.now (omega arith) (opens_denial c.args.text.now c.args.depth [] c.args.input.now (c.in_default.ensures.lacks c.args.text.now)) c.read_level.result (λ x. x.0.value) (λ x. x.1.now) c.read_level.ensures
 
 pub read_factor-returns-in_default : goal.read_factor-returns-in_default
 read_factor-returns-in_default t c =
@@ -221,23 +204,6 @@ read_denial-returns t c =
     })
     c.made.result (λ x. x.0.value) (λ x. x.1.now) c.made.ensures
 
-pub read_relation-returns : goal.read_relation-returns
-read_relation-returns t c =
-    let T = c.args.text.now in
-    made T c.args.depth relations _ c.args.input.now c.in_ok-right.rest.now (λ at h. record {
-      spans = (
-        h,
-        c.in_ok-form.ensures.spans T c.args.input.now c.in_ok-left.rest.now c.in-Some.after.now c.in_ok-right.rest.now c.in_ok-left.ensures.spans
-            (one_lexeme T (operator_terminal c.in-Some.operator) c.in_ok-left.rest.now c.in-Some.after.now c.in-Some.ensures.passed (c.in-Some.ensures.first T)) c.in_ok-right.ensures.spans,
-      );
-      formed = subst (FitsLevel 4) (sym c.in_ok-form.ensures.built) (compared_fits c.in-Some.operator _ _ c.in-Some.ensures.ranked c.in_ok-left.ensures.formed c.in_ok-right.ensures.formed);
-      nesting = omega (arith, ap expression_nesting c.in_ok-form.ensures.built, c.in_ok-left.ensures.nesting, c.in_ok-right.ensures.nesting);
-      shorter = omega (arith, c.in-Some.ensures.shorter, c.in_ok-left.ensures.shorter, c.in_ok-right.ensures.shorter);
-      proper = c.in_ok-right.ensures.proper;
-      reads = (then (then (then (opens_chain c.args.text.now c.args.depth relations [] c.args.input.now tt) (call c.args.text.now c.args.depth c.args.depth (ExpressionPart sums ∷ []) (OperatorsPart relations ∷ []) c.args.input.now c.in_ok-left.rest.now (λ s l. omega (arith, l, c.requires.1.1.0)) c.in_ok-left.ensures.reads)) (comparison c.args.text.now c.args.depth c.in-Some.operator [] c.in_ok-left.rest.now c.in-Some.after.now (λ s l. omega (arith, l, c.requires.1.1.0)) c.in-Some.ensures.ranked (c.in-Some.ensures.first c.args.text.now))) (call c.args.text.now c.args.depth c.args.depth (ExpressionPart sums ∷ []) ([]) c.in-Some.after.now c.in_ok-right.rest.now (λ s l. omega (arith, l, c.requires.1.1.0)) c.in_ok-right.ensures.reads));
-    })
-    c.made.result (λ x. x.0.value) (λ x. x.1.now) c.made.ensures
-
 pub read_level-returns-then-is_empty : goal.read_level-returns-then-is_empty
 read_level-returns-then-is_empty t c =
     let none : length c.operands.further.items ≡ 0 = search rules in
@@ -245,7 +211,7 @@ read_level-returns-then-is_empty t c =
     let i = c.operands.invariant in
     record {
       spans = subst (ExpressionSpans T c.in_ok-first.first.value c.args.input.now) (no_operands T c.operands.further.items i.spans.0 c.operands.rest.now none i.spans.2) i.spans.1;
-      formed = level_fits c.args.level _ no_operand c.in_ok-first.ensures.formed tt;
+      formed = level_fits c.args.level _ no_operand (λ a. refl) c.in_ok-first.ensures.formed tt;
       nesting = c.in_ok-first.ensures.nesting;
       shorter = i.shorter;
       proper = i.proper;
@@ -263,13 +229,13 @@ read_level-returns t c =
     (λ e. let t : c.is_empty.result ≡ true = c.is_empty.ensures ∙ ap (λ n. n == 0) (l ∙ ap length e) in cc (t, c.if-is_empty.false)) in
     made T c.args.depth (rung_of c.args.level) _ c.args.input.now c.operands.rest.now (λ span h. record {
       spans = (h, (i.spans.0, i.spans.1, operands_row_spans T further i.spans.0 c.operands.rest.now i.spans.2));
-      formed = subst (FitsLevel (at (rung_of c.args.level))) (sym m) (level_fits c.args.level _ _ c.in_ok-first.ensures.formed i.formed);
+      formed = subst (FitsLevel (at (rung_of c.args.level))) (sym m) (level_fits c.args.level _ _ (λ a. ap operands_of (i.single a)) c.in_ok-first.ensures.formed i.formed);
       nesting = omega (arith, ap expression_nesting m, joined_nesting (expression_tree first) (operands_of further.items), i.nesting);
       shorter = i.shorter;
       proper = i.proper;
       reads = then i.reads (nothing T c.args.depth (OperatorsPart (rung_of c.args.level)) [] c.operands.rest.now refl (c.in_default.ensures.lacks T));
     })
-    c.made.result (λ x. x.0.value) (λ x. x.1.now) c.made.ensures
+    c.made-2.result (λ x. x.0.value) (λ x. x.1.now) c.made-2.ensures
 
 pub read_factor-returns-in-Some-Number-default : goal.read_factor-returns-in-Some-Number-default
 read_factor-returns-in-Some-Number-default t c =
@@ -325,8 +291,62 @@ read_factor-returns-in_ok-name-in-Some-Name-default t c =
 pub read_level-returns-in_err-push : goal.read_level-returns-in_err-push
 read_level-returns-in_err-push t c = stopped _ _ c.from_residual-in_err-push.result c.from_residual-in_err-push.ensures.1 (λ s l. tt)
 
-pub read_relation-returns-in_err-form : goal.read_relation-returns-in_err-form
-read_relation-returns-in_err-form t c = stopped _ _ c.from_residual-in_err-form.result c.from_residual-in_err-form.ensures.1 (rw c.in_err-form.ensures.stop (λ s l. tt))
-
 pub read_level-operands-smaller : goal.read_level-operands-smaller
 read_level-operands-smaller t c = omega (arith, c.in-Some.ensures.shorter, c.in_ok-expression.ensures.shorter)
+
+pub read_factor-returns-in_err-rest-in-Some-Word-Wait-default : goal.read_factor-returns-in_err-rest-in-Some-Word-Wait-default
+read_factor-returns-in_err-rest-in-Some-Word-Wait-default t c = stopped _ _ c.from_residual.result c.from_residual.ensures.1 (then_stops _ (one c.args.text.now c.args.depth (ExpressionPart factors) ([]) (TokenPart (a_sign Open) ∷ TokenPart a_name ∷ TokenPart (a_sign Close) ∷ []) (word Wait) c.args.input.now c.in-Some-Word-Wait-default.rest.now (λ s l. omega (arith, l, c.requires.1.1.0)) (λ s. refl) ((first_of _ (Word Wait) c.args.input.now c.in-Some-Word-Wait-default.rest.now (c.in-Some-Word-Wait-default.field-0-0-is ∙ ap Word c.in-Some-Word-Wait-default.field-0-0-0-is) c.in-Some-Word-Wait-default.ensures.first.0).1 c.args.text.now)) (unexpected c.args.text.now c.args.depth (a_sign Open) (TokenPart a_name ∷ TokenPart (a_sign Close) ∷ []) (SignClass Open) c.in-Some-Word-Wait-default.rest.now _ refl c.in_err-rest-in-Some-Word-Wait-default.ensures.stop))
+
+pub read_factor-read_name-requires : goal.read_factor-read_name-requires
+read_factor-read_name-requires t c = record { proper = c.in_ok-rest-in-Some-Word-Wait-default.ensures.proper c.args.text.now (c.in-Some-Word-Wait-default.ensures.proper c.args.text.now c.requires.1.1.1) }
+
+pub read_factor-returns-in_err-name-in-Some-Word-Wait-default : goal.read_factor-returns-in_err-name-in-Some-Word-Wait-default
+read_factor-returns-in_err-name-in-Some-Word-Wait-default t c = stopped _ _ c.from_residual-in_err-name-in-Some-Word-Wait-default.result c.from_residual-in_err-name-in-Some-Word-Wait-default.ensures.1 (then_stops _ (then (one c.args.text.now c.args.depth (ExpressionPart factors) ([]) (TokenPart (a_sign Open) ∷ TokenPart a_name ∷ TokenPart (a_sign Close) ∷ []) (word Wait) c.args.input.now c.in-Some-Word-Wait-default.rest.now (λ s l. omega (arith, l, c.requires.1.1.0)) (λ s. refl) ((first_of _ (Word Wait) c.args.input.now c.in-Some-Word-Wait-default.rest.now (c.in-Some-Word-Wait-default.field-0-0-is ∙ ap Word c.in-Some-Word-Wait-default.field-0-0-0-is) c.in-Some-Word-Wait-default.ensures.first.0).1 c.args.text.now)) (expected c.args.text.now c.args.depth (a_sign Open) (TokenPart a_name ∷ TokenPart (a_sign Close) ∷ []) (SignClass Open) c.in-Some-Word-Wait-default.rest.now c.in_ok-rest-in-Some-Word-Wait-default.rest.now (λ s l. omega (arith, l, c.requires.1.1.0)) refl c.in_ok-rest-in-Some-Word-Wait-default.ensures.first)) (no_name c.args.text.now c.args.depth (TokenPart (a_sign Close) ∷ []) c.in_ok-rest-in-Some-Word-Wait-default.rest.now _ c.in_err-name-in-Some-Word-Wait-default.ensures.stop))
+
+pub read_factor-returns-in_err-rest-in-Some-Word-Wait-default-2 : goal.read_factor-returns-in_err-rest-in-Some-Word-Wait-default-2
+read_factor-returns-in_err-rest-in-Some-Word-Wait-default-2 t c = stopped _ _ c.from_residual-in_err-rest-in-Some-Word-Wait-default-2.result c.from_residual-in_err-rest-in-Some-Word-Wait-default-2.ensures.1 (then_stops _ (then (then (one c.args.text.now c.args.depth (ExpressionPart factors) ([]) (TokenPart (a_sign Open) ∷ TokenPart a_name ∷ TokenPart (a_sign Close) ∷ []) (word Wait) c.args.input.now c.in-Some-Word-Wait-default.rest.now (λ s l. omega (arith, l, c.requires.1.1.0)) (λ s. refl) ((first_of _ (Word Wait) c.args.input.now c.in-Some-Word-Wait-default.rest.now (c.in-Some-Word-Wait-default.field-0-0-is ∙ ap Word c.in-Some-Word-Wait-default.field-0-0-0-is) c.in-Some-Word-Wait-default.ensures.first.0).1 c.args.text.now)) (expected c.args.text.now c.args.depth (a_sign Open) (TokenPart a_name ∷ TokenPart (a_sign Close) ∷ []) (SignClass Open) c.in-Some-Word-Wait-default.rest.now c.in_ok-rest-in-Some-Word-Wait-default.rest.now (λ s l. omega (arith, l, c.requires.1.1.0)) refl c.in_ok-rest-in-Some-Word-Wait-default.ensures.first)) (token c.args.text.now c.args.depth a_name (TokenPart (a_sign Close) ∷ []) (name (name_of c.in_ok-name-in-Some-Word-Wait-default.name)) c.in_ok-rest-in-Some-Word-Wait-default.rest.now c.in_ok-name-in-Some-Word-Wait-default.rest.now (λ s l. omega (arith, l, c.requires.1.1.0)) refl c.in_ok-name-in-Some-Word-Wait-default.ensures.words)) (unexpected c.args.text.now c.args.depth (a_sign Close) ([]) (SignClass Close) c.in_ok-name-in-Some-Word-Wait-default.rest.now _ refl c.in_err-rest-in-Some-Word-Wait-default-2.ensures.stop))
+
+pub read_factor-returns-in_ok-rest-in-Some-Word-Wait-default-2 : goal.read_factor-returns-in_ok-rest-in-Some-Word-Wait-default-2
+read_factor-returns-in_ok-rest-in-Some-Word-Wait-default-2 t c =
+    let i = c.args.input.now in
+    made c.args.text.now c.args.depth factors _ i c.in_ok-rest-in-Some-Word-Wait-default-2.rest.now (λ at h. record {
+      spans = let T = c.args.text.now in (h, (_, _, _, one_lexeme T (word Wait) c.args.input.now c.in-Some-Word-Wait-default.rest.now c.in-Some-Word-Wait-default.ensures.passed ((first_of _ (Word Wait) c.args.input.now c.in-Some-Word-Wait-default.rest.now (c.in-Some-Word-Wait-default.field-0-0-is ∙ ap Word c.in-Some-Word-Wait-default.field-0-0-0-is) c.in-Some-Word-Wait-default.ensures.first.0).1 T), one_lexeme T (sign Open) c.in-Some-Word-Wait-default.rest.now c.in_ok-rest-in-Some-Word-Wait-default.rest.now c.in_ok-rest-in-Some-Word-Wait-default.ensures.passed (c.in_ok-rest-in-Some-Word-Wait-default.ensures.first.1 T), c.in_ok-name-in-Some-Word-Wait-default.ensures.spans, one_lexeme T (sign Close) c.in_ok-name-in-Some-Word-Wait-default.rest.now c.in_ok-rest-in-Some-Word-Wait-default-2.rest.now c.in_ok-rest-in-Some-Word-Wait-default-2.ensures.passed (c.in_ok-rest-in-Some-Word-Wait-default-2.ensures.first.1 T)));
+      formed = (omega arith, tt);
+      nesting = omega (arith, c.requires.1.1.0);
+      shorter = omega (arith, c.in-Some-Word-Wait-default.ensures.first.1, c.in_ok-rest-in-Some-Word-Wait-default.ensures.shorter, c.in_ok-name-in-Some-Word-Wait-default.ensures.shorter, c.in_ok-rest-in-Some-Word-Wait-default-2.ensures.shorter);
+      proper = c.in_ok-rest-in-Some-Word-Wait-default-2.ensures.proper c.args.text.now c.in_ok-name-in-Some-Word-Wait-default.ensures.proper;
+      reads = let T = c.args.text.now in let i = c.args.input.now in
+          let p = ExpressionPart factors ∷ [] in
+          let after_wait = TokenPart (a_sign Open) ∷ TokenPart a_name ∷ TokenPart (a_sign Close) ∷ [] in
+          let after_open = TokenPart a_name ∷ TokenPart (a_sign Close) ∷ [] in
+          let after_name = TokenPart (a_sign Close) ∷ [] in
+          let m = one T c.args.depth (ExpressionPart factors) [] after_wait (word Wait) i c.in-Some-Word-Wait-default.rest.now (λ s l. omega (arith, l, c.requires.1.1.0)) (λ s. refl) ((first_of _ (Word Wait) c.args.input.now c.in-Some-Word-Wait-default.rest.now (c.in-Some-Word-Wait-default.field-0-0-is ∙ ap Word c.in-Some-Word-Wait-default.field-0-0-0-is) c.in-Some-Word-Wait-default.ensures.first.0).1 T) in
+          let m2 = then m
+          (expected T c.args.depth (a_sign Open) after_open (SignClass Open) c.in-Some-Word-Wait-default.rest.now c.in_ok-rest-in-Some-Word-Wait-default.rest.now (λ s l. omega (arith, l, c.requires.1.1.0)) refl c.in_ok-rest-in-Some-Word-Wait-default.ensures.first) in
+          let m3 = then m2
+          (token T c.args.depth a_name after_name (name (name_of c.in_ok-name-in-Some-Word-Wait-default.name)) c.in_ok-rest-in-Some-Word-Wait-default.rest.now c.in_ok-name-in-Some-Word-Wait-default.rest.now (λ s l. omega (arith, l, c.requires.1.1.0)) refl c.in_ok-name-in-Some-Word-Wait-default.ensures.words) in
+          then m3
+          (expected T c.args.depth (a_sign Close) [] (SignClass Close) c.in_ok-name-in-Some-Word-Wait-default.rest.now c.in_ok-rest-in-Some-Word-Wait-default-2.rest.now (λ s l. omega (arith, l, c.requires.1.1.0)) refl c.in_ok-rest-in-Some-Word-Wait-default-2.ensures.first);
+    })
+    c.made-in-Some-Word-Wait-default.result (λ x. x.0.value) (λ x. x.1.now) c.made-in-Some-Word-Wait-default.ensures
+
+pub read_level-returns-then-is_alone : goal.read_level-returns-then-is_alone
+read_level-returns-then-is_alone t c =
+    let w = subst (λ e. ExpressionRead c.args.text.now c.args.depth (tighter (rung_of c.args.level)) e c.in-Some.after.now c.in_ok-expression.left.now) (sym c.into_inner.ensures) c.in_ok-expression.ensures in
+    let T = c.args.text.now in let v = c.args.level in let i = c.operands.invariant in
+    let one : is_alone v ≡ true = sym c.is_alone.ensures ∙ c.if-is_alone.true in
+    let first = c.in_ok-first.first.value in
+    let further = c.push.new.self in
+    let items = c.in_ok-push.ensures.items ∙ ap (λ os. os ++ record { operator = c.in-Some.operator; expression = c.into_inner.result } ∷ []) (i.single one) in
+    let m = joined_made (form_tree first.form) further.items (operands_row (hidden-the_row-Operand-0 further)) (operands_made further) (λ e. let bad = sym items ∙ e in absurd cc) in
+    made T c.args.depth (rung_of v) _ c.args.input.now c.in_ok-expression.left.now (λ span h. record {
+      spans = (h, (i.spans.0, i.spans.1, operands_row_spans T further i.spans.0 c.in_ok-expression.left.now (operands_next T _ _ _ _ c.operands.rest.now c.in-Some.after.now c.in_ok-expression.left.now c.in_ok-push.ensures.items i.spans.2 (one_lexeme T (operator_terminal c.in-Some.operator) c.operands.rest.now c.in-Some.after.now c.in-Some.ensures.passed (c.in-Some.ensures.first T)) w.spans)));
+      formed = subst (FitsLevel (at (rung_of v))) (sym m) (alone_fits v _ further.items _ one items c.in-Some.ensures.ranked c.in_ok-first.ensures.formed w.formed);
+      nesting = omega (arith, ap expression_nesting m, joined_nesting (expression_tree first) (operands_of further.items), operands_nesting_next _ (expression_tree first) _ _ _ c.in_ok-push.ensures.items i.nesting w.nesting);
+      shorter = omega (arith, c.in-Some.ensures.shorter, w.shorter, i.shorter);
+      proper = w.proper;
+      reads = subst (λ ps. Moves T c.args.depth (ExpressionPart (rung_of v) ∷ []) ps c.args.input.now c.in_ok-expression.left.now) (after_alone v one) (then
+          (then i.reads (operator_next T c.args.depth v c.in-Some.operator c.operands.rest.now c.in-Some.after.now c.requires.1.1.0 c.in-Some.ensures.ranked (c.in-Some.ensures.first T)))
+          (call T c.args.depth c.args.depth (ExpressionPart (tighter (rung_of v)) ∷ []) (after_operator v) c.in-Some.after.now c.in_ok-expression.left.now (after_levels v c.args.depth) w.reads));
+    })
+    c.made.result (λ x. x.0.value) (λ x. x.1.now) c.made.ensures

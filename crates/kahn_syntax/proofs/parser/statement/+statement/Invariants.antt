@@ -1,9 +1,6 @@
 use Rattle.kahn_syntax.proofs.Parsing.{AreProper, FormedStatements, Lexeme, List, Moves, SomeStatements, Statement, StatementPart, StatementSpans, StatementsTail, length, statements_nesting, statement_trees, [], ◌*◌, ◌++◌, ◌+◌, ◌∷◌, ◌≤◌}
 use Rattle.kahn_syntax.proofs.parser.statement.+statement.Given as goal
 
-abbrev pub decreases-read_if : goal.decreases-read_if
-decreases-read_if l = 4 * length l.input.now + 1
-
 abbrev pub decreases-read_simple : goal.decreases-read_simple
 decreases-read_simple l = 4 * length l.input.now
 

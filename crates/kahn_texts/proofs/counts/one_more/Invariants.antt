@@ -1,4 +1,0 @@
-use Rattle.kahn_texts.proofs.counts.one_more.Given as goal
-
-abbrev pub ghost-named : goal.ghost-named
-ghost-named g a = g.calls
