@@ -6,16 +6,16 @@ pub use Rattle.kahn_code.specs.Flat.{Act, Breaks, Ends, Goes, Puts, State, Takes
 pub use Rattle.kahn_code.specs.Lines.{AreFirst, AreQueued, HasPoured, IsFirst, IsPoured, IsQueue, Joins, Lines, actual_here, at_first, given_of, next_at, place_at, queue_of, route_of, spare_of, taken_of, waiting_of, HasMore, Waiting}
 pub use Rattle.kahn_code.specs.Progress.{AreStill, HasKept, HasStepped, IsFull, IsPause, IsSameOne, Sits, Wants, core_of, first_core, gone_of, opening_core, printed_core, sent_core, spare_in, taken_core, turned_core, AreCounts, HasRunFor, IsAt, IsStanding, CellView, site_of, told_of, told_view, Pauses, PausesAt}
 pub use Rattle.kahn_code.specs.Standing.{DoesRead, IsNext, IsPlaceWithin, LeavesOthers, Moved, Site, Serve, StaySo, Stays, site_code, Core, Led, StandsBy, core_view, count, tokens}
-pub use Rattle.kahn_code.specs.declared.compiled.ProcessCode.{ProcessCode}
-pub use Rattle.kahn_code.specs.declared.compiled.ParameterUse.{ParameterUse}
-pub use Rattle.kahn_code.specs.declared.instruction.Instruction.{Instruction}
-pub use Rattle.kahn_code.specs.declared.instruction.Instruction.TheVariants.{Again, Apply, ApplyConstant, Constant, GoOn, Move, Negate, Not, Send, SkipUnless, Take, Turn}
-pub use Rattle.kahn_code.specs.declared.instruction.Test.{Test}
-pub use Rattle.kahn_code.specs.declared.listing.Listed.{Listed}
+pub use Rattle.kahn_code.specs.declared.form.ProcessCode.{ProcessCode}
+pub use Rattle.kahn_code.specs.declared.form.ParameterUse.{ParameterUse}
+pub use Rattle.kahn_code.specs.declared.form.Instruction.{Instruction}
+pub use Rattle.kahn_code.specs.declared.form.Instruction.TheVariants.{Again, Apply, ApplyConstant, Constant, GoOn, Move, Negate, Not, Send, SkipUnless, Take, Turn}
+pub use Rattle.kahn_code.specs.declared.form.Test.{Test}
+pub use Rattle.kahn_code.specs.declared.form.Listed.{Listed}
 pub use Rattle.kahn_code.specs.declared.progress.Pause.{Pause}
 pub use Rattle.kahn_code.specs.declared.progress.Progress.{Progress}
 pub use Rattle.kahn_code.specs.inner.Gone.{AllBegin, AreBehind, AreGivenFrom, regrown, spare_before, kept_behind, nothing_gone}
-pub use Rattle.kahn_code.specs.inner.Forms.{AreFormed, HasFormedCode, IsFormed, reach_in, hands_channel, test_reach, Aims, HasTurn, IsJoined, AreForms, AreInPlace, IsInPlace, before_none, instruction_of, instructions_of, meanings, HasRemainder, HasSum, HasTest, IsPlain, IsTurn, TellsRest, further}
+pub use Rattle.kahn_code.specs.inner.Forms.{AreFormed, HasFormedCode, IsFormed, reach_in, hands_channel, test_reach, Aims, HasTurn, IsJoined, AreForms, AreInPlace, IsInPlace, before_none, instruction_of, instructions_of, meanings, HasRemainder, IsAlone, IsForm, HasSum, HasTest, IsPlain, IsTurn, TellsRest, further}
 pub use Rattle.kahn_code.specs.inner.Tapped.{OnNoMemory, WantsSpare, spares_of, Tapped, regrown_tap, HasForgotten, IsEvent, OnForwarded, tapped_of}
 pub use Rattle.kahn_streams.proofs.By_number.{all_at, within}
 pub use Rattle.kahn_streams.proofs.Proved.{feeds, iterates_rise, prefix_get, prefix_refl, prefix_trans, script_at, solves, some_same, values_append}
@@ -52,4 +52,4 @@ pub use Rattle.std.proofs.Math.Nat.{add-mul, le-mul_of_pos_right, mul-div-le}
 pub use Rattle.std.proofs.lemmas.List.Edits.{map_over_more}
 pub use Rattle.std.proofs.lemmas.Result.{IfOk-equal, on_err_weaker, on_ok_weaker}
 pub use mathlib.Core.Path.{fun_ext}
-pub use Rattle.kahn_code.specs.declared.{form.CodeForm.CodeForm, instruction.Test.TheVariants.Compare, instruction.Test.TheVariants.CompareConstant}
+pub use Rattle.kahn_code.specs.declared.{form.CodeForm.CodeForm, form.Test.TheVariants.Compare, form.Test.TheVariants.CompareConstant}

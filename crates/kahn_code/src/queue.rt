@@ -103,7 +103,7 @@ impl<'i, A: Allocator> Queue<'i, A> {
         self.taken += 1;
         let carried = self.tokens.pop_front().unwrap();
         let token = carried.token(line, place);
-        Some(lifted(&self.network, &self.input, token, line, place))
+        Some(lift(&self.network, &self.input, token, line, place))
     }
 
     /// Goes on for an input whose lists begin with those of its own. Never allocates.
@@ -177,7 +177,7 @@ impl<'i, A: Allocator> Queue<'i, A> {
         carried.counted();
         let place = self.taken + number as u64;
         let token = carried.token(line, place);
-        lifted(&self.network, &self.input, token, line, place)
+        lift(&self.network, &self.input, token, line, place)
     }
 
     /// Makes room for so many tokens more. If there is room already, it never allocates.
@@ -208,21 +208,14 @@ impl<'i, A: Allocator> Queue<'i, A> {
     }
 }
 
-// The token of the same place of another input, where the value stands too.
-fn lifted(
-    network: &About<Network>,
-    input: &About<Input>,
-    token: Token,
-    line: Line,
-    place: u64,
-) -> Token
+fn lift(network: &About<Network>, input: &About<Input>, token: Token, line: Line, at: u64) -> Token
     requires names { (token.network.value ≡ network.now.value) × AreInputsExtended (inputs_of token.input.value) (inputs_of input.now.value) }
-    requires here { (token.line ≡ line) × (token.place ≡ place) }
-    ensures here { (result.line ≡ line) × (result.place ≡ place) }
+    requires here { (token.line ≡ line) × (token.place ≡ at) }
+    ensures here { (result.line ≡ line) × (result.place ≡ at) }
     ensures names { IsOf network.now.value input.now.value result }
 {
     let value = token.word();
-    named_token(network, input, line, place, value)
+    named_token(network, input, line, at, value)
 }
 
 fn named_token(

@@ -1,14 +1,15 @@
 //! The search for what a value needs, by demand: the writer of the value acts until it has sent it; where it waits for a value, the writer of
 //! that one acts. So nothing is done that isn't needed.
 
-ghost use Rattle.std.specs.Prelude.{◌≡◌, ◌<◌, true, MatchResult, length};
-ghost use Rattle.kahn_streams.specs.{Network.Written, Network.network_of, Solution.source};
-ghost use Rattle.kahn_needs.specs.{Finding.IsNetworkLine, inner.Bench.AreSeatsOf, declared.search.Turn.TheVariants.Waits, declared.search.Sought.TheVariants.Ring};
-ghost use Rattle.kahn_needs.specs.inner.Finding.{AreForced, HasCome, HasSearched, IsAwaited, IsWaitChain, IsDemand, IsPausedAt, IsEndOfSearch, IsTurnTold};
+ghost use Rattle.std.specs.Prelude.{◌≡◌, ◌<◌, true, MatchResult, length, ◌+◌, ◌^◌, ℕ, IfOk, IfSome, MatchOption, Some, slice_get};
+ghost use Rattle.kahn_streams.specs.{Network.Written, Network.network_of, Solution.source, Inputs.Lists, Network.Given, Network.Reads, Network.actual_at, Network.instance_at, declared.value.Line.TheVariants.Channel, declared.token.Token.Token};
+ghost use Rattle.kahn_needs.specs.{Finding.IsNetworkLine, inner.Bench.AreSeatsOf, declared.search.Turn.TheVariants.Waits, declared.search.Sought.TheVariants.Ring, inner.Finding.AreForced, inner.Finding.HasCome, inner.Finding.HasSearched, inner.Finding.IsAwaited, inner.Finding.IsWaitChain, inner.Finding.IsDemand, inner.Finding.IsPausedAt, inner.Finding.IsEndOfSearch, inner.Finding.IsTurnTold, inner.Finding.HasSentSoMany, inner.Finding.HasValue, inner.Finding.watch_of, inner.Bench.AreCounted, inner.Bench.AreUnmoved, inner.Bench.HaveNotMoved, inner.Bench.HasActed, inner.Bench.HaveSeats, inner.Bench.events_in, inner.Bench.events_seen, inner.Bench.seats_of, inner.Bench.taken_in};
+ghost use Rattle.kahn_code.specs.Lines.{taken_of};
 
-use crate::bench::Bench;
-use kahn_code::{Pause, Steps};
-use kahn_streams::{Line, MOST_BOUND};
+use kahn_code::{Cell, Code, CodeFault, Pause, Plain, Steps, compile};
+use kahn_streams::{About, Input, Line, MOST_BOUND, Network, Tokens, Value};
+use std::alloc::Global;
+use std::marker::Model;
 use std::sync::ledger::{Blank, Ledger};
 
 /// A value that is wanted, by its line and its place.
@@ -29,36 +30,27 @@ pub(crate) struct Chain {
 /// What a turn for a demand did.
 #[derive(Clone, Copy)]
 pub(crate) enum Turn {
-    /// The value was sent.
     Sent,
-    /// One event was done.
     Acted,
     /// Its writer waits for a value of this channel.
     Waits(usize),
     /// It is never sent.
     Over,
-    /// The bound is used up.
     Bound,
-    /// Memory was refused.
     NoMemory,
 }
 
 /// How a search ended.
 #[derive(Clone, Copy)]
 pub(crate) enum Sought {
-    /// The value was sent.
     Come,
-    /// It is never sent.
     Never,
     /// Those that it waits for wait on one another.
     Ring,
-    /// The bound is used up.
     Bound,
-    /// Memory was refused.
     NoMemory,
 }
 
-// What the pause of the writer of a demand tells, where it did no event.
 fn told(bench: &Bench<'_>, root: Demand, demand: Demand, instance: usize, pause: Pause) -> Turn
     requires demanded { IsDemand bench.now root.line root.place demand.line demand.place }
     requires writer { source (network_of bench.now.network) demand.line ≡ Written instance }
@@ -79,7 +71,6 @@ fn told(bench: &Bench<'_>, root: Demand, demand: Demand, instance: usize, pause:
     }
 }
 
-// The writer of a demand acts, unless it has sent the value.
 fn act<L: Ledger>(bench: &mut Bench<'_>, root: Demand, demand: Demand, steps: &mut Steps<L>) -> Turn
     requires demanded { IsDemand bench.old root.line root.place demand.line demand.place }
     requires forced { AreForced bench.old root.line root.place }
@@ -116,7 +107,6 @@ fn begun(bench: &Bench<'_>, root: Demand, demand: Demand) -> Chain
     }
 }
 
-// The value for which the writer of the last one of a chain waits.
 fn awaited(bench: &Bench<'_>, root: Demand, chain: Chain, channel: usize) -> Demand
     requires { IsTurnTold bench.now root.line root.place chain.demand.line chain.demand.place (Waits channel) }
     ensures { IsAwaited bench.now root.line root.place chain result }
@@ -150,7 +140,6 @@ fn is_same(first: Demand, second: Demand) -> bool
     first == second
 }
 
-// Whether the value at which a chain begins is waited for at its end.
 fn is_ring(bench: &Bench<'_>, root: Demand, chain: Chain, demand: Demand) -> bool
     requires chain { IsWaitChain bench.now root.line root.place chain }
     requires awaited { IsAwaited bench.now root.line root.place chain demand }
@@ -227,4 +216,237 @@ pub(crate) fn search<L: Ledger>(
         };
     }
     Sought::Bound
+}
+
+/// The processes of a network over its plain queues.
+#[derive(Drop)]
+pub(crate) struct Bench<'n> {
+    network: &'n Network,
+    input: About<Input>,
+    watch: Option<usize>,
+    code: Code,
+    cells: Vec<Cell>,
+    queues: Plain<'n, Global>,
+}
+
+impl<'n> Model for Bench<'n> {
+    ghost use Rattle.kahn_streams.specs.contracts.tree.Action as action;
+    ghost use Rattle.kahn_streams.specs.contracts.tree.Form as form;
+    ghost use Rattle.std.specs.Coded.{codes};
+    ghost use Rattle.kahn_needs.specs.inner.Bench.{Seats, HaveSeats, seats_of};
+
+    ghost Value = { Seats };
+
+    ghost coded = { Prim.hlevel (codes, action.the_row.coded, form.the_row.coded) };
+
+    ghost view = { λ b. seats_of b.network.now b.input.value b.watch b.code.network.value b.cells.items b.queues };
+
+    ghost invariant = { λ b. HaveSeats (seats_of b.network.now b.input.value b.watch b.code.network.value b.cells.items b.queues) };
+}
+
+fn named_cells(
+    alloc: Global,
+    network: &Network,
+    code: &Code,
+    _input: &Input,
+    watch: Option<usize>,
+) -> Result<Vec<Cell>, CodeFault>
+    ghost input: { Lists }
+    requires { code.now.network.value ≡ network.now }
+    ensures { IfOk result (λ cells. AreUnmoved network.now input watch cells.items (length (network_of network.now).instances)) }
+{
+    let mut cells = Vec::new(alloc);
+    for instance in 0..network.instances() {
+        cells.push(Cell::new(alloc, code, instance, watch)?)?;
+    }
+    Ok(cells)
+}
+
+impl<'n> Bench<'n> {
+    /// All processes at their openings. It keeps what is sent on the channel `watch`, on output channels and on print streams. It refuses
+    /// only if memory was refused.
+    pub(crate) fn new(
+        alloc: Global,
+        network: &'n Network,
+        input: &Input,
+        watch: Option<usize>,
+    ) -> Result<Bench<'n>, CodeFault>
+        ensures names { IfOk result (AreSeatsOf network.now input.now watch) }
+        ensures idle { IfOk result (λ b. HaveNotMoved b.cells) }
+    {
+        let code = compile(alloc, network)?;
+        let cells = named_cells(alloc, network, &code, input, watch)?;
+        let queues = Plain::new(alloc, network, input, None)?;
+        queues.counted();
+        let _program = network.program();
+        Ok(Bench::named(network, input, watch, code, cells, queues))
+    }
+
+    fn named(
+        network: &'n Network,
+        _input: &Input,
+        watch: Option<usize>,
+        code: Code,
+        cells: Vec<Cell>,
+        queues: Plain<'n, Global>,
+    ) -> Bench<'n>
+        ghost input: { Lists }
+        requires { HaveSeats (seats_of network.now input watch code.network.value cells.items queues) }
+        ensures { result ≡ seats_of network.now input watch code.network.value cells.items queues.entry }
+    {
+        Bench {
+            network,
+            input: About::named(),
+            watch,
+            code,
+            cells,
+            queues,
+        }
+    }
+
+    /// Runs a process for one event, if it has one.
+    pub(crate) fn act<L: Ledger>(&mut self, instance: usize, steps: &mut Steps<L>) -> Pause
+        requires here { instance < length (network_of self.old.network).instances }
+        requires bound { events_seen (slice_get self.old.cells instance) + 1 < 2 ^ 48 }
+        ensures { HasActed self.old self.new instance result }
+    {
+        self.queues.at(instance);
+        let pause = self.cells[instance].run(&self.code, 1, &mut self.queues, steps);
+        self.queues.counted();
+        pause
+    }
+
+    pub(crate) fn events(&self, instance: usize) -> u64
+        requires { instance < length (network_of self.now.network).instances }
+        ensures { result ≡ events_seen (slice_get self.now.cells instance) }
+    {
+        self.cells[instance].events()
+    }
+
+    pub(crate) fn taken(&self, channel: usize) -> u64
+        ensures { result ≡ taken_of (slice_get self.now.queues.queues channel) }
+    {
+        self.queues.taken(channel)
+    }
+
+    pub(crate) fn channel(&self, instance: usize, parameter: usize) -> usize
+        requires here { instance < length (network_of self.now.network).instances }
+        requires reads { (c : ℕ) × (actual_at (instance_at (network_of self.now.network) instance) parameter ≡ Reads c) }
+        ensures { actual_at (instance_at (network_of self.now.network) instance) parameter ≡ Reads result }
+    {
+        match self.code.channel(instance, parameter) {
+            Some(channel) => channel,
+            None => unreachable!(),
+        }
+    }
+
+    /// Says how all stand: its contract is what it does.
+    pub(crate) fn laid(&self)
+        ensures { HaveSeats self.now }
+    {
+        let _watch = self.watch;
+    }
+
+    pub(crate) fn instances(&self) -> usize
+        ensures { result ≡ length (network_of self.now.network).instances }
+    {
+        self.network.instances()
+    }
+
+    /// The instance that sends on a line; none on an input.
+    pub(crate) fn writer(&self, line: Line) -> Option<usize>
+        requires { IsNetworkLine (network_of self.now.network) line }
+        ensures writer { MatchOption result (source (network_of self.now.network) line ≡ Given) (λ p. source (network_of self.now.network) line ≡ Written p) }
+        ensures here { IfSome result (λ p. p < length (network_of self.now.network).instances) }
+    {
+        match line {
+            Line::Channel(channel) => match self.network.writer(channel) {
+                Some(side) => Some(side.instance),
+                None => None,
+            },
+            Line::Print(instance) => Some(instance),
+        }
+    }
+
+    pub(crate) fn sent(&self, line: Line) -> u64
+        requires { IsNetworkLine (network_of self.now.network) line }
+        ensures { HasSentSoMany self.now line result }
+    {
+        match line {
+            Line::Channel(channel) => self.sent_on(channel),
+            Line::Print(instance) => self.cells[instance].printed().len() as u64,
+        }
+    }
+
+    fn sent_on(&self, channel: usize) -> u64
+        requires { channel < length (network_of self.now.network).channels }
+        ensures { HasSentSoMany self.now (Channel channel) result }
+    {
+        match self.network.writer(channel) {
+            Some(side) => {
+                let cell = &self.cells[side.instance];
+                cell.sized();
+                cell.sent(side.parameter)
+            }
+            None => 0,
+        }
+    }
+
+    pub(crate) fn channels(&self) -> usize
+        ensures { result ≡ length (network_of self.now.network).channels }
+    {
+        self.network.channels()
+    }
+
+    pub(crate) fn value(&self, line: Line, place: u64) -> Value
+        requires line { IsNetworkLine (network_of self.now.network) line }
+        requires watch { self.now.watch ≡ watch_of line }
+        ensures { HasCome self.now line place → HasValue self.now line place result }
+    {
+        match line {
+            Line::Channel(channel) => match self.network.writer(channel) {
+                Some(side) => {
+                    let cell = &self.cells[side.instance];
+                    let _parameters = cell.parameters();
+                    cell.sized();
+                    value_at(cell.kept(side.parameter), place)
+                }
+                None => Value::Integer(0),
+            },
+            Line::Print(instance) => value_at(self.cells[instance].printed(), place),
+        }
+    }
+}
+
+/// Of each channel, how many values were taken.
+#[tactic(auto, using(crate::proofs::Counted::counted_none, crate::proofs::Counted::counted_more))]
+pub(crate) fn all_taken(alloc: Global, bench: &Bench<'_>) -> Result<Vec<u64>, CodeFault>
+    ensures { IfOk result (λ v. AreCounted (taken_in bench.now) v.items (length (network_of bench.now.network).channels)) }
+{
+    let mut counts = Vec::new(alloc);
+    for channel in 0..bench.channels() {
+        counts.push(bench.taken(channel))?;
+    }
+    Ok(counts)
+}
+
+/// Of each instance, how many events were done.
+#[tactic(auto, using(crate::proofs::Counted::counted_none, crate::proofs::Counted::counted_more))]
+pub(crate) fn all_events(alloc: Global, bench: &Bench<'_>) -> Result<Vec<u64>, CodeFault>
+    ensures { IfOk result (λ v. AreCounted (events_in bench.now) v.items (length (network_of bench.now.network).instances)) }
+{
+    let mut counts = Vec::new(alloc);
+    for instance in 0..bench.instances() {
+        counts.push(bench.events(instance))?;
+    }
+    Ok(counts)
+}
+
+fn value_at(tokens: &Tokens, place: u64) -> Value
+    ensures { (t : Token) → slice_get tokens.now.items place ≡ Some t → result ≡ t.value }
+{
+    match tokens.values().get(place as usize) {
+        Some(value) => value,
+        None => Value::Integer(0),
+    }
 }

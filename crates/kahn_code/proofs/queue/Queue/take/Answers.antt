@@ -2,8 +2,8 @@ use Rattle.std.proofs.Common.{ap, ◌∙◌, ◌++◌, option_to_list}
 use Rattle.kahn_code.proofs.Begin.{first_begins}
 use Rattle.kahn_code.proofs.queue.Queue.take.Goals as goal
 
-pub lifted-requires-clause-names : goal.lifted-requires-clause-names
-lifted-requires-clause-names g c =
+pub lift-requires-clause-names : goal.lift-requires-clause-names
+lift-requires-clause-names g c =
     let q = c.self.inside in
     let rest = c.pop_front.new.self.items in
     first_begins q.network.value q.input.value q.tokens.items rest c.unwrap-carried.result c.token-token.result

@@ -39,16 +39,16 @@ token-token-requires g c =
     let at = slice_get_read q.tokens.items (length q.tokens.items) c.args.number c.index-carried.result.now refl inside c.index-carried.ensures in
     followed_at (Channel q.channel) q.taken c.args.number q.tokens.items c.index-carried.result.now c.self.invariant.0 at
 
-pub lifted-requires-clause-names : goal.lifted-requires-clause-names
-lifted-requires-clause-names g c =
+pub lift-requires-clause-names : goal.lift-requires-clause-names
+lift-requires-clause-names g c =
     let q = c.self.inside in
     let inside : c.args.number < length q.tokens.items = omega (arith, c.if-number-len.false, c.len.ensures) in
     let at = slice_get_read q.tokens.items (length q.tokens.items) c.args.number c.index-carried.result.now refl inside c.index-carried.ensures in
     begins_at q.network.value q.input.value c.args.number q.tokens.items c.token-token.result c.self.invariant.1
     (subst (λ (t : Token). slice_get q.tokens.items c.args.number ≡ Some t) (sym c.token-token.ensures) at)
 
-pub lifted-requires-clause-here : goal.lifted-requires-clause-here
-lifted-requires-clause-here g c =
+pub lift-requires-clause-here : goal.lift-requires-clause-here
+lift-requires-clause-here g c =
     let q = c.self.inside in
     let inside : c.args.number < length q.tokens.items = omega (arith, c.if-number-len.false, c.len.ensures) in
     let at = slice_get_read q.tokens.items (length q.tokens.items) c.args.number c.index-carried.result.now refl inside c.index-carried.ensures in

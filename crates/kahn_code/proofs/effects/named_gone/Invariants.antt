@@ -1,4 +1,0 @@
-use Rattle.kahn_code.proofs.effects.named_gone.Given as goal
-
-abbrev pub ghost-named : goal.ghost-named
-ghost-named g a = g.gone

@@ -1,4 +1,0 @@
-use Rattle.kahn_code.proofs.ports.token_for.Given as goal
-
-abbrev pub ghost-of_word : goal.ghost-of_word
-ghost-of_word g a = g.names

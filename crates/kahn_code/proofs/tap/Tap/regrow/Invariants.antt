@@ -1,4 +1,0 @@
-use Rattle.kahn_code.proofs.tap.Tap.regrow.Given as goal
-
-abbrev pub ghost-named : goal.ghost-named
-ghost-named g a = g.input
