@@ -1,7 +1,7 @@
 //! The values of an input channel, taken as tokens one by one.
 
-ghost use Rattle.std.specs.Prelude.{◌≡◌, ◌<◌, ◌≤◌, ◌+◌, ◌^◌, ◌↔◌};
-ghost use Rattle.kahn_job.specs.inner.Words.{length, IfSome, IfNone, IsTrue, network_of, role_at, lane_name, token_name, Lists, inputs_of, Names, Input as InputRole};
+ghost use Rattle.std.specs.Prelude.{◌≡◌, ◌<◌, ◌≤◌, ◌+◌, ◌^◌};
+ghost use Rattle.kahn_job.specs.inner.Words.{length, IfSome, IfNone, network_of, role_at, lane_name, token_name, Lists, inputs_of, Names, Input as InputRole};
 
 use kahn_streams::{About, Input, Network, Token};
 
@@ -16,7 +16,6 @@ pub(crate) struct Feed {
 }
 
 impl Feed {
-    /// Starts at a place of the list of an input channel, of the network and the input that the caller names.
     pub(crate) fn of(_network: &Network, _input: &Input, channel: usize, next: u64) -> Feed
         ghost names: { Names }
         requires inside { channel < length (network_of names.network).channels }
@@ -31,19 +30,11 @@ impl Feed {
         }
     }
 
-    /// Goes on with the list of another input, which the caller names.
     pub(crate) fn regrow(&mut self, _input: &Input)
         ghost name: { Lists }
         ensures { (self.new.network ≡ self.old.network) × (self.new.input.value ≡ name) × (self.new.channel ≡ self.old.channel) × (self.new.next ≡ self.old.next) }
     {
         self.input = About::named();
-    }
-
-    pub(crate) fn is_ready(&self, input: &Input) -> bool
-        requires { self.now.input.value ≡ input.now }
-        ensures { IsTrue result ↔ (self.now.next < length (inputs_of self.now.input.value self.now.channel)) }
-    {
-        self.next < input.count(self.channel) as u64
     }
 
     /// Returns the next token. None past the list. It stands apart, so that taking a token from a lane is short enough to be compiled

@@ -1,9 +1,8 @@
-//! Ends are given to parameters and taken back, and a channel's ends go to the parameters that it is handed to; jobs with all their ends
-//! are made so.
+//! Ends are given to parameters and taken back, a channel's ends go to the parameters that it is handed to, and both ends of a channel go on together.
 
 ghost use Rattle.std.specs.Prelude.{◌≡◌, ◌<◌, ◌≤◌, vec_capacity};
 ghost use Rattle.kahn_code.specs.inner.Opening.{IsOpening};
-ghost use Rattle.kahn_job.specs.{inner.Words.ℕ, inner.Words.Tapped, inner.Words.nothing_gone, inner.Words.[], inner.Words.length, inner.Words.map, inner.Words.replicate, inner.Words.slice_get, inner.Words.IfOk, inner.Words.IfSome, inner.Words.Some, inner.Words.Lists, inner.Words.network_of, inner.Words.instance_at, inner.Idles.cells_of, inner.Idles.rows_of, inner.Idles.AreEndsAt, inner.Idles.AreJobsAt, inner.Idles.HaveFewTokens, inner.Idles.HaveNoEnds, inner.Idles.AreSamePlaces, inner.Idles.placed, inner.Idles.tolds_of, inner.Berths.HasPlace, inner.Berths.end_of_side, inner.Ways.no_end, inner.Words.OnOk, inner.Words.props, inner.Berths.AreServed, inner.Berths.HaveFlushed, inner.Berths.Serves-prop, inner.Berths.end_at, inner.Ends.IsFlushed};
+ghost use Rattle.kahn_job.specs.{inner.Words.ℕ, inner.Words.Tapped, inner.Words.nothing_gone, inner.Words.[], inner.Words.length, inner.Words.map, inner.Words.replicate, inner.Words.slice_get, inner.Words.IfOk, inner.Words.IfSome, inner.Words.Some, inner.Words.Lists, inner.Words.network_of, inner.Words.instance_at, inner.Idles.cells_of, inner.Idles.rows_of, inner.Idles.AreEndsAt, inner.Idles.AreJobsAt, inner.Idles.HaveFewTokens, inner.Idles.HaveNoEnds, inner.Idles.AreSamePlaces, inner.Idles.placed, inner.Idles.tolds_of, inner.Berths.HasPlace, inner.Berths.end_of_side, inner.Ways.no_end, inner.Words.OnOk, inner.Words.props, inner.Berths.AreServed, inner.Berths.HaveFlushed, inner.Berths.Serves-prop, inner.Berths.end_at, inner.Ends.IsFlushed, inner.Idles.HaveMet, inner.Idles.HaveSettled, inner.Berths.AreBehindOn, inner.Settling.GoesOrStays, inner.Settling.AreResting, inner.Settling.AreSettled, inner.Settling.CanFeed, inner.Settling.CanSettle, inner.Settling.HasExchanged, inner.Settling.HaveExchanged, inner.Settling.HaveStood};
 
 use crate::port::TaskPort;
 use crate::task::Idle;
@@ -23,27 +22,24 @@ pub(crate) fn exchange(idles: &mut Vec<Idle>, side: Side, port: TaskPort) -> Tas
     idles[side.instance].replace(side.parameter, port)
 }
 
-/// Gives two parameters other ends, and returns those they had.
 #[tactic(auto, using(crate::proofs::Exchanged::else_at))]
 pub(crate) fn exchange_two(
     idles: &mut Vec<Idle>,
     writer: Side,
-    sender: TaskPort,
     reader: Side,
-    receiver: TaskPort,
+    ports: (TaskPort, TaskPort),
 ) -> (TaskPort, TaskPort)
     requires places { HasPlace (rows_of idles.old.items) writer × HasPlace (rows_of idles.old.items) reader }
     requires apart { writer ≡ reader → ⊥ }
     ensures ends { (result.0 ≡ end_of_side (rows_of idles.old.items) writer) × (result.1 ≡ end_of_side (rows_of idles.old.items) reader) }
-    ensures rows { rows_of idles.new.items ≡ placed (placed (rows_of idles.old.items) (Some writer) sender) (Some reader) receiver }
+    ensures rows { rows_of idles.new.items ≡ placed (placed (rows_of idles.old.items) (Some writer) ports.0) (Some reader) ports.1 }
     ensures cells { cells_of idles.new.items ≡ cells_of idles.old.items }
 {
-    let sender = exchange(idles, writer, sender);
-    let receiver = exchange(idles, reader, receiver);
+    let sender = exchange(idles, writer, ports.0);
+    let receiver = exchange(idles, reader, ports.1);
     (sender, receiver)
 }
 
-// Gives an end to the parameter where it belongs, if any.
 fn place(idles: &mut Vec<Idle>, side: Option<Side>, port: TaskPort)
     requires { IfSome side (HasPlace (rows_of idles.old.items)) }
     ensures rows { rows_of idles.new.items ≡ placed (rows_of idles.old.items) side port }
@@ -109,12 +105,15 @@ fn bare_job(
     };
     let parameters = cell.parameters();
     let mut ports = Vec::with_capacity(alloc, parameters)?;
-    let mut numbers = Vec::with_capacity(alloc, parameters)?;
     for _ in 0..parameters {
         ports.push_reserved(TaskPort::nothing());
-        numbers.push_reserved(0);
     }
-    Ok(Idle::new(cell, instance, ports, numbers))
+    Ok(Idle {
+        cell,
+        instance,
+        ports,
+        numbers: vec![in alloc; 0; parameters]?,
+    })
 }
 
 // Makes the jobs of all instances before their first events, in order. Their parameters have no ends yet.
@@ -245,8 +244,6 @@ impl<'a> Ports for Ends<'a> {
     }
 }
 
-/// Flushes what was put on each channel, so that its reader can take it. It stops at the first refusal, which leaves the
-/// tokens where they are.
 pub(crate) fn flush_all(ports: &mut [TaskPort]) -> Result<(), NoMemory>
     ensures each { HaveFlushed ports.old ports.new }
     ensures all { OnOk result ((q : ℕ) → IsFlushed (end_at ports.new q)) }
@@ -255,4 +252,109 @@ pub(crate) fn flush_all(ports: &mut [TaskPort]) -> Result<(), NoMemory>
         ports[parameter].flush()?;
     }
     Ok(())
+}
+
+#[tactic(auto, using(crate::proofs::Exchanged::exchanged))]
+fn settle_lane(
+    idles: &mut Vec<Idle>,
+    writer: Side,
+    reader: Side,
+    input: &Input,
+) -> Result<(), NoMemory>
+    requires places { HasPlace (rows_of idles.old.items) writer × HasPlace (rows_of idles.old.items) reader }
+    requires apart { writer ≡ reader → ⊥ }
+    requires lane { CanSettle input.now (end_of_side (rows_of idles.old.items) writer) (end_of_side (rows_of idles.old.items) reader) }
+    ensures ends { GoesOrStays result (HaveExchanged input.now writer reader) (rows_of idles.old.items) (rows_of idles.new.items) }
+    ensures cells { cells_of idles.new.items ≡ cells_of idles.old.items }
+{
+    let none = (TaskPort::nothing(), TaskPort::nothing());
+    let (sender, receiver) = exchange_two(idles, writer, reader, none);
+    let (ports, settled) = sender.settle(receiver, input);
+    let _none = exchange_two(idles, writer, reader, ports);
+    settled
+}
+
+fn settle_feed(idles: &mut Vec<Idle>, reader: Side, input: &Input)
+    requires place { HasPlace (rows_of idles.old.items) reader }
+    requires feed { CanFeed input.now (end_of_side (rows_of idles.old.items) reader) }
+    ensures ends { HasExchanged input.now reader (rows_of idles.old.items) (rows_of idles.new.items) }
+    ensures cells { cells_of idles.new.items ≡ cells_of idles.old.items }
+{
+    let mut port = exchange(idles, reader, TaskPort::nothing());
+    port.regrow(input);
+    let _none = exchange(idles, reader, port);
+}
+
+// Moves the ends of a channel on to the input. If memory is refused, they stay as they are.
+#[tactic(auto, using(crate::proofs::Settles::can_feed, crate::proofs::Settles::can_settle, crate::proofs::Settles::feed_settled, crate::proofs::Settles::lane_or, crate::proofs::Settles::output_settled))]
+fn settle_channel(
+    network: &Network,
+    input: &Input,
+    idles: &mut Vec<Idle>,
+    channel: usize,
+) -> Result<(), NoMemory>
+    requires here { channel < length (network_of network.now).channels }
+    requires resting { AreResting network.now input.now (rows_of idles.old.items) }
+    ensures ends { GoesOrStays result (AreSettled network.now input.now channel) (rows_of idles.old.items) (rows_of idles.new.items) }
+    ensures cells { cells_of idles.new.items ≡ cells_of idles.old.items }
+{
+    let _program = network.program();
+    match network.reader(channel) {
+        None => Ok(()),
+        Some(reader) => match network.writer(channel) {
+            Some(writer) => settle_lane(idles, writer, reader, input),
+            None => {
+                settle_feed(idles, reader, input);
+                Ok(())
+            }
+        },
+    }
+}
+
+/// Moves the ends of all channels on to an input whose lists begin with those of theirs. Each stays at its place, and all
+/// that was put is flushed. If memory is refused, those that moved already look the same to every call.
+#[tactic(auto, using(crate::proofs::Idles::all_settled, crate::proofs::Settles::going_first, crate::proofs::Settles::alike_stayed, crate::proofs::Settles::going_on, crate::proofs::Settles::rests_met, crate::proofs::Settles::stood_still, crate::proofs::Settles::stood_then))]
+pub fn settle(network: &Network, input: &Input, idles: &mut Vec<Idle>) -> Result<(), NoMemory>
+    requires { AreResting network.now input.now (rows_of idles.old.items) }
+    ensures settled { OnOk result (HaveSettled network.now input.now (rows_of idles.new.items)) }
+    ensures resting { AreResting network.now input.now (rows_of idles.new.items) }
+    ensures stood { HaveStood (rows_of idles.old.items) (rows_of idles.new.items) }
+    ensures cells { cells_of idles.new.items ≡ cells_of idles.old.items }
+{
+    let _program = network.program();
+    for channel in 0..network.channels() {
+        settle_channel(network, input, idles, channel)?;
+    }
+    Ok(())
+}
+
+fn meet_on(network: &Network, idles: &mut Vec<Idle>, channel: usize)
+    requires here { channel < length (network_of network.now).channels }
+    requires resting { (lists : Lists) × AreResting network.now lists (rows_of idles.old.items) }
+    ensures met { HaveMet idles.old.items idles.new.items }
+    ensures behind { AreBehindOn (network_of network.now) (rows_of idles.old.items) channel }
+{
+    let _program = network.program();
+    if let Some(writer) = network.writer(channel) {
+        if let Some(reader) = network.reader(channel) {
+            let none = (TaskPort::nothing(), TaskPort::nothing());
+            let (sender, receiver) = exchange_two(idles, writer, reader, none);
+            let _none = exchange_two(idles, writer, reader, sender.meet(receiver));
+        }
+    }
+}
+
+/// Lets the two ends of each channel meet, which shows that no reader took more than was flushed. The jobs stay as they are,
+/// but for what their ends know. Never allocates.
+#[tactic(auto, using(crate::proofs::Idles::met_self, crate::proofs::Idles::met_then, crate::proofs::Settles::behind_before, crate::proofs::Settles::below_or, crate::proofs::Settles::rests_met))]
+pub fn meet(network: &Network, mut idles: Vec<Idle>) -> Vec<Idle>
+    requires { (lists : Lists) × AreResting network.now lists (rows_of idles.items) }
+    ensures met { HaveMet idles.items result.items }
+    ensures behind { (c : ℕ) → AreBehindOn (network_of network.now) (rows_of idles.items) c }
+{
+    let _program = network.program();
+    for channel in 0..network.channels() {
+        meet_on(network, &mut idles, channel);
+    }
+    idles
 }

@@ -4,10 +4,8 @@
 mod feed;
 mod handing;
 mod port;
-mod settling;
 mod task;
 
 // For the crates above.
-pub use handing::{jobs_at, seat, unseat};
-pub use settling::{meet, settle};
+pub use handing::{jobs_at, meet, seat, settle, unseat};
 pub use task::{Idle, Task, TaskStanding};

@@ -54,7 +54,6 @@ fn left_of(receiver: &Receiver) -> About<u64>
 }
 
 impl TaskPort {
-    /// Makes the reader's end of a lane.
     pub(crate) fn takes(receiver: Receiver) -> TaskPort
         ensures { result ≡ taking receiver (left receiver) }
     {
@@ -71,14 +70,12 @@ impl TaskPort {
         TaskPort(Way::Feeds(Feed::of(network, input, channel, next)))
     }
 
-    /// Makes the writer's end of a lane.
     pub(crate) fn puts(sender: Sender) -> TaskPort
         ensures { result ≡ putting sender }
     {
         TaskPort(Way::Puts(sender))
     }
 
-    /// Makes a port without an end.
     pub(crate) fn nothing() -> TaskPort
         ensures { result ≡ no_end }
     {
@@ -102,7 +99,7 @@ impl TaskPort {
                 *asked = left_of(receiver);
                 receiver.ready()
             }
-            Way::Feeds(feed) => feed.is_ready(input),
+            Way::Feeds(feed) => feed.next < input.count(feed.channel) as u64,
             _ => false,
         }
     }
@@ -197,20 +194,20 @@ impl TaskPort {
         self,
         reader: TaskPort,
         input: &Input,
-    ) -> (TaskPort, TaskPort, Result<(), NoMemory>)
+    ) -> ((TaskPort, TaskPort), Result<(), NoMemory>)
         requires { CanSettle input.now self reader }
-        ensures lane { OnOk result.2 (ShareLane result.0 result.1) }
-        ensures settled { OnOk result.2 ((n : LaneName) → self.name ≡ Some n → BothSettle (moved_to input.now n) self reader result.0 result.1) }
-        ensures refused { OnErr result.2 ((result.0 ≡ self) × (result.1 ≡ reader)) }
+        ensures lane { OnOk result.1 (ShareLane result.0.0 result.0.1) }
+        ensures settled { OnOk result.1 ((n : LaneName) → self.name ≡ Some n → BothSettle (moved_to input.now n) self reader result.0.0 result.0.1) }
+        ensures refused { OnErr result.1 ((result.0.0 ≡ self) × (result.0.1 ≡ reader)) }
     {
         let (Way::Puts(sender), Way::Takes(receiver, asked)) = (self.0, reader.0) else {
             unreachable!()
         };
         match settle(sender, receiver, input) {
-            Ok((sender, receiver)) => (TaskPort::puts(sender), TaskPort::takes(receiver), Ok(())),
+            Ok((sender, receiver)) => ((TaskPort::puts(sender), TaskPort::takes(receiver)), Ok(())),
             Err((fault, sender, receiver)) => {
                 let reader = TaskPort(Way::Takes(receiver, asked));
-                (TaskPort::puts(sender), reader, Err(fault))
+                ((TaskPort::puts(sender), reader), Err(fault))
             }
         }
     }
@@ -225,10 +222,8 @@ impl TaskPort {
             unreachable!()
         };
         let _waiting = meet(&mut sender, &mut receiver);
-        (
-            TaskPort::puts(sender),
-            TaskPort(Way::Takes(receiver, asked)),
-        )
+        let reader = TaskPort(Way::Takes(receiver, asked));
+        (TaskPort::puts(sender), reader)
     }
 
     /// Says that no more of an input channel is ready than its list has. For the prover only.

@@ -93,7 +93,12 @@ impl Task {
         ensures same { result ≡ self.work }
         ensures job { IsJob result }
     {
-        Idle::new(self.cell, self.instance, self.ports, self.published)
+        Idle {
+            cell: self.cell,
+            instance: self.instance,
+            ports: self.ports,
+            numbers: self.published,
+        }
     }
 
     /// Runs for at most `quantum` events, on the network and the input of its process. What it sent may stand in open segments
@@ -247,21 +252,6 @@ impl Model for Idle {
 }
 
 impl Idle {
-    /// Joins the cell of an instance with the ends of its channels, and a number for each parameter.
-    pub(crate) fn new(cell: Cell, instance: usize, ports: Vec<TaskPort>, numbers: Vec<u64>) -> Idle
-        requires here { instance ≡ cell.instance }
-        requires each { length numbers.items ≡ width_of (record { cell = cell; ends = ports.items }) }
-        ensures { result ≡ record { cell = cell; ends = ports.items } }
-    {
-        Idle {
-            cell,
-            instance,
-            ports,
-            numbers,
-        }
-    }
-
-    /// Gives a parameter another end, and returns the one it had.
     pub(crate) fn replace(&mut self, parameter: usize, port: TaskPort) -> TaskPort
         requires { parameter < length self.old.ends }
         ensures port { result ≡ end_at self.old.ends parameter }
@@ -270,7 +260,6 @@ impl Idle {
         mem::replace(&mut self.ports[parameter], port)
     }
 
-    /// Takes another cell of its instance. Never allocates.
     pub(crate) fn seat(&mut self, cell: Cell)
         requires { IsSamePlace self.old.cell cell }
         ensures { self.new ≡ record self.old { cell = cell } }

@@ -29,7 +29,7 @@ pub use Rattle.kahn_job.specs.inner.Ways.{no_end}
 pub use Rattle.kahn_job.specs.inner.Works.{IsJob, Work, width_of}
 pub use Rattle.kahn_sequential.specs.HeldRuns.{GoesOn, HasFed, HasResumed, HeldRun, IsAnswerOf, IsLineOf, IsResumed, IsRightSoFar, IsUnfed, Seen, given_so_far, seen_at, seen_events, seen_of, so_far, unseen}
 pub use Rattle.kahn_sequential.specs.declared.{rounds.Round.Round}
-pub use Rattle.kahn_pool.specs.declared.{part.Stopped.Stopped, plan.RunPart.RunPart}
+pub use Rattle.kahn_pool.specs.declared.{held.Stopped.Stopped, plan.RunPart.RunPart}
 pub use Rattle.kahn_sequential.specs.inner.Bench.{AreStreams, HasEndIn, IsConcluded, IsVerdict, RunState, all_events, events_at, view_events}
 pub use Rattle.kahn_sequential.specs.inner.Gathered.{IsFrom, IsGiven, IsOutcomeOf, TookNoMore, no_view, view_at}
 pub use Rattle.kahn_sequential.specs.inner.Parts.{AreEnded, HasRisen, HaveRisen}

@@ -2,10 +2,8 @@
 #![tactic(auto)]
 
 mod held;
-mod part;
 mod plan;
 mod running;
-mod workers;
 
 pub use held::Held;
 pub use kahn_sequential::{

@@ -15,7 +15,7 @@ pub use Rattle.kahn_streams.specs.declared.plan.Plan.{Plan}
 pub use Rattle.kahn_code.specs.inner.Opening.{IsOpening}
 pub use Rattle.kahn_sequential.specs.Flows.{AreNew, Flowing, HasLetGo, HasPouredIn, IsRunOn, IsStale}
 pub use Rattle.kahn_sequential.specs.HeldRuns.{AreCalls, GoesOn, HeldRun, IsAnswerOf, IsCall, IsLineOf, IsRightSoFar, IsUnresumed, SaysNoLess, Seen, given_so_far, last_of, seen_at, seen_events, seen_of, so_far, unseen, writing}
-pub use Rattle.kahn_sequential.specs.declared.{held_fault.HeldFault.HeldFault, rounds.Round.Round, numbers.NumberRange.NumberRange, rounds.PartEnd.PartEnd, woken.Woken.Woken}
+pub use Rattle.kahn_sequential.specs.declared.{flow.HeldFault.HeldFault, rounds.Round.Round, taps.NumberRange.NumberRange, rounds.PartEnd.PartEnd, taps.Woken.Woken}
 pub use Rattle.kahn_sequential.specs.inner.Bench.{AreEnds, AreStreams, HasEndIn, HasRunCell, IsConcluded, IsLast, IsPaused, IsVerdict, LacksMemory, PausedAt, RunState, all_events, events_at, view_events}
 pub use Rattle.kahn_sequential.specs.inner.FlowBench.{AreLent, IsFlowOf, flow_of, let_go_by, let_go_of, run_of_bench, IsPartEnd}
 pub use Rattle.kahn_sequential.specs.inner.Gathered.{IsFrom, IsGiven, IsOutcomeOf, TookAll, TookNoMore, no_view, view_at}

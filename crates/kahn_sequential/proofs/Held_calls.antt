@@ -1,6 +1,6 @@
 -- What many calls make of a held run: it goes on, so each answer says no less than those before it.
 use Rattle.kahn_sequential.proofs.Common.{arith, ◌≡◌, inl, inr, ℕ, List, [], ◌∷◌, refl, sym, ap, ◌∙◌, subst, IsPrefix, inputs_of, prefix_refl, prefix_trans, AreCalls, GoesOn, HeldRun, IsAnswerOf, IsCall, IsUnresumed, SaysNoLess, last_of, so_far, values_of, Answer, HeldFault}
-use Rattle.kahn_sequential.specs.declared.held_fault.HeldFault.TheVariants as held
+use Rattle.kahn_sequential.specs.declared.flow.HeldFault.TheVariants as held
 
 pub goes_on_same : (h : HeldRun) → GoesOn h h
 goes_on_same h = record {

@@ -58,17 +58,28 @@ module _ {t : Program} {lists : Lists} {watch : Option ℕ} {code : Program} (ta
     pub ran_is : ran b p y.told q' ≡ table_of t lists watch code (slice_set taps p y) q'
     ran_is = λ i. record { network = t; input = lists; watch = watch; code = code; cells = sym (map-set told_in taps p y) i; gone = sym gone_same i; queues = q' }
 
-    abbrev now : Table
-    now = table_of t lists watch code (slice_set taps p y) q'
+    -- with the input of the queues
+    abbrev after : Lists → Table
+    after l = table_of t l watch code (slice_set taps p y) q'
 
-    pub run_worked : (quantum : ℕ) (z : Pause) → HasRunCell (sight_of n) (sight_of now) p quantum z → HasWorked n now
-    run_worked quantum z h = record {
-      network = ap (λ (x : Table). x.network) is;
-      input = ap (λ (x : Table). x.input) is;
-      watch = ap (λ (x : Table). x.watch) is;
-      gone = gone_same ∙ ap (λ (x : Table). x.gone) is;
-      events = ran_events (sight_of n) (sight_of now) p quantum z h;
-    }
+    pub ran_laid : IsLaid (ran b p y.told q') → IsLaid (after q'.input)
+    ran_laid h = subst (λ l. IsLaid (after l)) (sym h.input) (subst IsLaid ran_is h)
+
+    pub run_worked : (quantum : ℕ) (z : Pause) → IsLaid (ran b p y.told q') → HasRunCell (sight_of b) (sight_of (ran b p y.told q')) p quantum z →
+        HasRunCell (sight_of n) (sight_of (after q'.input)) p quantum z × HasWorked n (after q'.input)
+    run_worked quantum z there h =
+        let k : HasRunCell (sight_of n) (sight_of (after lists)) p quantum z =
+        subst (λ (x : Table). HasRunCell (sight_of x) (sight_of (after lists)) p quantum z) is (subst (λ (x : Table). HasRunCell (sight_of b) (sight_of x) p quantum z) ran_is h) in
+        subst (λ l. HasRunCell (sight_of n) (sight_of (after l)) p quantum z × HasWorked n (after l)) (sym there.input) (
+          k,
+          record {
+            network = ap (λ (x : Table). x.network) is;
+            input = ap (λ (x : Table). x.input) is;
+            watch = ap (λ (x : Table). x.watch) is;
+            gone = gone_same ∙ ap (λ (x : Table). x.gone) is;
+            events = ran_events (sight_of n) (sight_of (after lists)) p quantum z k;
+          },
+        )
 
 -- ---- what is there of what was kept
 

@@ -4,7 +4,7 @@ use Rattle.std.specs.Prelude.{◌≡◌, ◌⊎◌, ℕ, ◌+◌, ◌<◌, ◌�
 use Rattle.kahn_sequential.specs.inner.Below.{Config, Entry, FeedFault, IsMeant, IsNotMeant, IsPoured, Line, Lists, Memory, Program, Token, TooMany, Value, Verdict, channel_of, most_values, network_of, stream_lines, token_value, total_after}
 use Rattle.kahn_streams.specs.declared.{feeds.FeedFault.TheVariants.NoMemory}
 use Rattle.kahn_sequential.specs.HeldRuns.{GoesOn, HasStarted, HeldRun, IsResumed, seen_events, so_far}
-use Rattle.kahn_sequential.specs.declared.{held_fault.HeldFault.HeldFault, held_fault.HeldFault.TheVariants.BadMore}
+use Rattle.kahn_sequential.specs.declared.{flow.HeldFault.HeldFault, flow.HeldFault.TheVariants.BadMore}
 
 pub record Flowing : Type 0 where
   -- the run, with all that ever was fed, sent and printed, which contracts alone see

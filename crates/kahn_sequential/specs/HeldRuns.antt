@@ -3,8 +3,8 @@
 use Rattle.std.specs.Prelude.{◌≡◌, ◌⊎◌, ℕ, suc, ◌+◌, ◌<◌, ◌≤◌, ◌^◌, List, [], ◌∷◌, map, sum_by, Option, Some, None, slice_get, slice_index_or, if◌then◌else◌}
 use Rattle.kahn_sequential.specs.inner.Below.{Actual, Answer, AreInputsExtended, AreRight, Channel, Config, End, Entry, FeedFault, Finished, Given, HasEndAt, HasStream, Inputs, IsAllowed, IsEntryFed, IsPrefix, IsRight, IsUnrun, IsUnwelcome, IsWatched, IsWhole, Line, Lists, Schema, Print, Program, RunFault, Settles, Source, Stream, Token, CellView, Value, Verdict, Written, inputs_of, instance_at, is_written, network_of, source, stream_lines, token_value, values_of}
 use Rattle.kahn_streams.specs.declared.fault.RunFault.TheVariants as fault
-use Rattle.kahn_sequential.specs.declared.held_fault.HeldFault.{HeldFault}
-use Rattle.kahn_sequential.specs.declared.held_fault.HeldFault.TheVariants as held
+use Rattle.kahn_sequential.specs.declared.flow.HeldFault.{HeldFault}
+use Rattle.kahn_sequential.specs.declared.flow.HeldFault.TheVariants as held
 
 -- why a run on one thread is refused
 abbrev pub IsRefusedRun : ℕ → RunFault → Type 0

@@ -2,7 +2,7 @@
 -- keeps all that is sent, what they were (this project's profile).
 use Rattle.std.specs.Prelude.{◌≡◌, ℕ, ◌+◌, List, Option, Some, false, length, slice_get}
 use Rattle.kahn_sequential.specs.inner.Below.{AreRight, Channel, Config, End, Finished, Inputs, IsAllowed, IsRight, IsWatched, IsWhole, Lists, Schema, Program, Reads, Stream, Verdict, actual_at, exec_at, inputs_of, instance_at, is_output, network_of, role_at, values_of}
-use Rattle.kahn_sequential.specs.declared.{counted.Count.Count, counted.Counted.Counted, recorded.Recorded.Recorded}
+use Rattle.kahn_sequential.specs.declared.{counted.Count.Count, counted.Counted.Counted, counted.Recorded.Recorded}
 
 -- ---- how many
 

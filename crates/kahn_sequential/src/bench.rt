@@ -5,16 +5,12 @@ ghost use Rattle.kahn_sequential.specs.{inner.Bench.AreStreams, inner.Bench.HasR
 ghost use Rattle.kahn_sequential.specs.inner.Workbench.{AllStandBy, AreStreamsReady, AreWhole, HasEmptied, HasFresh, HasFreshPrints, HasTakenIn, HasWorked, IsCrowded, IsLaid, IsNextPlace, gone_in, seated_with, sight_of, table_of, told_in, vacant_of};
 ghost use Rattle.std.specs.Prelude.{◌≡◌, ◌<◌, ◌+◌, ◌^◌, ℕ, [], Some, length, map, slice_get, vec_capacity, IfOk, IfErr, IfSome, MatchOption, SomeIff};
 
-use crate::awake::Awake;
-use crate::channel::channel_read;
-use crate::looks::{Looks, sent_on};
+use crate::awake::{Awake, Looks, sent_on};
+use crate::one::channel_read;
 use crate::streams::fill;
-use crate::taps::{all_kept, all_sized, all_stood, forget_turned, named_taps};
-use crate::woken::Woken;
+use crate::taps::{Woken, all_kept, all_sized, all_stood, forget_turned, named_taps};
 use kahn_code::{Code, CodeFault, Kept, Pause, Plain, Steps, Tap, compile, regrow_taps};
-use kahn_streams::{
-    About, Input, MOST_BOUND, Network, NoMemory, Outcome, Side, Stream, Tokens, Value,
-};
+use kahn_streams::{Input, MOST_BOUND, Network, NoMemory, Outcome, Side, Stream, Tokens, Value};
 use std::alloc::Global;
 use std::marker::Model;
 use std::sync::ledger::Ledger;
@@ -26,7 +22,6 @@ const MOST_WAITING: usize = 1_048_576;
 #[derive(Drop)]
 pub struct Sequential<'n> {
     network: &'n Network,
-    input: About<Input>,
     watch: Option<usize>,
     code: Code,
     taps: Vec<Tap>,
@@ -45,9 +40,9 @@ impl<'n> Model for Sequential<'n> {
 
     ghost coded = { Prim.hlevel (codes, action.the_row.coded, form.the_row.coded) };
 
-    ghost view = { λ b. table_of b.network.now b.input.value b.watch b.code.network.value b.taps.items b.queues };
+    ghost view = { λ b. table_of b.network.now b.queues.input b.watch b.code.network.value b.taps.items b.queues };
 
-    ghost invariant = { λ b. IsLaid (table_of b.network.now b.input.value b.watch b.code.network.value b.taps.items b.queues) };
+    ghost invariant = { λ b. IsLaid (table_of b.network.now b.queues.input b.watch b.code.network.value b.taps.items b.queues) };
 }
 
 impl<'n> Sequential<'n> {
@@ -70,33 +65,15 @@ impl<'n> Sequential<'n> {
         let awake = Awake::new(alloc, network)?;
         let looks = Looks::new(alloc, network, &code)?;
         let _program = network.program();
-        Ok(Sequential::named(network, input, watch, code, taps, queues, awake, looks))
-    }
-
-    fn named(
-        network: &'n Network,
-        _input: &Input,
-        watch: Option<usize>,
-        code: Code,
-        taps: Vec<Tap>,
-        queues: Plain<'n, Global>,
-        awake: Awake,
-        looks: Looks,
-    ) -> Sequential<'n>
-        ghost input: { Lists }
-        requires { IsLaid (table_of network.now input watch code.network.value taps.items queues) }
-        ensures { result ≡ table_of network.now input watch code.network.value taps.items queues.entry }
-    {
-        Sequential {
+        Ok(Sequential {
             network,
-            input: About::named(),
             watch,
             code,
             taps,
             queues,
             awake,
             looks,
-        }
+        })
     }
 
     /// How many instances the network has, each with a tap.
@@ -133,7 +110,6 @@ impl<'n> Sequential<'n> {
         pause
     }
 
-    /// Whether an instance may stand where turns of a source can be done.
     pub(crate) fn may_feed(&self, instance: usize) -> bool
         requires { instance < length (sight_of self.now).network.instances }
     {
@@ -179,12 +155,10 @@ impl<'n> Sequential<'n> {
         }
     }
 
-    /// Whether an instance is far ahead of one of its readers.
     pub(crate) fn is_ahead(&self, instance: usize) -> bool {
         self.awake.is_ahead(instance, &self.queues)
     }
 
-    /// Any instance may go on, as far as is known.
     pub(crate) fn wake_all(&mut self)
         ensures { self.new ≡ self.old }
     {
@@ -228,7 +202,6 @@ impl<'n> Sequential<'n> {
         match self.queues.pour(channel, values) {
             Ok(()) => {
                 regrow_taps(&mut self.taps, &self.queues);
-                self.input = About::named();
                 Ok(())
             }
             Err(fault) => Err(fault),
@@ -412,7 +385,6 @@ impl<'n> Sequential<'n> {
     {
         let vacant = Vacant {
             network: self.network,
-            input: self.input,
             watch: self.watch,
             code: self.code,
             queues: self.queues,
@@ -422,8 +394,7 @@ impl<'n> Sequential<'n> {
         (vacant, self.taps)
     }
 
-    /// The streams of an answer: what the writers kept, if nothing was let go of. There is room for what each kept. Never
-    /// allocates.
+    /// The streams of an answer: what the writers kept, if nothing was let go of. There is room for what each kept. Never allocates.
     pub fn into_streams(self, mut streams: Vec<Stream>, kept: Vec<Kept>) -> Vec<Stream>
         requires whole { AreWhole (length (network_of self.network).instances) self.gone }
         requires ready { AreStreamsReady self.network self.input self.watch streams.items kept.items (vec_capacity kept) }
@@ -439,7 +410,6 @@ impl<'n> Sequential<'n> {
 #[derive(Drop)]
 pub struct Vacant<'n> {
     network: &'n Network,
-    input: About<Input>,
     watch: Option<usize>,
     code: Code,
     queues: Plain<'n, Global>,
@@ -458,7 +428,7 @@ impl<'n> Model for Vacant<'n> {
 
     ghost coded = { Prim.hlevel (codes, action.the_row.coded, form.the_row.coded) };
 
-    ghost view = { λ b. table_of b.network.now b.input.value b.watch b.code.network.value [] b.queues };
+    ghost view = { λ b. table_of b.network.now b.queues.input b.watch b.code.network.value [] b.queues };
 }
 
 impl<'n> Vacant<'n> {
@@ -477,7 +447,6 @@ impl<'n> Vacant<'n> {
     {
         Sequential {
             network: self.network,
-            input: self.input,
             watch: self.watch,
             code: self.code,
             taps,

@@ -1,18 +1,19 @@
-//! How many values each channel of a run had, and how many of them were taken.
+//! Runs on the caller's thread that count what each channel had, or keep all that is sent.
 
-ghost use Rattle.kahn_sequential.specs.{Recordings.IsCountedRun, inner.Below.IsUnrun, inner.Below.Settles, inner.Below.inputs_of, inner.Below.network_of, inner.Bench.all_events, inner.FlowBench.IsPartEnd, inner.Recording.AreCountsOf, inner.Recording.HasGiven, inner.Recording.HasRecorded, inner.Recording.IsCountOf, inner.Recording.IsKeptAlone, inner.Recording.IsRecording, inner.Recording.MayRecord, inner.Workbench.HasWorked, inner.Workbench.IsLaid, inner.Workbench.sight_of};
-ghost use Rattle.std.specs.Prelude.{◌≡◌, ◌<◌, ◌≤◌, ◌+◌, ◌^◌, [], IfOk, MatchResult, length, vec_capacity};
+ghost use Rattle.kahn_sequential.specs.{Recordings.IsCountedRun, inner.Below.IsUnrun, inner.Below.Settles, inner.Below.inputs_of, inner.Below.network_of, inner.Recording.AreCountsOf, inner.Recording.HasGiven, inner.Recording.HasRecorded, inner.Recording.IsKeptAlone, inner.Recording.MayRecord, inner.Workbench.sight_of, Recordings.IsRecordedRun, inner.Below.given_of, inner.Recording.AreTurnShortOf, inner.Recording.AreOpenChannels, inner.Recording.AreRecordedOf, inner.Recording.AreTokensOf, inner.Recording.HasOthers, inner.Recording.IsKeptFrom, inner.Recording.IsRecorded, inner.Recording.IsTurnRecording, inner.Recording.IsTurnShort, inner.Recording.IsWithinQueue, inner.Recording.TakesTurns};
+ghost use Rattle.std.specs.Prelude.{◌≡◌, ◌<◌, ◌≤◌, ◌^◌, [], IfOk, MatchResult, length, vec_capacity, false, slice_get, OnOk};
 
 use crate::bench::Sequential;
 use crate::laws;
-use crate::plan::plan_of;
-use crate::rounds::{Driver, PartEnd, Round};
-use crate::streams::room_for_answer;
-use kahn_code::{CodeFault, Steps};
-use kahn_streams::{Answer, Config, End, Input, Network, Open, Plan, RunFault, Stream};
+use crate::one::{plan_of, run_until_wide};
+use crate::streams::{opening_stream, room_for_answer};
+use kahn_code::{CodeFault, Plain};
+use kahn_streams::{
+    Answer, Config, Input, Line, Network, NoMemory, Open, Plan, Role, RunFault, Stream, Tokens,
+};
 use std::alloc::Global;
 use std::marker::Brand;
-use std::sync::ledger::{Blank, Ledger};
+use std::sync::ledger::Blank;
 
 /// How many values a channel has had, by its writer or by the input, and how many of them were taken by its reader. No process takes those
 /// of an output.
@@ -29,7 +30,6 @@ pub struct Counted {
     pub counts: Vec<Count>,
 }
 
-// How many values a channel has had.
 fn sent_on(network: &Network, input: &Input, bench: &Sequential<'_>, channel: usize) -> u64
     requires names { (bench.now.network ≡ network.now) × (bench.now.input ≡ input.now) }
     requires here { channel < length (network_of network.now).channels }
@@ -38,18 +38,6 @@ fn sent_on(network: &Network, input: &Input, bench: &Sequential<'_>, channel: us
     match network.writer(channel) {
         Some(side) => bench.sent_by(side),
         None => input.count(channel) as u64,
-    }
-}
-
-fn count_of(network: &Network, input: &Input, bench: &Sequential<'_>, channel: usize) -> Count
-    requires names { (bench.now.network ≡ network.now) × (bench.now.input ≡ input.now) }
-    requires laid { IsLaid bench.now }
-    requires here { channel < length (network_of network.now).channels }
-    ensures { IsCountOf (sight_of bench.now) channel result }
-{
-    Count {
-        sent: sent_on(network, input, bench, channel),
-        taken: bench.queues().taken(channel),
     }
 }
 
@@ -67,39 +55,11 @@ fn counts_of(
     bench.stood();
     let mut counts = room;
     for channel in 0..network.channels() {
-        counts.push_reserved(count_of(network, input, bench, channel));
+        let sent = sent_on(network, input, bench, channel);
+        let taken = bench.queues().taken(channel);
+        counts.push_reserved(Count { sent, taken });
     }
     counts
-}
-
-// Runs the processes of a bench for as many events as the plan's bound, and records what they send. Steps are counted on a ledger of its own.
-// The list of ends has room for each instance.
-fn run_to_rest<L: Ledger>(
-    blank: Blank,
-    bench: &mut Sequential<'_>,
-    recording: &mut Option<Vec<Stream>>,
-    ends: Vec<End>,
-    plan: Plan,
-) -> PartEnd
-    requires blank { (blank.name ≡ L.name) × (blank.parts ≡ L.parts) × (0 < blank.parts) }
-    requires quantum { 0 < plan.quantum }
-    requires bound { all_events (sight_of bench.old) + plan.bound < 2 ^ 48 }
-    requires room { length (sight_of bench.old).network.instances ≤ vec_capacity ends }
-    requires recorded { IsRecording bench.old plan.quantum recording.old }
-    ensures concluded { IsPartEnd bench.new (all_events (sight_of bench.old) + plan.bound) result }
-    ensures worked { HasWorked bench.old bench.new }
-    ensures recorded { HasRecorded bench.new recording.new }
-{
-    let mut driver = Driver {
-        steps: Steps::<L>::open(blank),
-        gate: &Open,
-        may_leave: false,
-    };
-    let first = Round::new(bench, plan.quantum, plan.bound, ends);
-    let Ok(part) = driver.to_end(bench, first, recording) else {
-        unreachable!()
-    };
-    part
 }
 
 /// Runs a network on the caller's thread over plain queues, and counts in the end; if there is a stream for each channel, it is recorded. Fails
@@ -122,7 +82,8 @@ pub(crate) fn run_kept(
     let (streams, kept) = room_for_answer(alloc, network, input, plan.watch)?;
     bench.stood();
     let blank = Blank::new(1);
-    let part = run_to_rest::<Brand>(blank, &mut bench, recording, ends, plan);
+    let run = run_until_wide::<Open, Brand>(blank, &mut bench, &Open, false, ends, plan, recording);
+    let Ok(part) = run else { unreachable!() };
     let counts = counts_of(network, input, &bench, room);
     bench.stood();
     let answer = Answer {
@@ -148,4 +109,143 @@ pub fn run_counted(
     let plan = plan_of(network, &config)?;
     laws::finished_exactly();
     Ok(run_kept(alloc, network, &input, plan, &mut None)?)
+}
+
+/// The answer of a run that kept all that was sent, and of each channel, by its number, its count and its stream. The stream of an output
+/// channel has no tokens here: they are in the answer.
+#[derive(Drop)]
+pub struct Recorded {
+    pub answer: Answer,
+    pub counts: Vec<Count>,
+    pub channels: Vec<Stream>,
+}
+
+fn is_own(network: &Network, channel: usize) -> bool
+    requires { channel < length (network_of network.now).channels }
+    ensures { result ≡ false → HasOthers (network_of network.now) channel }
+{
+    let Some(writer) = network.writer(channel) else {
+        return false;
+    };
+    let Some(reader) = network.reader(channel) else {
+        return false;
+    };
+    writer.instance == reader.instance
+}
+
+// The most events of a turn: one, if a process reads a channel that it writes.
+fn quantum_for(network: &Network, quantum: u64) -> u64
+    requires { 0 < quantum }
+    ensures some { 0 < result }
+    ensures turns { TakesTurns (network_of network.now) result }
+{
+    for channel in 0..network.channels() {
+        if is_own(network, channel) {
+            return 1;
+        }
+    }
+    quantum
+}
+
+fn channel_streams(alloc: Global, network: &Network, input: &Input) -> Result<Vec<Stream>, NoMemory>
+    ensures { IfOk result (λ streams. AreOpenChannels network.now input.now streams.items (length (network_of network.now).channels)) }
+{
+    let mut streams = Vec::with_capacity(alloc, network.channels())?;
+    for channel in 0..network.channels() {
+        let line = Line::Channel(channel);
+        streams.push_reserved(opening_stream(alloc, network, input, line)?);
+    }
+    Ok(streams)
+}
+
+fn add_new(queues: &Plain<Global>, channel: usize, tokens: &mut Tokens) -> Result<(), NoMemory>
+    requires within { IsWithinQueue (slice_get queues.now.queues channel) (length tokens.old.items) }
+    requires right { AreTokensOf queues.now.network queues.now.input channel tokens.old.items }
+    ensures right { OnOk result (AreTokensOf queues.now.network queues.now.input channel tokens.new.items) }
+    ensures all { OnOk result (length tokens.new.items ≡ given_of (slice_get queues.now.queues channel)) }
+{
+    let first = tokens.len() - queues.taken(channel) as usize;
+    for number in first..queues.waiting(channel) {
+        let token = queues.token(channel, number);
+        tokens.push(token)?;
+    }
+    Ok(())
+}
+
+// Adds what was sent since on a channel, if processes write and read it.
+fn add_sent_on(
+    network: &Network,
+    queues: &Plain<Global>,
+    channel: usize,
+    stream: &mut Stream,
+) -> Result<(), NoMemory>
+    requires here { channel < length (network_of network.now).channels }
+    requires short { IsTurnShort network.now queues.now channel stream.old }
+    ensures { OnOk result (IsRecorded network.now queues.now channel stream.new) }
+{
+    if network.channel(channel).role != Role::Inner {
+        return Ok(());
+    }
+    add_new(queues, channel, &mut stream.tokens)
+}
+
+fn add_sent(
+    network: &Network,
+    queues: &Plain<Global>,
+    streams: &mut Vec<Stream>,
+) -> Result<(), NoMemory>
+    requires { AreTurnShortOf network.now queues.now streams.old.items }
+    ensures { OnOk result (AreRecordedOf network.now queues.now streams.new.items) }
+{
+    for channel in 0..network.channels() {
+        add_sent_on(network, queues, channel, &mut streams[channel])?;
+    }
+    Ok(())
+}
+
+/// Records what was sent in a turn, if anything is recorded. If memory is refused nothing is any more.
+pub(crate) fn keep_sent(bench: &Sequential<'_>, recording: &mut Option<Vec<Stream>>)
+    requires { IsTurnRecording bench.now recording.old }
+    ensures recorded { HasRecorded bench.now recording.new }
+    ensures kept { IsKeptFrom recording.old recording.new }
+{
+    let Some(mut streams) = recording.take() else {
+        return;
+    };
+    if add_sent(bench.network(), bench.queues(), &mut streams).is_err() {
+        return;
+    }
+    *recording = Some(streams);
+}
+
+/// Runs a network with an input that fits it, as `run` does with one worker at an open gate, and keeps all that is sent, on every
+/// channel. Its answer is right, whatever number of workers the configuration has, and the streams of the channels are the histories
+/// of that answer: whole if it has finished. If a process reads a channel that it writes, each turn is one event.
+///
+/// Fails as `run` does, but that it starts no thread: with `NoMemory` if memory was refused before the first event or for what is kept.
+pub fn run_recorded(
+    alloc: Global,
+    network: &Network,
+    input: Input,
+    config: Config,
+) -> Result<Recorded, RunFault>
+    ensures told { MatchResult result (IsRecordedRun network.now input config) (IsUnrun network.now config) }
+    ensures exact { IfOk result (λ x. Settles (network_of network.now) (inputs_of input) config.bound x.answer.verdict) }
+{
+    let plan = plan_of(network, &config)?;
+    laws::finished_exactly();
+    let turns = Plan {
+        quantum: quantum_for(network, plan.quantum),
+        ..plan
+    };
+    let mut recording = Some(channel_streams(alloc, network, &input)?);
+    let counted = run_kept(alloc, network, &input, turns, &mut recording)?;
+    let Some(channels) = recording else {
+        return Err(RunFault::NoMemory);
+    };
+    Ok(Recorded {
+        answer: counted.answer,
+        counts: counted.counts,
+        channels,
+    })
 }

@@ -1,25 +1,24 @@
 //! Runs on one thread that are fed as they go, and let go of what they kept.
 
-ghost use Rattle.std.specs.Prelude.{◌≡◌, ℕ, ◌+◌, ◌++◌, ◌∷◌, ◌<◌, ◌≤◌, ◌^◌, [], Some, length, map, slice_get, sum_by, false, true, vec_capacity, IfOk, MatchResult, OnOk};
-ghost use Rattle.kahn_sequential.specs.inner.Below.{Holds, Input as InputRole, Names, Value as ValueOf, Verdict as VerdictOf, inputs_of, is_watched, network_of, role_at, stream_lines, token_value};
-ghost use Rattle.kahn_sequential.specs.HeldRuns.{IsLineOf, IsRightSoFar, IsUnstarted, seen_events};
-ghost use Rattle.kahn_sequential.specs.Flows.{AreNew, HasFlowed, HasLetGo, HasPouredIn, IsNotRun, IsRunOn, IsStale, IsUnpoured};
+ghost use Rattle.std.specs.Prelude.{◌≡◌, ◌∷◌, ℕ, ◌+◌, ◌++◌, ◌<◌, ◌≤◌, ◌^◌, [], Some, length, map, slice_get, sum_by, false, true, vec_capacity, IfOk, MatchResult, OnOk, IsTrue};
+ghost use Rattle.kahn_sequential.specs.{inner.Below.Holds, inner.Below.Names, inner.Below.inputs_of, inner.Below.is_watched, inner.Below.network_of, inner.Below.role_at, inner.Below.stream_lines, inner.Below.token_value, HeldRuns.IsLineOf, HeldRuns.IsRightSoFar, HeldRuns.IsUnstarted, HeldRuns.seen_events, Flows.AreNew, Flows.HasFlowed, Flows.HasLetGo, Flows.HasPouredIn, Flows.IsNotRun, Flows.IsRunOn, Flows.IsStale, Flows.IsUnpoured, inner.Bench.all_events, inner.FlowBench.IsPartEnd, inner.Noted.AreAtRest, inner.Noted.AreNoted, inner.Noted.AreNotedBut, inner.Noted.AreSpent, inner.Workbench.HasAdvanced, inner.Workbench.HasWorked, inner.Workbench.MayRun, inner.Workbench.sight_of};
+ghost use Rattle.kahn_sequential.specs.inner.Below.{Input as InputRole, Value as ValueOf, Verdict as VerdictOf};
 
 use crate::bench::Sequential;
-use crate::held_fault::HeldFault;
-use crate::numbers::{NumberRange, least_of, numbers_of};
-use crate::plan::plan_of;
-use crate::settling::run_on;
+use crate::one::plan_of;
+use crate::rounds::{Driver, PartEnd, Round};
 use crate::streams::{given_first, lines_of};
-use crate::woken::Woken;
+use crate::taps::{NumberRange, Woken, least_of, numbers_of};
+use kahn_code::Steps;
 use kahn_streams::{
-    Config, End, FeedFault, Gate, Input, Line, MOST_BOUND, Network, NoMemory, Plan, RunFault,
-    Token, Tokens, Value, Verdict, Word, channel_meant,
+    Config, End, FeedFault, Gate, Input, Line, MOST_BOUND, Network, NoMemory, Outcome, Plan,
+    RunFault, Token, Tokens, Value, Verdict, Word, channel_meant,
 };
 use std::alloc::Global;
 use std::marker::{Brand, Model};
 use std::mem;
-use std::sync::ledger::Blank;
+use std::sync::ledger::{Blank, Ledger};
+use thiserror::Error;
 
 // Of more instances that had turns all are asked what they keep.
 const MOST_TURNED: usize = 16;
@@ -79,7 +78,6 @@ fn lent_of(watch: Option<usize>, channel: usize, values: &[Value]) -> &[Value]
     if watch == Some(channel) { values } else { &[] }
 }
 
-// Makes room for so many tokens more. Fails only if memory was refused, and then nothing changed.
 fn make_room(tokens: &mut Tokens, count: usize) -> Result<(), NoMemory>
     ensures items { tokens.new.items ≡ tokens.old.items }
     ensures room { OnOk result (count ≤ tokens.new.spare) }
@@ -225,8 +223,7 @@ impl<'n> Flow<'n> {
         self.given.clear();
     }
 
-    /// What is new of the stream of a line since it was last let go of, in place order. May be called only for a line of `lines`.
-    /// Never allocates.
+    /// What is new of the stream of a line since it was last let go of, in place order, for a line of `lines`. Never allocates.
     pub fn fresh(&self, line: Line) -> &Tokens
         requires { IsLineOf self.now.run line }
         ensures { AreNew self.now line result.now.items }
@@ -280,12 +277,147 @@ impl<'n> Flow<'n> {
         lines_of(self.alloc, self.network, self.plan.watch)
     }
 
-    /// How each instance stands, right for the input so far and the bound so far. May be called only if the run is settled.
-    /// Never allocates.
+    /// How each instance stands, right for the input and the bound so far. Only if the run is settled. Never allocates.
     pub fn ends(&self) -> &[End]
         requires { (v : VerdictOf) × (self.now.run.verdict ≡ Some v) }
         ensures { (v : VerdictOf) → self.now.run.verdict ≡ Some v → IsRightSoFar self.now.run v result.now }
     {
         &self.ends
+    }
+}
+
+// How many turns, for each instance, those that were woken have at most before rounds of all.
+const WOKEN_TURNS: usize = 4;
+
+impl<'g, L: Ledger, G: Gate> Driver<'g, L, G> {
+    // The turn of an instance that was woken, which wakes the readers of what it wrote. Whether it is at rest then.
+    fn settle_one(
+        &mut self,
+        bench: &mut Sequential<'_>,
+        round: &mut Round,
+        woken: &mut Woken,
+        turned: &mut Woken,
+        instance: usize,
+    ) -> bool
+        requires may { MayRun (sight_of bench.old) round.old }
+        requires noted { AreNotedBut (λ p. p ≡ instance) (sight_of bench.old) woken.old round.old.ends.items }
+        requires spent { AreSpent bench.old turned.old }
+        ensures advanced { HasAdvanced bench.old bench.new round.old round.new }
+        ensures noted { IsTrue result → AreNoted (sight_of bench.new) woken.new round.new.ends.items }
+        ensures spent { AreSpent bench.new turned.new }
+    {
+        if instance >= bench.instance_count() {
+            return false;
+        }
+        let end = self.visit(bench, round, instance, true);
+        turned.add_once(instance);
+        if matches!(end.outcome, Outcome::More) || instance >= round.ends.len() {
+            return false;
+        }
+        bench.stood();
+        round.ends[instance] = end;
+        bench.wake_readers(instance, woken);
+        true
+    }
+
+    // Turns of those that were woken, until all are at rest. Whether they are, and nothing more than that was to be done.
+    fn settle(
+        &mut self,
+        bench: &mut Sequential<'_>,
+        round: &mut Round,
+        woken: &mut Woken,
+        turned: &mut Woken,
+    ) -> bool
+        requires may { MayRun (sight_of bench.old) round.old }
+        requires noted { AreNoted (sight_of bench.old) woken.old round.old.ends.items }
+        requires spent { AreSpent bench.old turned.old }
+        ensures advanced { HasAdvanced bench.old bench.new round.old round.new }
+        ensures rest { IsTrue result → AreAtRest (sight_of bench.new) round.new }
+        ensures spent { AreSpent bench.new turned.new }
+    {
+        for _ in 0..bench.instance_count().saturating_mul(WOKEN_TURNS) {
+            let Some(instance) = woken.take() else {
+                return woken.known && !round.memory;
+            };
+            if !self.settle_one(bench, round, woken, turned, instance) {
+                return false;
+            }
+        }
+        false
+    }
+}
+
+/// Runs the processes of a bench on one thread for as many events as the plan's bound, each for at most its quantum at a time, before
+/// which the gate is entered. The list of ends has room for each instance; as far as it is known which instances were woken since they
+/// were noted, those of the others stay. Steps are counted on a ledger of its own. Never allocates.
+pub(crate) fn run_on<G: Gate, L: Ledger>(
+    blank: Blank,
+    bench: &mut Sequential<'_>,
+    gate: &G,
+    ends: Vec<End>,
+    woken: &mut Woken,
+    turned: &mut Woken,
+    plan: Plan,
+) -> PartEnd
+    requires blank { (blank.name ≡ L.name) × (blank.parts ≡ L.parts) × (0 < blank.parts) }
+    requires quantum { 0 < plan.quantum }
+    requires bound { all_events (sight_of bench.old) + plan.bound < 2 ^ 48 }
+    requires room { length (sight_of bench.old).network.instances ≤ vec_capacity ends }
+    requires noted { AreNoted (sight_of bench.old) woken.old ends.items }
+    requires spent { AreSpent bench.old turned.old }
+    ensures concluded { IsPartEnd bench.new (all_events (sight_of bench.old) + plan.bound) result }
+    ensures room { length (sight_of bench.new).network.instances ≤ vec_capacity result.ends }
+    ensures worked { HasWorked bench.old bench.new }
+    ensures noted { AreNoted (sight_of bench.new) woken.new result.ends.items }
+    ensures spent { AreSpent bench.new turned.new }
+{
+    let mut driver = Driver {
+        steps: Steps::<L>::open(blank),
+        gate,
+        may_leave: false,
+    };
+    let mut round = Round::new(bench, plan.quantum, plan.bound, ends);
+    if driver.settle(bench, &mut round, woken, turned) {
+        bench.stood();
+        return PartEnd {
+            verdict: Verdict::Finished,
+            ends: round.ends,
+            left: round.left,
+        };
+    }
+    turned.clear(false);
+    driver.may_leave = false;
+    let Ok(part) = driver.to_end(bench, round, &mut None) else {
+        unreachable!()
+    };
+    woken.clear(matches!(part.verdict, Verdict::Finished));
+    part
+}
+
+/// Why a part of a held run gives no verdict, by the first of these that holds.
+#[derive(Clone, Copy, Debug, PartialEq, Eq, Drop, Error)]
+pub enum HeldFault {
+    /// The sum of all bounds would pass 2^48 - 1.
+    #[error("bound is out of range")]
+    BadMore,
+    /// Memory was refused before the first event.
+    #[error("no memory")]
+    NoMemory,
+    /// A thread couldn't be started. Those that were are halted and gathered.
+    #[error("no thread")]
+    NoThread,
+    /// The workers left and the run neither finished nor reached its bound nor wanted memory.
+    #[error("workers stalled")]
+    Stalled,
+}
+
+impl From<NoMemory> for HeldFault {
+    ghost use Rattle.std.specs.Prelude.{◌≡◌};
+    ghost use Rattle.kahn_sequential.specs.declared.flow.HeldFault.TheVariants.{NoMemory as Wants};
+
+    ghost from_gives = { λ _ e. e ≡ Wants };
+
+    fn from(_error: NoMemory) -> HeldFault {
+        HeldFault::NoMemory
     }
 }

@@ -1,23 +1,57 @@
-//! A run on the caller's thread.
+//! A run on the caller's thread, and the plan of a run.
 
-ghost use Rattle.kahn_sequential.specs.inner.Below.{IsCutShort, IsRight, Settles, inputs_of, network_of};
-ghost use Rattle.kahn_sequential.specs.HeldRuns.{IsRefusedRun};
-ghost use Rattle.kahn_sequential.specs.inner.FlowBench.{IsPartEnd};
-ghost use Rattle.kahn_sequential.specs.inner.Workbench.{AreStreamsReady, AreWhole, IsRightAlone, IsWide};
-ghost use Rattle.std.specs.Prelude.{◌≡◌, ◌<◌, ◌^◌, length, IfOk, IfErr, None, vec_capacity};
+ghost use Rattle.kahn_sequential.specs.{inner.Bench.all_events, inner.Recording.HasRecorded, inner.Recording.IsRecording, inner.Workbench.HasWorked, inner.Workbench.MayGoOn, inner.Workbench.sight_of, inner.Below.IsCutShort, inner.Below.IsRight, inner.Below.Settles, inner.Below.inputs_of, inner.Below.network_of, HeldRuns.IsRefusedRun, inner.FlowBench.IsPartEnd, inner.Workbench.AreStreamsReady, inner.Workbench.AreWhole, inner.Workbench.IsRightAlone, inner.Workbench.IsWide, inner.Below.IsAllowed, inner.Below.IsUndeclared, inner.Below.IsUnrun, inner.Below.IsWatched, inner.Below.UnknownWatch, HeldRuns.IsUnstarted, inner.Below.Reads, inner.Below.actual_at, inner.Below.instance_at};
+ghost use Rattle.std.specs.Prelude.{◌≡◌, ◌≤◌, ◌+◌, true, ◌<◌, ◌^◌, length, IfOk, IfErr, None, vec_capacity, MatchResult, ℕ, Some};
 
 use crate::bench::Sequential;
 use crate::laws;
-use crate::rounds::{PartEnd, Round, run_until_wide};
+use crate::rounds::{Driver, PartEnd, Round};
 use crate::streams::room_for_answer;
-use kahn_code::{CodeFault, Kept};
-use kahn_streams::{Answer, Gate, Input, MOST_BOUND, Network, Open, Plan, RunFault, Stream};
+use kahn_code::{Code, CodeFault, Kept, Steps};
+use kahn_streams::{
+    Answer, Config, End, Gate, Input, MOST_BOUND, Network, Open, Plan, RunFault, Stream,
+    channel_named,
+};
 use std::alloc::Global;
 use std::marker::Brand;
-use std::sync::ledger::Blank;
+use std::sync::ledger::{Blank, Ledger};
 
 /// How many events a process may do before the next one is run.
 pub const QUANTUM: u64 = 1000;
+
+/// Runs the processes of a bench on one thread for as many events as the plan's bound, each for at most its quantum at a time, before
+/// which the gate is entered, and records what they send. If the run may be left and there is work for several workers, it gives back
+/// what is left, from which the run may go on. Steps are counted on a ledger of its own. The list of ends has room for each instance.
+/// Never allocates, but for what is recorded.
+pub fn run_until_wide<G: Gate, L: Ledger>(
+    blank: Blank,
+    bench: &mut Sequential<'_>,
+    gate: &G,
+    may_leave: bool,
+    ends: Vec<End>,
+    plan: Plan,
+    recording: &mut Option<Vec<Stream>>,
+) -> Result<PartEnd, Round>
+    requires blank { (blank.name ≡ L.name) × (blank.parts ≡ L.parts) × (0 < blank.parts) }
+    requires quantum { 0 < plan.quantum }
+    requires bound { all_events (sight_of bench.old) + plan.bound < 2 ^ 48 }
+    requires room { length (sight_of bench.old).network.instances ≤ vec_capacity ends }
+    requires recorded { IsRecording bench.old plan.quantum recording.old }
+    ensures concluded { IfOk result (IsPartEnd bench.new (all_events (sight_of bench.old) + plan.bound)) }
+    ensures wide { IfErr result (λ r. (may_leave ≡ true) × MayGoOn bench.old bench.new plan.bound r) }
+    ensures room { IfOk result (λ r. length (sight_of bench.new).network.instances ≤ vec_capacity r.ends) }
+    ensures worked { HasWorked bench.old bench.new }
+    ensures recorded { HasRecorded bench.new recording.new }
+{
+    let mut driver = Driver {
+        steps: Steps::<L>::open(blank),
+        gate,
+        may_leave,
+    };
+    let first = Round::new(bench, plan.quantum, plan.bound, ends);
+    bench.note_bound(plan.bound);
+    driver.to_end(bench, first, recording)
+}
 
 /// The answer of a run on a bench that ended so. There is room for all that it wants.
 pub fn answered(
@@ -54,13 +88,10 @@ pub fn run_watched<G: Gate>(
     ensures { IfOk result (IsRightAlone network.now input.now plan.watch plan.bound) }
 {
     let ends = Vec::with_capacity(alloc, network.instances())?;
-    let mut bench = Sequential::new(alloc, network, input, Some(input), plan.watch)?;
+    let bench = Sequential::new(alloc, network, input, Some(input), plan.watch)?;
     let (streams, kept) = room_for_answer(alloc, network, input, plan.watch)?;
-    let blank = Blank::new(1);
-    let Ok(part) = run_until_wide::<G, Brand>(blank, &mut bench, gate, false, ends, plan) else {
-        unreachable!()
-    };
-    Ok(answered(bench, part, streams, kept, plan.bound))
+    let round = Round::new(&bench, plan.quantum, plan.bound, ends);
+    Ok(run_on_alone(gate, bench, round, streams, kept, plan))
 }
 
 /// The answer of a run that was left there, once it went on to its end on the caller's thread. The plan has the bound of the whole run.
@@ -84,9 +115,8 @@ pub fn run_on_alone<G: Gate>(
     };
     let blank = Blank::new(1);
     let ends = round.ends;
-    let Ok(part) = run_until_wide::<G, Brand>(blank, &mut bench, gate, false, ends, rest) else {
-        unreachable!()
-    };
+    let run = run_until_wide::<G, Brand>(blank, &mut bench, gate, false, ends, rest, &mut None);
+    let Ok(part) = run else { unreachable!() };
     answered(bench, part, streams, kept, plan.bound)
 }
 
@@ -121,4 +151,48 @@ pub fn run_one(
         bound,
     };
     Ok(run_watched(alloc, &Open, network, &input, plan)?)
+}
+
+fn watched(network: &Network, name: &Option<String>) -> Result<Option<usize>, RunFault>
+    ensures { MatchResult result (IsWatched network.now name.now) (λ f. (f ≡ UnknownWatch) × IsUndeclared network.now name.now) }
+{
+    match name {
+        None => Ok(None),
+        Some(name) => match channel_named(network, name.as_str()) {
+            Some(channel) => Ok(Some(channel)),
+            None => Err(RunFault::UnknownWatch),
+        },
+    }
+}
+
+/// The plan of a run of that configuration. Fails with `BadConfig` if a number is out of its limit, then with `UnknownWatch` if no
+/// channel has the name that is to be watched.
+pub fn plan_of(network: &Network, config: &Config) -> Result<Plan, RunFault>
+    ensures allowed { IfOk result (λ _. IsAllowed config.now) }
+    ensures watched { IfOk result (λ p. IsWatched network.now config.now.watch p.watch) }
+    ensures workers { IfOk result (λ p. p.workers ≡ config.now.workers) }
+    ensures rest { IfOk result (λ p. (p.quantum ≡ config.now.quantum) × (p.bound ≡ config.now.bound)) }
+    ensures unstarted { IfErr result (IsUnstarted network.now config.now) }
+    ensures unrun { IfErr result (IsUnrun network.now config.now) }
+{
+    if !config.is_in_range() {
+        return Err(RunFault::BadConfig);
+    }
+    Ok(Plan {
+        watch: watched(network, &config.watch)?,
+        workers: config.workers as usize,
+        quantum: config.quantum,
+        bound: config.bound,
+    })
+}
+
+/// The channel that a parameter reads.
+pub fn channel_read(code: &Code, instance: usize, parameter: usize) -> usize
+    requires { (c : ℕ) × (actual_at (instance_at (network_of code.now.network.value) instance) parameter ≡ Reads c) }
+    ensures { actual_at (instance_at (network_of code.now.network.value) instance) parameter ≡ Reads result }
+{
+    match code.channel(instance, parameter) {
+        Some(channel) => channel,
+        None => unreachable!(),
+    }
 }

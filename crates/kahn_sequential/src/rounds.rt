@@ -1,22 +1,19 @@
 //! A run on one thread: rounds in which each instance has its turn, until one in which nothing was done. After a round in which
 //! most turns did nothing, the instances that may go on have turns one after another before the next round.
 //!
-//! Which these are, and whether there is work for several workers, are hints (`awake.rt`, `looks.rt`). They have no
-//! clauses on purpose, since no answer depends on them: they only save time.
+//! Which these are, and whether there is work for several workers, are hints (`awake.rt`). They have no clauses on purpose, since no
+//! answer depends on them: they only save time.
 
-ghost use Rattle.kahn_sequential.specs.inner.Bench.{HasRunCell, PausedAt, HasEndIn, IsVerdict, all_events, events_at};
+ghost use Rattle.kahn_sequential.specs.inner.Bench.{HasRunCell, IsVerdict, all_events, events_at};
 ghost use Rattle.kahn_sequential.specs.{inner.FlowBench.IsPartEnd, inner.Recording.HasRecorded, inner.Recording.IsRecording};
-ghost use Rattle.kahn_sequential.specs.inner.Workbench.{HasAdvanced, HasTakenTurn, HasVisited, HasWorked, IsInRound, IsMarked, MayGoOn, MayRun, sight_of, turn_of, weight};
-ghost use Rattle.kahn_streams.specs.declared.answer.Outcome.TheVariants as outcome;
-ghost use Rattle.kahn_code.specs.declared.progress.Pause.TheVariants as pause;
-ghost use Rattle.std.specs.Prelude.{◌≡◌, ◌⊎◌, ◌<◌, ◌≤◌, ◌+◌, ◌-◌, ◌^◌, length, slice_set, true, vec_capacity, IfErr, IfOk, MatchResult};
+ghost use Rattle.kahn_sequential.specs.inner.Workbench.{HasAdvanced, HasTakenTurn, HasVisited, HasWorked, IsInRound, IsMarked, MayRun, sight_of, turn_of, weight};
+ghost use Rattle.std.specs.Prelude.{◌≡◌, ◌<◌, ◌≤◌, ◌+◌, ◌-◌, ◌^◌, length, true, vec_capacity, IfErr, IfOk};
 
-use crate::apart::TurnLength;
 use crate::bench::Sequential;
-use crate::recorded::keep_sent;
-use kahn_code::{Far, Pause, Steps, Within};
-use kahn_streams::{End, Gate, Outcome, Plan, Stream, Verdict};
-use std::sync::ledger::{Blank, Ledger};
+use crate::counted::keep_sent;
+use kahn_code::{Called, Far, Pause, Steps, Within};
+use kahn_streams::{End, Gate, Outcome, Stream, Verdict};
+use std::sync::ledger::Ledger;
 
 // How many turns, for each instance, those that may go on have at most before the next round of all, which also comes to an instance
 // that the run queue lost.
@@ -37,14 +34,12 @@ const BRIEF_EVENTS: usize = 64;
 /// What is left to do in a run on one thread, and what its last round did.
 #[derive(Drop)]
 pub struct Round {
-    // The most events of a turn, and how many are left of the bound.
+    // The most events of a turn, how many are left of the bound, whether memory was refused, how many turns did nothing, and how each
+    // instance stood after its turn.
     quantum: u64,
     pub left: u64,
-    // Whether memory was refused.
     pub memory: bool,
-    // How many turns did nothing.
     pub idle_turns: usize,
-    // How each instance stood after its turn.
     pub ends: Vec<End>,
 }
 
@@ -63,23 +58,6 @@ pub struct PartEnd {
     pub verdict: Verdict,
     pub ends: Vec<End>,
     pub left: u64,
-}
-
-fn end_of(bench: &Sequential<'_>, instance: usize, stopped: Pause) -> End
-    requires here { instance < length (sight_of bench.now).network.instances }
-    requires paused { PausedAt (sight_of bench.now) instance stopped }
-    ensures rests { HasEndIn (sight_of bench.now) instance result }
-    ensures more { result.outcome ≡ outcome.More → (stopped ≡ pause.Spent) ⊎ (stopped ≡ pause.NoMemory) }
-{
-    let outcome = match stopped {
-        Pause::Spent => Outcome::More,
-        Pause::NoMemory => Outcome::More,
-        Pause::Ended => Outcome::Ended,
-        Pause::Fault(failure) => Outcome::Faulted(failure),
-        Pause::Dry(parameter) => Outcome::Waits(bench.channel(instance, parameter)),
-    };
-    let events = bench.events(instance);
-    End { outcome, events }
 }
 
 impl Round {
@@ -149,18 +127,8 @@ impl Round {
         }
     }
 
-    // Whether nothing more may be done.
     fn is_over(&self) -> bool {
         self.memory || self.left == 0
-    }
-
-    pub(crate) fn note(&mut self, instance: usize, end: End)
-        requires { instance < length self.old.ends.items }
-        ensures ends { self.new.ends.items ≡ slice_set self.old.ends.items instance end }
-        ensures room { vec_capacity self.new.ends ≡ vec_capacity self.old.ends }
-        ensures same { (self.new.quantum ≡ self.old.quantum) × (self.new.left ≡ self.old.left) × (self.new.memory ≡ self.old.memory) }
-    {
-        self.ends[instance] = end;
     }
 
     /// How much there is to do.
@@ -168,21 +136,67 @@ impl Round {
         requires { self.now.left + 1 < 2 ^ 64 }
         ensures { result ≡ weight self.now }
     {
-        if self.memory {
-            return self.left;
-        }
-        self.left + 1
+        self.left + u64::from(!self.memory)
     }
 
-    // Whether most turns did nothing.
     fn is_sparse(&self) -> bool {
         self.idle_turns > self.ends.len() / 2
     }
 }
 
+// Whether turns of a round that notes no ends may be long.
+trait TurnLength {
+    #[inline(always)]
+    fn is_long() -> bool {
+        false
+    }
+}
+
+impl TurnLength for Within {}
+
+impl TurnLength for Far {
+    #[inline(always)]
+    fn is_long() -> bool {
+        true
+    }
+}
+
+#[inline(never)]
+fn run_apart<L: Ledger>(
+    bench: &mut Sequential<'_>,
+    instance: usize,
+    quantum: u64,
+    steps: &mut Steps<L>,
+) -> Pause
+    requires here { instance < length (sight_of bench.old).network.instances }
+    requires bound { events_at (sight_of bench.old) instance + quantum < 2 ^ 48 }
+    ensures { HasRunCell (sight_of bench.old) (sight_of bench.new) instance quantum result × HasWorked bench.old bench.new }
+{
+    bench.run::<L, Called>(instance, false, quantum, steps)
+}
+
+// The same of a turn that may be long.
+#[inline(never)]
+fn run_long<L: Ledger>(
+    bench: &mut Sequential<'_>,
+    instance: usize,
+    quantum: u64,
+    steps: &mut Steps<L>,
+) -> Pause
+    requires here { instance < length (sight_of bench.old).network.instances }
+    requires bound { events_at (sight_of bench.old) instance + quantum < 2 ^ 48 }
+    ensures { HasRunCell (sight_of bench.old) (sight_of bench.new) instance quantum result × HasWorked bench.old bench.new }
+{
+    if !bench.may_feed(instance) {
+        return run_apart(bench, instance, quantum, steps);
+    }
+    bench.run::<L, Far>(instance, true, quantum, steps)
+}
+
 impl<'g, L: Ledger, G: Gate> Driver<'g, L, G> {
     // Runs an instance for at most `quantum` events: at an open gate, if `within` says so, by a loop of instructions that stands within the
-    // rounds.
+    // rounds; else by one apart, where the turn may be long if `far` says so. A gate that isn't open is entered just before, if the
+    // instance may go on.
     #[inline(always)]
     fn run_turn(
         &mut self,
@@ -200,10 +214,20 @@ impl<'g, L: Ledger, G: Gate> Driver<'g, L, G> {
         if within && self.gate.is_open() {
             return bench.run::<L, Within>(instance, false, quantum, &mut self.steps);
         }
-        self.run_gated(bench, instance, far, quantum)
+        if self.gate.is_open() || quantum == 0 {
+            if far {
+                return run_long(bench, instance, quantum, &mut self.steps);
+            }
+            return run_apart(bench, instance, quantum, &mut self.steps);
+        }
+        let next = run_apart(bench, instance, 0, &mut self.steps);
+        if !matches!(next, Pause::Spent) {
+            return next;
+        }
+        self.gate.enter(instance);
+        run_apart(bench, instance, quantum, &mut self.steps)
     }
 
-    // The turn of an instance: runs it, and marks what was done.
     #[inline(always)]
     fn take_turn(
         &mut self,
@@ -238,7 +262,15 @@ impl<'g, L: Ledger, G: Gate> Driver<'g, L, G> {
         ensures { HasVisited bench.old bench.new round.old round.new instance result }
     {
         let stopped = self.take_turn(bench, round, instance, far, false);
-        end_of(bench, instance, stopped)
+        let outcome = match stopped {
+            Pause::Spent => Outcome::More,
+            Pause::NoMemory => Outcome::More,
+            Pause::Ended => Outcome::Ended,
+            Pause::Fault(failure) => Outcome::Faulted(failure),
+            Pause::Dry(parameter) => Outcome::Waits(bench.channel(instance, parameter)),
+        };
+        let events = bench.events(instance);
+        End { outcome, events }
     }
 
     // The turn of an instance whose end isn't noted. If turns are long, one that is far ahead of its readers is passed over, so that they come
@@ -276,7 +308,6 @@ impl<'g, L: Ledger, G: Gate> Driver<'g, L, G> {
         }
     }
 
-    // Some such rounds.
     #[inline(never)]
     fn rounds_together<M: TurnLength>(&mut self, bench: &mut Sequential<'_>, round: &mut Round)
         requires { MayRun (sight_of bench.old) round.old }
@@ -290,7 +321,6 @@ impl<'g, L: Ledger, G: Gate> Driver<'g, L, G> {
         }
     }
 
-    // Some rounds of long turns, or of brief ones.
     fn next_rounds(&mut self, bench: &mut Sequential<'_>, round: &mut Round, is_long: bool)
         requires { MayRun (sight_of bench.old) round.old }
         ensures { HasAdvanced bench.old bench.new round.old round.new }
@@ -453,34 +483,4 @@ pub fn verdict_of(memory: bool, ends: &[End]) -> Verdict
         }
     }
     Verdict::Finished
-}
-
-/// Runs the processes of a bench on one thread for as many events as the plan's bound, each for at most its quantum at a time, before
-/// which the gate is entered. If the run may be left and there is work for several workers, it gives back what is left, from which the
-/// run may go on. Steps are counted on a ledger of its own. The list of ends has room for each instance. Never allocates.
-pub fn run_until_wide<G: Gate, L: Ledger>(
-    blank: Blank,
-    bench: &mut Sequential<'_>,
-    gate: &G,
-    may_leave: bool,
-    ends: Vec<End>,
-    plan: Plan,
-) -> Result<PartEnd, Round>
-    requires blank { (blank.name ≡ L.name) × (blank.parts ≡ L.parts) × (0 < blank.parts) }
-    requires quantum { 0 < plan.quantum }
-    requires bound { all_events (sight_of bench.old) + plan.bound < 2 ^ 48 }
-    requires room { length (sight_of bench.old).network.instances ≤ vec_capacity ends }
-    ensures concluded { IfOk result (IsPartEnd bench.new (all_events (sight_of bench.old) + plan.bound)) }
-    ensures wide { IfErr result (λ r. (may_leave ≡ true) × MayGoOn bench.old bench.new plan.bound r) }
-    ensures room { IfOk result (λ r. length (sight_of bench.new).network.instances ≤ vec_capacity r.ends) }
-    ensures worked { HasWorked bench.old bench.new }
-{
-    let mut driver = Driver {
-        steps: Steps::<L>::open(blank),
-        gate,
-        may_leave,
-    };
-    let first = Round::new(bench, plan.quantum, plan.bound, ends);
-    bench.note_bound(plan.bound);
-    driver.to_end(bench, first, &mut None)
 }

@@ -10,7 +10,6 @@ use kahn_streams::{Input, Line, Network, NoMemory, Role, Stream, Tokens, declara
 use std::alloc::Global;
 use std::mem;
 
-// Whether each declaration is of a process that prints anywhere.
 fn printing(alloc: Global, network: &Network) -> Result<Vec<bool>, NoMemory>
     ensures { IfOk result (λ v. v.items ≡ map declaration_prints network.now.declarations.items) }
 {
@@ -33,7 +32,6 @@ fn instance_prints(network: &Network, printing: &[bool], instance: usize) -> boo
     }
 }
 
-// One line more, if it has a stream.
 fn add_line(lines: &mut Vec<Line>, has_one: bool, line: Line) -> Result<(), NoMemory>
     ensures { OnOk result (lines.new.items ≡ lines.old.items ++ cond has_one (line ∷ []) []) }
 {
@@ -83,7 +81,6 @@ pub(crate) fn lines_of(
     Ok(lines)
 }
 
-// Hands over what was kept on a parameter, for these tokens.
 fn exchange_kept(lists: &mut Kept, parameter: usize, tokens: &mut Tokens)
     requires { parameter < length lists.old.kept.items }
     ensures kept { kept_lists lists.new ≡ slice_set (kept_lists lists.old) parameter tokens.old.items }
@@ -146,7 +143,6 @@ pub(crate) fn opening_stream(
     Ok(Stream { line, tokens })
 }
 
-/// The tokens of a watched input channel. Fails only if memory was refused.
 pub(crate) fn given_first(
     alloc: Global,
     network: &Network,
@@ -162,8 +158,7 @@ pub(crate) fn given_first(
     Ok(stream.tokens)
 }
 
-/// The streams of an answer, in order, before any token was moved there: a watched input channel has its whole list. Fails only
-/// if memory was refused.
+/// The streams of an answer, in order, before any token was moved there. Fails only if memory was refused.
 pub fn opening_streams(
     alloc: Global,
     network: &Network,

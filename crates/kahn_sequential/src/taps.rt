@@ -1,14 +1,10 @@
-//! The taps of all processes of a network, one after another.
+//! The taps of all processes of a network, the instances that were woken or had turns, and the numbers of the streams that each writes.
 
-ghost use Rattle.kahn_sequential.specs.inner.Below.{AreCounts, HasForgotten, Lists, Tapped, network_of};
-ghost use Rattle.kahn_sequential.specs.inner.Noted.{AreSpentBut};
-ghost use Rattle.kahn_sequential.specs.inner.Streams.{HaveChanged};
-ghost use Rattle.kahn_sequential.specs.inner.Workbench.{AreOpeningCells, AreWhole, HasSpent, IsSameTap, IsLeft, IsSpentTap, StandsAsTold, gone_in, told_in};
-ghost use Rattle.std.specs.Prelude.{◌≡◌, ◌<◌, ◌≤◌, ℕ, [], Some, length, map, slice_get, true, vec_capacity, IfOk};
+ghost use Rattle.kahn_sequential.specs.{inner.Below.AreCounts, inner.Below.HasForgotten, inner.Below.Lists, inner.Below.Tapped, inner.Below.network_of, inner.Noted.AreSpentBut, inner.Streams.HaveChanged, inner.Workbench.AreOpeningCells, inner.Workbench.AreWhole, inner.Workbench.HasSpent, inner.Workbench.IsSameTap, inner.Workbench.IsLeft, inner.Workbench.IsSpentTap, inner.Workbench.StandsAsTold, inner.Workbench.gone_in, inner.Workbench.told_in, inner.Noted.HasWoken, inner.Noted.IsTakenFrom, inner.Numbers.HoldNumbers, inner.Numbers.HasNumber, inner.Numbers.IsLeast, inner.Numbers.IsLineWriter, inner.Numbers.IsNumberOf, inner.Numbers.is_in, inner.Streams.IsDeclared};
+ghost use Rattle.std.specs.Prelude.{◌≡◌, ◌<◌, ◌≤◌, ℕ, [], Some, length, map, slice_get, true, vec_capacity, IfOk, false, IfSome};
 
-use crate::woken::Woken;
 use kahn_code::{Code, CodeFault, Kept, Tap};
-use kahn_streams::{Input, Network};
+use kahn_streams::{Input, Line, Network, NoMemory};
 use std::alloc::Global;
 
 pub(crate) fn named_taps(
@@ -30,7 +26,6 @@ pub(crate) fn named_taps(
     Ok(taps)
 }
 
-// All taps let go of what they keep.
 fn forget_all(taps: &mut Vec<Tap>)
     ensures { HaveChanged HasForgotten taps.old.items taps.new.items }
 {
@@ -39,7 +34,6 @@ fn forget_all(taps: &mut Vec<Tap>)
     }
 }
 
-// The tap of an instance lets go of what it keeps, if there is one.
 fn forget_at(taps: &mut Vec<Tap>, instance: usize)
     ensures stays { HaveChanged IsSameTap taps.old.items taps.new.items }
     ensures here { (x : Tapped) → slice_get taps.new.items instance ≡ Some x → IsSpentTap x }
@@ -95,4 +89,135 @@ pub(crate) fn all_kept(taps: Vec<Tap>, mut kept: Vec<Kept>) -> Vec<Kept>
         kept.push_reserved(tap.into_lists());
     }
     kept
+}
+
+/// The instances that were woken since their ends were noted, or had turns since what they kept was let go of, if that is known.
+#[derive(Drop)]
+pub(crate) struct Woken {
+    pub(crate) instances: Vec<usize>,
+    pub(crate) known: bool,
+}
+
+impl Woken {
+    pub(crate) fn new(alloc: Global, room: usize) -> Result<Woken, NoMemory>
+        ensures { IfOk result (λ w. w.known ≡ false) }
+    {
+        Ok(Woken {
+            instances: Vec::with_capacity(alloc, room)?,
+            known: false,
+        })
+    }
+
+    /// This instance is woken as well. Without room for it nothing is known any more.
+    pub(crate) fn add(&mut self, instance: usize)
+        ensures { HasWoken (λ p. p ≡ instance) self.old self.new }
+    {
+        if self.instances.len() == self.instances.capacity() {
+            self.instances.clear();
+            self.known = false;
+            return;
+        }
+        self.instances.push_reserved(instance);
+    }
+
+    /// This instance is woken as well, if it isn't there already.
+    pub(crate) fn add_once(&mut self, instance: usize)
+        ensures { HasWoken (λ p. p ≡ instance) self.old self.new }
+    {
+        if self.instances.contains(&instance) {
+            return;
+        }
+        self.add(instance);
+    }
+
+    pub(crate) fn take(&mut self) -> Option<usize>
+        ensures taken { IsTakenFrom self.old result self.new }
+        ensures fewer { IfSome result (λ _. length self.new.instances.items < length self.old.instances.items) }
+    {
+        match self.instances.pop() {
+            Some(instance) => Some(instance),
+            None => None,
+        }
+    }
+
+    pub(crate) fn clear(&mut self, known: bool)
+        ensures { self.new.known ≡ known }
+    {
+        self.instances.clear();
+        self.known = known;
+    }
+}
+
+/// The first and the last number of a stream that an instance writes.
+#[derive(Clone, Copy, Drop)]
+pub(crate) struct NumberRange {
+    first: usize,
+    last: usize,
+}
+
+fn writer_of(network: &Network, line: Line) -> Option<usize>
+    requires { IsDeclared (network_of network.now) line }
+    ensures { IsLineWriter (network_of network.now) line result }
+{
+    match line {
+        Line::Channel(channel) => Some(network.writer(channel)?.instance),
+        Line::Print(instance) => Some(instance),
+    }
+}
+
+fn add_number(network: &Network, spans: &mut Vec<NumberRange>, line: Line, number: usize)
+    requires declared { IsDeclared (network_of network.now) line }
+    requires count { length spans.old.items ≡ length (network_of network.now).instances }
+    ensures count { length spans.new.items ≡ length spans.old.items }
+    ensures numbered { HasNumber (network_of network.now) line number spans.old.items spans.new.items }
+{
+    let Some(instance) = writer_of(network, line) else {
+        return;
+    };
+    let span = spans[instance];
+    spans[instance] = NumberRange {
+        first: span.first.min(number),
+        last: span.last.max(number),
+    };
+}
+
+/// Of each instance the numbers, among these lines, of the streams that it writes. Fails only if memory was refused.
+pub(crate) fn numbers_of(
+    alloc: Global,
+    network: &Network,
+    lines: &[Line],
+) -> Result<Vec<NumberRange>, NoMemory>
+    requires { (j : ℕ) (c : Line) → slice_get lines.now j ≡ Some c → IsDeclared (network_of network.now) c }
+    ensures { IfOk result (λ spans. HoldNumbers (network_of network.now) lines.now spans.items) }
+{
+    let none = NumberRange {
+        first: usize::MAX,
+        last: 0,
+    };
+    let mut spans = vec![in alloc; none; network.instances()]?;
+    for number in 0..lines.len() {
+        add_number(network, &mut spans, lines[number], number);
+    }
+    Ok(spans)
+}
+
+fn least_in(spans: &[NumberRange], instance: usize, most: usize, from: usize) -> usize
+    ensures { IsLeast (IsNumberOf spans.now instance) from most result }
+{
+    match spans.get(instance) {
+        Some(span) if from <= span.last => span.first.max(from).min(most),
+        _ => most,
+    }
+}
+
+/// The least of the numbers of these instances that aren't less than another one.
+pub(crate) fn least_of(spans: &[NumberRange], instances: &[usize], from: usize) -> usize
+    ensures from { from ≤ result }
+    ensures least { (p j : ℕ) → is_in instances.now p → IsNumberOf spans.now p j → from ≤ j → result ≤ j }
+{
+    let mut least = usize::MAX;
+    for instance in instances {
+        least = least_in(spans, *instance, least, from);
+    }
+    least
 }

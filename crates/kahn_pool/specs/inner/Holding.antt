@@ -2,7 +2,7 @@
 use Rattle.std.specs.Prelude.{◌≡◌, ℕ, ◌+◌, ◌<◌, ◌≤◌, ◌^◌, List, [], length, map, sum_by, Option, Some, Err, Result, MatchResult, slice_get, vec_capacity}
 use Rattle.kahn_pool.specs.inner.Below.{Answer, AreIdle, AreJobsAt, CrewFault, Crewing, End, HaveGone, IsAsConfigured, IsCrew, IsLack, IsRight, Left, Lists, NoMemory, Plan, Program, Tasked, CellView, Verdict, Work, cells_of, inputs_of, network_of, told_view}
 use Rattle.kahn_sequential.specs.{HeldRuns.HeldRun, HeldRuns.seen_events, HeldRuns.seen_of, inner.Bench.RunState, inner.Parts.AreEnded, inner.Parts.HaveRisen, inner.Parts.run_with, inner.Workbench.AllStandBy, inner.Workbench.Table}
-use Rattle.kahn_pool.specs.{declared.part.PartRoom.PartRoom, declared.part.Stopped.Stopped, declared.plan.RunPart.RunPart, declared.workers.HandRoom.HandRoom}
+use Rattle.kahn_pool.specs.{declared.held.PartRoom.PartRoom, declared.held.Stopped.Stopped, declared.plan.RunPart.RunPart, declared.running.HandRoom.HandRoom}
 
 -- the cell without its input
 abbrev pub cell_alone : CellView → CellView

@@ -2,7 +2,7 @@
 use Rattle.std.specs.Prelude.{◌≡◌, ℕ, ◌+◌, ◌-◌, ◌<◌, ◌≤◌, ◌^◌, Bool, List, ◌++◌, length, map, sum_by, take, Option, Some, slice_index_or}
 use Rattle.kahn_sequential.specs.inner.Below.{End, Input, Line, Plan, Program, Source, Token, Value, Verdict, inputs_of, network_of, nothing_gone, role_at, source, stream_lines, token_value}
 use Rattle.kahn_sequential.specs.HeldRuns.{HeldRun, seen_events, seen_of, values_by}
-use Rattle.kahn_sequential.specs.{Flows.Flowing, declared.numbers.NumberRange.NumberRange, declared.rounds.PartEnd.PartEnd, declared.woken.Woken.Woken, inner.Noted.AreNoted, inner.Noted.AreSpent, inner.Numbers.HoldNumbers, inner.Bench.IsConcluded, inner.Bench.LacksMemory, inner.Workbench.Table, inner.Workbench.sight_of}
+use Rattle.kahn_sequential.specs.{Flows.Flowing, declared.taps.NumberRange.NumberRange, declared.rounds.PartEnd.PartEnd, declared.taps.Woken.Woken, inner.Noted.AreNoted, inner.Noted.AreSpent, inner.Numbers.HoldNumbers, inner.Bench.IsConcluded, inner.Bench.LacksMemory, inner.Workbench.Table, inner.Workbench.sight_of}
 use Rattle.kahn_sequential.specs.inner.Parts.{AreEnded, run_with}
 
 -- what contracts see of the run of a bench: all that its taps ever kept

@@ -3,7 +3,7 @@ use Rattle.std.specs.Prelude.{◌≡◌, ◌⊎◌, ℕ, ◌<◌, false, true, L
 use Rattle.kahn_sequential.specs.inner.Below.{End, More, Schema, Reads, Tapped, Writes, actual_at, instance_at, waiting_of}
 use Rattle.kahn_sequential.specs.inner.Bench.{HasEndIn, RunState}
 use Rattle.kahn_sequential.specs.inner.Workbench.{IsSpent, IsSpentTap, Table, sight_of}
-use Rattle.kahn_sequential.specs.declared.{rounds.Round.Round, woken.Woken.Woken}
+use Rattle.kahn_sequential.specs.declared.{rounds.Round.Round, taps.Woken.Woken}
 
 abbrev pub IsWoken : Woken → ℕ → Type 0
 IsWoken w p = (k : ℕ) × (slice_get w.instances.items k ≡ Some p)

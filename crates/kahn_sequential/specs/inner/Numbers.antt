@@ -1,6 +1,6 @@
 -- Inner. The numbers of the streams that each instance writes.
 use Rattle.std.specs.Prelude.{◌≡◌, ℕ, ◌<◌, ◌≤◌, List, length, Option, None, Some, slice_get}
-use Rattle.kahn_sequential.specs.{declared.numbers.NumberRange.NumberRange, inner.Below.Line, inner.Below.Schema, inner.Below.Written, inner.Below.source}
+use Rattle.kahn_sequential.specs.{declared.taps.NumberRange.NumberRange, inner.Below.Line, inner.Below.Schema, inner.Below.Written, inner.Below.source}
 
 abbrev pub is_in : List ℕ → ℕ → Type 0
 is_in xs j = (k : ℕ) × (slice_get xs k ≡ Some j)

@@ -27,4 +27,4 @@ returns c =
     let ready = subst (λ (b : Table). AreStreamsReady b.network b.input b.watch c.args.streams.items k.items (vec_capacity k)) (sym c.self.view_is) c.requires.ready in
     let whole = subst (λ (b : Table). AreWhole (length (network_of b.network).instances) b.gone) (sym c.self.view_is) c.requires.whole in
     subst (λ (b : Table). AreStreams (sight_of b) c.fill.new.streams.items (stream_lines (network_of b.network) b.watch)) c.self.view_is
-    (are_streams i.network.now i.input.value i.watch (map told_in i.taps.items) (left_whole i.taps.items c.all_kept-kept.result.items _ c.all_kept-kept.ensures whole) ready.begun c.fill.ensures)
+    (are_streams i.network.now i.queues.input i.watch (map told_in i.taps.items) (left_whole i.taps.items c.all_kept-kept.result.items _ c.all_kept-kept.ensures whole) ready.begun c.fill.ensures)

@@ -2,6 +2,3 @@ use Rattle.kahn_sequential.proofs.bench.Sequential.pour.Given as goal
 
 abbrev pub ghost-pour : goal.ghost-pour
 ghost-pour g a = g.input
-
-abbrev pub ghost-named : goal.ghost-named
-ghost-named g a = g.input

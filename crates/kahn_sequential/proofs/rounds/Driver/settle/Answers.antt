@@ -1,4 +1,5 @@
-use Rattle.kahn_sequential.proofs.Common.{rules, sym, ◌∙◌, sight_of}
+use Rattle.kahn_sequential.proofs.Common.{◌≡◌, arith, false, rules, sym, true, ◌∙◌, sight_of}
+use Rattle.std.proofs.lemmas.Grind.{common_steps}
 use Rattle.kahn_sequential.proofs.{Noted.all_rest, Noted.noted_but, Turns.advanced_none, Turns.moved_on}
 use Rattle.kahn_sequential.proofs.rounds.Driver.settle.Goals as goal
 
@@ -12,11 +13,12 @@ settle_one-requires g c = record {
   spent = c.loop.invariant.spent;
 }
 
-pub returns-in_default-clause-rest : goal.returns-in_default-clause-rest
-returns-in_default-clause-rest g c = λ yes.
-    let s = c.is_settled.ensures yes in
+pub returns-then-woken-clause-rest : goal.returns-then-woken-clause-rest
+returns-then-woken-clause-rest g c = λ yes.
+    let known : c.take.new.self.known ≡ true = search rules in
+    let calm : c.loop.round.memory ≡ false = grind (arith, common_steps, yes) in
     let t = c.in_default.ensures.taken in
-    all_rest (sight_of c.loop.bench) c.loop.woken c.take.new.self c.loop.round c.loop.invariant.noted (sym t.0 ∙ s.0) t s.1
+    all_rest (sight_of c.loop.bench) c.loop.woken c.take.new.self c.loop.round c.loop.invariant.noted (sym t.0 ∙ known) t calm
 
 pub loop-preserved : goal.loop-preserved
 loop-preserved g c = record {
@@ -25,8 +27,11 @@ loop-preserved g c = record {
   spent = c.settle_one.ensures.spent;
 }
 
-pub returns-in_default-clause-spent : goal.returns-in_default-clause-spent
-returns-in_default-clause-spent g c = c.loop.invariant.spent
+pub returns-then-woken-clause-spent : goal.returns-then-woken-clause-spent
+returns-then-woken-clause-spent g c = c.loop.invariant.spent
+
+pub returns-else-woken-clause-spent : goal.returns-else-woken-clause-spent
+returns-else-woken-clause-spent g c = c.loop.invariant.spent
 
 pub returns-clause-spent : goal.returns-clause-spent
 returns-clause-spent g c = c.loop.invariant.spent

@@ -1,5 +1,0 @@
--- The count is opened on the blank's own ledger.
-use Rattle.kahn_sequential.proofs.one.run_watched.Given as goal
-
-abbrev pub ghosts-run_until_wide : goal.ghosts-run_until_wide
-ghosts-run_until_wide g a = record { name = a.blank.name; parts = a.blank.parts }

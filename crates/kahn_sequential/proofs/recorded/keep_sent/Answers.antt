@@ -1,4 +1,0 @@
-use Rattle.kahn_sequential.proofs.recorded.keep_sent.Goals as goal
-
-pub returns-clause-kept : goal.returns-clause-kept
-returns-clause-kept c v e = (c.in-Some.streams, let f = c.in-Some.ensures.value in cc)
