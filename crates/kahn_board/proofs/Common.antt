@@ -20,12 +20,12 @@ pub use Rattle.kahn_streams.specs.declared.tree.Program.{Program}
 pub use Rattle.kahn_board.specs.Calls.{Claims, IsFirstSlot, IsSameSeat, KeepsAll, Leaves, Looks, MayLeave, OwesFew, Unowed, Was, downs_of, AreCut, HoldsNothing, IsFree, split_off, after_joining, after_splitting}
 pub use Rattle.kahn_board.specs.Rule.{Apart, Owed, Owes, below, is_up, Whereabouts, held, held_by, mark_of, only, over, parked, parked_on, ready, total, word_code, belongs, dealt, events_told, holds, wired, AllLeft, Deal, HasSlot, HomeIs, IsHalter, IsHome, PlaceIs, Quiet, Ruled, SeatIs, St, Whole, WordWas, all_parts, blank, budget, up_count, halt_word, opening_view, published, spent, budget_at, halted_at}
 pub use Rattle.kahn_board.specs.Plays.{becomes, Carries, Facts, ListsHands, Got, IsIn, Sat, SeesMore, at_moment, burden, with_published, after_giving_up, after_halting, after_step, after_counting_down, after_counting_up, after_looking, sees_budget, sees_count, sees_halted, after_taking, after_giving_back, after_reporting, after_waking}
-pub use Rattle.kahn_board.proofs.Tells.{GaveUp, TheFirst, claimed, drew, first_of, parked_or_not, publishes, set_down, steps_of}
+pub use Rattle.kahn_board.proofs.Tells.{GaveUp, TheFirst, claimed, drew, first_of, parked_or_not, publishes, sees, set_down, steps_of}
 pub use Rattle.kahn_board.specs.Wires.{Accounts, FlushedAll, Summary, TellsEnd, TellsEvents, TellsWait, events_past, second_of, Wires, is_read}
 unfoldable pub use Rattle.kahn_board.specs.Wires.{wires}
 pub use Rattle.kahn_board.specs.declared.board.Board.{Board}
 pub use Rattle.kahn_board.specs.declared.seat.Seat.{Seat}
-pub use Rattle.kahn_board.specs.declared.rule.Terms.{Terms}
+pub use Rattle.kahn_board.specs.declared.board.Terms.{Terms}
 pub use Rattle.kahn_board.specs.declared.view.SeatView.{SeatView}
 pub use Rattle.kahn_board.specs.inner.Turn.{AreLost, Fits, HasPublished, InTurn, IsBetween, IsBetweenTurns, IsSeatOf, RestsWith, AreFirstWords, SitsAt, done_of, parts_of, raised_of}
 pub use Rattle.kahn_board.specs.Opening.{ClosesBoard, IsCell, IsQuietCell, Opens}

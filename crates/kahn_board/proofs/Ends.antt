@@ -1,6 +1,6 @@
 -- What the rule says once all seats are one.
 use Rattle.kahn_board.proofs.Common.{length-map, map, ◌≡◌, ◌≢◌, ℕ, zero, suc, ◌+◌, ◌*◌, ◌<◌, ◌⊎◌, inl, inr, ⊎_elim, List, [], ◌∷◌, length, get_or, sym, refl, ap, ◌∙◌, subst, arith, true, Option, Some, dite, ℕ_discrete, some, some-injective, some-ne-none, get_elem?, Summary, second_of, Wires, is_up, below, Whereabouts, ready, held, parked, over, total, St, Deal, spent, all_parts, published, budget, halt_word, IsHome, Whole, AllLeft, IsFree, SeatView, same_Some, IsCell, IsQuietCell, ClosesBoard}
-use Rattle.kahn_board.specs.declared.opening.Closed.{Closed}
+use Rattle.kahn_board.specs.declared.turn.Closed.{Closed}
 use Rattle.kahn_board.proofs.{Sums.terms_le, Sums.all_none, Keeps.one_at, Reseats.all_home}
 
 -- a sum of one term, the others being 0

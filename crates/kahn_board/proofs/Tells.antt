@@ -1,7 +1,7 @@
 -- What the single steps of a seat tell it, where they speak of cells, of the network or of a draw.
-use Rattle.std.specs.Prelude.{◌≡◌, ◌≢◌, ℕ, ◌+◌, ◌-◌, ◌/◌, ◌%◌, ◌^◌, ◌<◌, List, [], ◌∷◌, slice_index, Option, Some}
+use Rattle.std.specs.Prelude.{◌≡◌, ◌≢◌, ℕ, zero, suc, ◌+◌, ◌-◌, ◌/◌, ◌%◌, ◌^◌, ◌<◌, List, [], ◌∷◌, slice_index, Option, Some}
 use Rattle.atomic_table.specs.Table.{rest}
-use Rattle.kahn_board.specs.{Wires.Summary, Wires.TellsWait, Wires.Wires, Plays.Got, Plays.IsIn, Plays.Play, Plays.Sat, Plays.after_step, Plays.after_giving_up, Plays.with_published, Plays.after_waking}
+use Rattle.kahn_board.specs.{Wires.Summary, Wires.TellsWait, Wires.Wires, Plays.Got, Plays.IsIn, Plays.Play, Plays.Sat, Plays.after_step, Plays.after_giving_up, Plays.with_published, Plays.after_waking, Plays.sees_budget, Plays.sees_count, Plays.sees_halted}
 
 module _ {T : Type 0} (told : T → Option Summary) (w : Wires) where
   -- the seat gave up the instance p with the cell y, whose slot it took last
@@ -33,6 +33,12 @@ module _ {T : Type 0} where
   abbrev pub drew : Play T
   drew st m r n = (r ≡ st.first → (n ≡ (record (after_step m.0) { drawn = st.first - st.second }, m.1)) × ((p : ℕ) → IsIn m.0 p → slice_index m.0.events_when_got p + (st.first - st.second) < 2 ^ 48))
       × (r ≢ st.first → n ≡ (after_step m.0, m.1))
+
+-- what a seat sees by the loads of a look, in their order
+abbrev pub sees : {T : Type 0} → ℕ → Play T
+sees zero = sees_halted
+sees (suc zero) = sees_count
+sees (suc (suc k)) = sees_budget
 
 -- how many steps a seat made
 abbrev pub steps_of : {T : Type 0} → Sat T → ℕ

@@ -2,7 +2,7 @@
 use Rattle.std.specs.Prelude.{◌≡◌, ◌≢◌, ◌⊎◌, ℕ, ◌*◌, ◌<◌, List, length, slice_index, slice_set}
 use mathlib.Core.Option.{some}
 use lib.ListN.{get_elem?}
-use Rattle.kahn_board.specs.{Plays.IsIn, Rule.St, Rule.budget_at, Rule.channel_at, Rule.count_at, Rule.halted_at, Rule.wired, Wires.Wires, declared.rule.Terms.Terms, declared.view.SeatView.SeatView}
+use Rattle.kahn_board.specs.{Plays.IsIn, Rule.St, Rule.budget_at, Rule.channel_at, Rule.count_at, Rule.halted_at, Rule.wired, Wires.Wires, declared.board.Terms.Terms, declared.view.SeatView.SeatView}
 
 pub data StepKind : Type 0 where
   -- `looks_ready`, `look`, `report_done`, and all that finds another number than it wants

@@ -2,7 +2,7 @@
 use Rattle.std.specs.Prelude.{◌≡◌, ◌⊎◌, ℕ, ◌+◌, ◌^◌, ◌<◌, List, length, slice_index, true, Option, Some, None}
 use mathlib.Core.Option.{some}
 use lib.ListN.{get_elem?}
-use Rattle.kahn_board.specs.{Wires.Summary, Wires.TellsWait, Wires.TellsEnd, Wires.TellsEvents, Wires.FlushedAll, Wires.flushed_of, Wires.wrote_of, Wires.Wires, Rule.events_told, Rule.Deal, Rule.IsDone, Rule.KnowsHalted, Rule.below, declared.opening.Closed.Closed, declared.view.SeatView.SeatView}
+use Rattle.kahn_board.specs.{Wires.Summary, Wires.TellsWait, Wires.TellsEnd, Wires.TellsEvents, Wires.FlushedAll, Wires.flushed_of, Wires.wrote_of, Wires.Wires, Rule.events_told, Rule.Deal, Rule.IsDone, Rule.KnowsHalted, Rule.below, declared.turn.Closed.Closed, declared.view.SeatView.SeatView}
 
 module _ {T : Type 0} where
   pub record Opens (told : T → Option Summary) (after : T → T → Type 0) (w : Wires) (bound : ℕ) (published : List ℕ) (cells : List T) : Type 0 where

@@ -8,7 +8,7 @@ use mathlib.Core.Option.{Option, none, some}
 use lib.ListN.{get_elem?}
 use Rattle.atomic_table.specs.Table.{State, Seen}
 use Rattle.kahn_board.specs.Wires.{Summary, TellsWait, TellsEnd, TellsEvents, FlushedAll, flushed_of, events_past, Wires, wires}
-use Rattle.kahn_board.specs.declared.{rule.Terms.Terms, view.SeatView.SeatView}
+use Rattle.kahn_board.specs.declared.{board.Terms.Terms, view.SeatView.SeatView}
 
 -- where an instance is
 pub data Whereabouts : Type 0 where

@@ -1,18 +1,17 @@
-//! The board. No other file reaches its table, and each step on a word counts in the view of the seat that makes it.
+//! The board and its rule. No other file reaches its table, and each step on a word counts in the view of the seat that makes it.
 
 ghost use Rattle.std.specs.Prelude.{◌≡◌, ℕ, ◌+◌, ◌-◌, ◌*◌, ◌%◌, ◌^◌, ◌<◌, ◌≤◌, ◌==◌, [], ◌∷◌, length, Option, slice_index, slice_index_or, None, Some, IfOk, IfErr};
 ghost use Rattle.std.specs.Vec.{vec_capacity};
-ghost use Rattle.kahn_board.specs.Rule.{holds, wired, channel_at, budget_at, count_at, halted_at};
+ghost use Rattle.kahn_board.specs.{Rule.holds, Rule.wired, Rule.channel_at, Rule.budget_at, Rule.count_at, Rule.halted_at, Wires.Summary, Plays.becomes, Plays.after_step};
 
-use crate::opening::{Both, Closed, SplitsSeat, into_slots, out_of_slots, reserved};
-use crate::rule::{Reports, Rule, Terms};
 use crate::seat::{Seat, TableSeat};
+use crate::turn::{Both, Closed, SplitsSeat, into_slots, out_of_slots, reserved};
 use crate::view::SeatView;
-use atomic_table::{Play, Refused, Table};
+use atomic_table::{Play, Refused, Table, TableRule};
 use kahn_streams::{Network, NoMemory};
 use std::alloc::Global;
 use std::collections::VecDeque;
-use std::marker::Brand;
+use std::marker::{Brand, PhantomData};
 use std::snapshot::Snapshot;
 
 /// Where the cells of a network are kept.
@@ -35,27 +34,14 @@ impl<T: Reports> Board<T> {
     ghost use Rattle.atomic_table.specs.Table.{rest};
     ghost use Rattle.kahn_board.specs.Plays.{HasPlayed, HasLearnt, MayStep};
 
-    // A load: the word had this value at some moment of the call.
-    pub(crate) fn load<P: Play<Option<T>, SeatView>>(
-        &self,
-        seat: &mut TableSeat<T>,
-        word: usize,
-    ) -> u64
-        requires { MayStep (holds T.told T.after self.now.table.shared.key) self.now.table.shared.table_id seat.old word 0 0 (λ n. n) P.then }
-        ensures { HasPlayed (holds T.told T.after self.now.table.shared.key) self.now.table.shared.table_id seat.old seat.new word 0 0 P.then result }
-    {
-        self.table.shared.load::<Brand>(seat, word)
-    }
-
-    // A load whose play names a number of the caller's.
-    pub(crate) fn load_with<P>(&self, seat: &mut TableSeat<T>, word: usize, number: u64) -> u64
+    // A load: the word had this value at some moment of the call. The number is for its play alone.
+    pub(crate) fn load<P>(&self, seat: &mut TableSeat<T>, word: usize, _number: u64) -> u64
     where
         P: Play<Option<T>, SeatView>,
         requires { MayStep (holds T.told T.after self.now.table.shared.key) self.now.table.shared.table_id seat.old word 0 0 (λ n. n) P.then }
         ensures { HasPlayed (holds T.told T.after self.now.table.shared.key) self.now.table.shared.table_id seat.old seat.new word 0 0 P.then result }
     {
-        let _number = number;
-        self.load::<P>(seat, word)
+        self.table.shared.load::<Brand>(seat, word)
     }
 
     // A compare-and-exchange: the word had the value found at some moment of the call.
@@ -75,48 +61,36 @@ impl<T: Reports> Board<T> {
         shared.compare_exchange::<Brand>(seat, word, old, new)
     }
 
-    pub(crate) fn store<P: Play<Option<T>, SeatView>>(
-        &self,
-        seat: &mut TableSeat<T>,
-        word: usize,
-        new: u64,
-    )
+    pub(crate) fn store<P>(&self, seat: &mut TableSeat<T>, word: usize, new: u64)
+    where
+        P: Play<Option<T>, SeatView>,
         requires { MayStep (holds T.told T.after self.now.table.shared.key) self.now.table.shared.table_id seat.old word new 0 (λ _. new) (λ st m _. P.then st m new) }
         ensures { HasLearnt self.now.table.shared.table_id seat.old seat.new word new 0 P.then new }
     {
         self.table.shared.store::<P>(seat, word, new)
     }
 
-    pub(crate) fn swap<P: Play<Option<T>, SeatView>>(
-        &self,
-        seat: &mut TableSeat<T>,
-        word: usize,
-        new: u64,
-    ) -> u64
+    pub(crate) fn swap<P>(&self, seat: &mut TableSeat<T>, word: usize, new: u64) -> u64
+    where
+        P: Play<Option<T>, SeatView>,
         requires { MayStep (holds T.told T.after self.now.table.shared.key) self.now.table.shared.table_id seat.old word new 0 (λ _. new) P.then }
         ensures { HasLearnt self.now.table.shared.table_id seat.old seat.new word new 0 P.then result }
     {
         self.table.shared.swap::<P>(seat, word, new)
     }
 
-    pub(crate) fn fetch_add<P: Play<Option<T>, SeatView>>(
-        &self,
-        seat: &mut TableSeat<T>,
-        word: usize,
-        k: u64,
-    ) -> u64
+    pub(crate) fn fetch_add<P>(&self, seat: &mut TableSeat<T>, word: usize, k: u64) -> u64
+    where
+        P: Play<Option<T>, SeatView>,
         requires { MayStep (holds T.told T.after self.now.table.shared.key) self.now.table.shared.table_id seat.old word k 0 (λ n. (n + k) % 2 ^ 64) P.then }
         ensures { HasLearnt self.now.table.shared.table_id seat.old seat.new word k 0 P.then result }
     {
         self.table.shared.fetch_add::<P>(seat, word, k)
     }
 
-    pub(crate) fn fetch_sub<P: Play<Option<T>, SeatView>>(
-        &self,
-        seat: &mut TableSeat<T>,
-        word: usize,
-        k: u64,
-    ) -> u64
+    pub(crate) fn fetch_sub<P>(&self, seat: &mut TableSeat<T>, word: usize, k: u64) -> u64
+    where
+        P: Play<Option<T>, SeatView>,
         requires { MayStep (holds T.told T.after self.now.table.shared.key) self.now.table.shared.table_id seat.old word k 0 (λ n. (n + (2 ^ 64 - k)) % 2 ^ 64) P.then }
         ensures { HasLearnt self.now.table.shared.table_id seat.old seat.new word k 0 P.then result }
     {
@@ -159,16 +133,6 @@ impl<T: Reports> Board<T> {
         ensures { result ≡ halted_at (wired self.now.table.shared.key) }
     {
         self.budget_word() + 16
-    }
-
-    pub(crate) fn reader(&self, channel: usize) -> usize
-        requires { (channel < self.now.channels) × ((p : ℕ) × ((wired self.now.table.shared.key).reader channel ≡ Some p)) }
-        ensures { (wired self.now.table.shared.key).reader channel ≡ Some result }
-    {
-        let Some(reader) = self.readers[channel] else {
-            unreachable!()
-        };
-        reader
     }
 }
 
@@ -272,4 +236,47 @@ impl<T: Reports> Board<T> {
             halted: halted != 0,
         }
     }
+}
+
+/// What a cell reports to contracts: its events, what it took, sent and flushed, and whether it has ended or waits. A
+/// cell that reports nothing meets every condition.
+pub trait Reports {
+    ghost told: { Self → Option Summary };
+
+    /// The second is a later state of the first. The board requires no law of it.
+    ghost after: { Self → Self → Type 0 };
+}
+
+/// What a board was made of: the network, the first words, the cells and the bound. Only contracts read the first
+/// three, which have no bytes.
+#[derive(Drop)]
+pub struct Terms<T> {
+    pub network: Snapshot<Network>,
+    pub words: Snapshot<Vec<u64, Global>>,
+    pub cells: Snapshot<Vec<T, Global>>,
+    pub bound: u64,
+}
+
+/// The rule of a board's table, which holds between any two steps of any seats.
+pub struct Rule<T> {
+    cells: PhantomData<T>,
+}
+
+impl<T: Reports> TableRule<Option<T>, SeatView, Terms<T>> for Rule<T> {
+    ghost use Rattle.kahn_board.specs.Rule.{opening_view, holds, wired};
+
+    ghost holds = { holds T.told T.after };
+
+    ghost first = { λ key. opening_view (wired key) };
+}
+
+// What a step tells of cells, of the network or of a moment is chosen where the step is made.
+impl<T> Play<Option<T>, SeatView> for Brand {
+    ghost then = { λ _ _ _ _. Unit {0} };
+}
+
+pub(crate) struct Notes;
+
+impl<T> Play<Option<T>, SeatView> for Notes {
+    ghost then = { becomes (λ _. after_step) };
 }

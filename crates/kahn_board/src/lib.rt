@@ -3,20 +3,18 @@
 #![tactic(auto)]
 
 mod board;
-mod laws;
-mod opening;
-mod rule;
 mod seat;
 mod turn;
 mod view;
 
 pub use board::Board;
-pub use laws::quiet_is_final;
-pub use opening::Closed;
 pub use seat::{Draw, Look, Rest, Seat};
+pub use turn::{Closed, quiet_is_final};
 
 // For the crates above.
-pub use opening::{join_all, reader_of, split_all};
-pub use rule::{Reports, Rule, Terms};
-pub use turn::{claim, draw_some, go_on, publish, rest_dry, rest_over, rest_ready};
+pub use board::{Reports, Rule, Terms};
+pub use turn::{
+    claim, draw_some, go_on, join_all, publish, reader_of, rest_dry, rest_over, rest_ready,
+    split_all,
+};
 pub use view::SeatView;

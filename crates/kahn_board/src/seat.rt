@@ -4,10 +4,7 @@ ghost use Rattle.std.specs.Prelude.{◌≡◌, ℕ, ◌+◌, ◌*◌, ◌^◌, �
 ghost use Rattle.std.specs.VecDeque.{deque_capacity};
 ghost use Rattle.kahn_board.specs.Plays.{Facts};
 
-use crate::board::Board;
-use crate::rule::{
-    CountingUp, GivingBack, Halting, Notes, Reports, SeesBudget, SeesCount, SeesHalted,
-};
+use crate::board::{Board, Notes, Reports};
 use crate::view::SeatView;
 use std::alloc::Global;
 use std::collections::VecDeque;
@@ -38,7 +35,7 @@ impl<T: Reports> Seat<T> {
         requires { IsAtBoard board.now self.old × (p < board.now.instances) }
         ensures { LooksAt T.told T.after board.now.table.shared.key self.old self.new p result }
     {
-        let found = board.load::<Notes>(&mut self.seat, 8 * p);
+        let found = board.load::<Notes>(&mut self.seat, 8 * p, 0);
         found == 0
     }
 
@@ -146,7 +143,9 @@ impl<T: Reports> Seat<T> {
         if found % 2 == 0 {
             return None;
         }
-        let reader = board.reader(channel);
+        let Some(reader) = board.readers[channel] else {
+            unreachable!()
+        };
         self.held.push_front_reserved(reader);
         Some(reader)
     }
@@ -157,7 +156,7 @@ impl<T: Reports> Seat<T> {
         requires owes { 0 < length self.old.seat.me.0.owed }
         ensures { Becomes (after_counting_up self.old.seat.me.0) self.old self.new }
     {
-        board.fetch_add::<CountingUp>(&mut self.seat, board.count_word(), 1);
+        board.fetch_add::<Brand>(&mut self.seat, board.count_word(), 1);
     }
 
     /// Pays a count down.
@@ -176,7 +175,7 @@ impl<T: Reports> Seat<T> {
         ensures { Draws T.told T.after board.now.table.shared.key self.old self.new quantum result }
     {
         let word = board.budget_word();
-        let found = board.load::<Notes>(&mut self.seat, word);
+        let found = board.load::<Notes>(&mut self.seat, word, 0);
         if found == 0 {
             return Draw::Empty;
         }
@@ -194,7 +193,7 @@ impl<T: Reports> Seat<T> {
         requires drawn { n ≤ self.old.seat.me.0.drawn }
         ensures { Becomes (after_reporting self.old.seat.me.0 n) self.old self.new }
     {
-        board.load_with::<Brand>(&mut self.seat, board.budget_word(), n);
+        board.load::<Brand>(&mut self.seat, board.budget_word(), n);
     }
 
     /// Gives back `n` events of the draw, which weren't done. The others were.
@@ -203,7 +202,7 @@ impl<T: Reports> Seat<T> {
         requires drawn { n ≤ self.old.seat.me.0.drawn }
         ensures { Becomes (after_giving_back self.old.seat.me.0 n) self.old self.new }
     {
-        board.fetch_add::<GivingBack>(&mut self.seat, board.budget_word(), n);
+        board.fetch_add::<Brand>(&mut self.seat, board.budget_word(), n);
     }
 
     /// Halts the run.
@@ -211,7 +210,7 @@ impl<T: Reports> Seat<T> {
         requires board { IsAtBoard board.now self.old }
         ensures { Becomes (after_halting self.old.seat.me.0) self.old self.new }
     {
-        board.store::<Halting>(&mut self.seat, board.halted_word(), 1);
+        board.store::<Brand>(&mut self.seat, board.halted_word(), 1);
     }
 
     /// Whether there is a reason to leave.
@@ -219,13 +218,13 @@ impl<T: Reports> Seat<T> {
         requires board { IsAtBoard board.now self.old }
         ensures { Looks T.told T.after board.now.table.shared.key self.old self.new result }
     {
-        if board.load::<SeesHalted>(&mut self.seat, board.halted_word()) != 0 {
+        if board.load::<Brand>(&mut self.seat, board.halted_word(), 0) != 0 {
             return Look::Halted;
         }
-        if board.load::<SeesCount>(&mut self.seat, board.count_word()) == 0 {
+        if board.load::<Brand>(&mut self.seat, board.count_word(), 1) == 0 {
             return Look::Quiet;
         }
-        if board.load::<SeesBudget>(&mut self.seat, board.budget_word()) == 0 {
+        if board.load::<Brand>(&mut self.seat, board.budget_word(), 2) == 0 {
             Look::NoBudget
         } else {
             Look::Go

@@ -15,7 +15,7 @@ pub use Rattle.kahn_board.proofs.{Sole.no_writer, Sole.nothing, Sole.sole_first,
 pub use Rattle.kahn_board.specs.{Calls.Becomes, Calls.LooksAt, Calls.Swaps, Opening.Opens, Plays.Sat, Plays.SeesMore, Plays.after_reporting, Wires.Wires}
 pub use Rattle.kahn_board.specs.Rule.{belongs, dealt, events_told, holds, wired, below, spent}
 unfoldable pub use Rattle.kahn_board.specs.Wires.{wires}
-pub use Rattle.kahn_board.specs.declared.{seat.Seat.Seat, rule.Terms.Terms, view.SeatView.SeatView}
+pub use Rattle.kahn_board.specs.declared.{seat.Seat.Seat, board.Terms.Terms, view.SeatView.SeatView}
 pub use Rattle.kahn_board.specs.inner.Turn.{Fits, HasPublished, HoldsInTurn, InTurn, IsBetween, Knows, RestsWith, IsDoneAt, SitsAt, parts_of, raised_of}
 pub use Rattle.kahn_code.proofs.Readers.{driven, joins_parameter, joins_within, reads_once}
 pub use Rattle.kahn_code.specs.{Lines.Joins, Lines.route_of, Progress.AreCounts, Standing.count}
@@ -24,7 +24,7 @@ pub use Rattle.kahn_job.specs.inner.Tasks.{Continues, HasStanding, IsTrueOf, Tas
 pub use Rattle.kahn_job.specs.inner.Works.{IsDelivered, IsJob, Work}
 pub use Rattle.kahn_streams.specs.{Answers.is_output, Inputs.Lists, Inputs.inputs_of, Wiring.IsWellWired, Wiring.side_at, declared.sides.Side.Side, declared.tree.Program.Program}
 pub use Rattle.kahn_streams.specs.Network.{Actual, Given, Hands, IsOnly, IsWriter, Schema, Reads, Writes, Written, actual_at, channel_source, instance_at, network_of, role_at}
-pub use Rattle.kahn_crew.specs.declared.run.Run.{Run}
+pub use Rattle.kahn_crew.specs.declared.opening.Run.{Run}
 pub use Rattle.kahn_crew.specs.inner.Turns.{CanRest, IsDue, IsSetDown, IsSameWorker, HasPicked, HasTask, Heeds, IsAtWork, IsTaskIn, RaisesAsWanted, SitsWith, StandsStill, WasNotReady, terms_of, HasCause, HasGone, HasSeat, WantsNone, seat_of, table_id_of}
 pub use Rattle.kahn_crew.specs.inner.Tasks.{AreReadyTasks, HasBegun, IsNumber, IsReadyTask, FitTogether, IsTaskOf, AgreesWith, IsLater, IsPublished, count_on, handed_to_task, is_channel, read_by, reads_at, task_rows, told_tale, waits_on, work_of, writes_at, written_by, wrote_by}
 pub use Rattle.kahn_board.specs.Opening.{ClosesBoard}

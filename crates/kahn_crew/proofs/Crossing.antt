@@ -15,7 +15,7 @@ use denote.RawPtr.{Ptr, block_ptr, null_ptr, block_of, count_of, in_block}
 use denote.Ref.{NamedLft}
 use Rattle.std.specs.contracts.impls.GlobalAllocator.TheImpl.{ghosts}
 use Rattle.kahn_job.proofs.Crossing.{network_sync}
-use Rattle.kahn_board.specs.declared.rule.Reports.{Ghosts}
+use Rattle.kahn_board.specs.declared.board.Reports.{Ghosts}
 use denote.Struct.Declared as S
 use denote.Struct.Owning as owning
 use Rattle.std.proofs.Crossing as std
@@ -29,14 +29,14 @@ use Rattle.kahn_code.specs.contracts.code.Code as Code
 use Rattle.kahn_code.proofs.code.Code.TheSendSync as code
 use Rattle.kahn_streams.proofs.input.Input.TheSendSync as input
 use Rattle.kahn_board.specs.contracts.board.Board as Board
-use Rattle.kahn_board.specs.contracts.rule.Rule as Rule
-use Rattle.kahn_board.specs.contracts.rule.RuleTableRuleOptionSeatViewTerms.TheImpl as rule
-use Rattle.kahn_board.specs.contracts.rule.Terms as Terms
+use Rattle.kahn_board.specs.contracts.board.Rule as Rule
+use Rattle.kahn_board.specs.contracts.board.RuleTableRuleOptionSeatViewTerms.TheImpl as rule
+use Rattle.kahn_board.specs.contracts.board.Terms as Terms
 use Rattle.kahn_board.specs.contracts.view.SeatView as SeatView
 use Rattle.kahn_crew.specs.contracts.opening.Boxed as Boxed
 use Rattle.kahn_crew.proofs.opening.Boxed.TheSendSync as boxed
 use Rattle.kahn_crew.specs.contracts.opening.BoxedReports.TheImpl as told
-use Rattle.kahn_crew.specs.contracts.run.Run as Run
+use Rattle.kahn_crew.specs.contracts.opening.Run as Run
 use Rattle.kahn_crew.specs.contracts.worker.Worker as Worker
 use Rattle.kahn_crew.proofs.worker.Worker.TheSendSync as worker
 

@@ -1,7 +1,7 @@
 -- What a closed board says of a run.
 use Rattle.kahn_crew.proofs.Common.{none-some, same_Some, append-nil, ◌++◌, reverse, arith, ◌≡◌, ◌⊎◌, inl, inr, ⊎_elim, ℕ, zero, suc, ◌+◌, ◌<◌, ◌≤◌, true, false, List, [], ◌∷◌, length, sum_by, refl, sym, ap, ◌∙◌, subst, Ok, Err, Option, Result, Some, slice_get, some, get_elem?, sum_by-cons, slice_get_within, Program, Schema, Reads, Writes, Given, channel_source, network_of, instance_at, actual_at, role_at, IsWellWired, Lists, is_output, count, end_at, Work, belongs, dealt, wired, events_told, wires, Terms, SeatView, AreReadyTasks, HasBegun, IsTaskOf, Tasked, Continues, IsLater, count_on, handed_to_task, read_by, reads_at, told_tale, waits_on, writes_at, wrote_by, no_writer, ClosesBoard, below}
 use Rattle.kahn_streams.specs.declared.tree.Role.{Role}
-use Rattle.kahn_board.specs.declared.opening.Closed.{Closed}
+use Rattle.kahn_board.specs.declared.turn.Closed.{Closed}
 use Rattle.std.specs.Prelude.{IfErr}
 use Rattle.kahn_crew.specs.declared.opening.CrewFault.{CrewFault}
 use Rattle.kahn_crew.specs.declared.opening.CrewFault.TheVariants as fault

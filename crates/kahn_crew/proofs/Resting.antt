@@ -4,7 +4,7 @@ use Rattle.kahn_streams.proofs.Dry.{dry_reads}
 use Rattle.kahn_crew.proofs.{Wirings.reads_first, Wirings.writes_first, Wirings.first_writes, Wirings.reader_is, Wirings.writer_is, Wirings.read_inside, Wirings.written_inside, Publishing.handed_is}
 use Rattle.kahn_job.proofs.Berthed.{same_self, same_then}
 use Rattle.kahn_job.specs.declared.task.TaskStanding.TheVariants as standing
-use Rattle.kahn_crew.specs.declared.turn.Due.TheVariants as due
+use Rattle.kahn_crew.specs.declared.worker.Due.TheVariants as due
 
 -- ---- later states
 

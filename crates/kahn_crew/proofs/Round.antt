@@ -16,11 +16,6 @@ pub looked : (run : Run) (s t : Seat Tasked) (p n : ℕ) (b : Bool) → LooksAt 
 looked run s t p n b e r = (e.0.0.0 ∙ r.0, subst (λ (m : Sat Tasked). RestsWith n m.0) (sym e.0.1) r.1)
 
 -- it is the same worker's
-pub looks_on : (run : Run) (a b : Worker) (s : Seat Tasked) (p : ℕ) (t : Bool) → LooksAt told_tale IsLater (terms_of run) b.seat s p t → IsSameWorker a b × SitsWith run 0 b.seat
-    → IsSameWorker a (record b { seat = s }) × SitsWith run 0 s
-looks_on run a b s p t e i = let o = i.0 in
-    (((e.0.0.0 ∙ o.0.0, e.0.0.1 ∙ o.0.1, ap (λ (m : Sat Tasked). m.0.parts) e.0.1 ∙ o.0.2, ap (λ (m : Sat Tasked). m.0.raised) e.0.1 ∙ o.0.3), o.1, o.2), looked run b.seat s p 0 t e i.1)
-
 pub still_same : (run : Run) (a b d : Worker) → IsSameWorker a b → IsSameWorker b d × SitsWith run 0 d.seat → IsSameWorker a d × SitsWith run 0 d.seat
 still_same run a b d f (s, i) = (((s.0.0 ∙ f.0.0, s.0.1 ∙ f.0.1, s.0.2 ∙ f.0.2, s.0.3 ∙ f.0.3), s.1 ∙ f.1, s.2 ∙ f.2), i)
 

@@ -1,6 +1,6 @@
 -- A worker in a turn.
 use Rattle.kahn_crew.proofs.Common.{arith, ◌≡◌, ◌⊎◌, inl, inr, ⊎_elim, ℕ, ◌+◌, ◌-◌, ◌<◌, ◌≤◌, ◌^◌, List, length, refl, sym, ap, ◌∙◌, subst, Option, Some, None, slice_index, slice_set, Program, network_of, instance_at, actual_at, IsWellWired, Wires, Sat, InTurn, Becomes, Swaps, after_reporting, belongs, wired, Seat, Terms, SeatView, IsDelivered, Fits, HasPublished, HoldsInTurn, Knows, Run, IsTaskOf, CanRest, IsDue, Tasked, Continues, AgreesWith, IsLater, IsPublished, told_tale, written_by, HasTask, IsAtWork, IsTaskIn, StandsStill, terms_of, is_there}
-use Rattle.kahn_crew.specs.declared.turn.Due.{Due}
+use Rattle.kahn_crew.specs.declared.worker.Due.{Due}
 use Rattle.kahn_crew.proofs.{Publishing.agrees_told, Wirings.instances_are}
 use Rattle.kahn_crew.proofs.Resting.{agrees_known, agrees_later, agrees_with, continues_here, continues_still, fits_after, fits_still, is_published, sees_two, task_of}
 

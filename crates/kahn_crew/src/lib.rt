@@ -2,11 +2,7 @@
 #![tactic(auto)]
 
 mod crew;
-mod hints;
 mod opening;
-mod parallel;
-mod run;
-mod turn;
 mod worker;
 
 // For the crates above.

@@ -1,17 +1,20 @@
-//! How a run begins and ends: its tasks, the board on which they are, in boxes, and what its workers leave.
+//! How a run begins and ends: its tasks, the board on which they are, in boxes, what its workers are lent and leave; and hints, the numbers
+//! of instances that may be ready.
 
-ghost use Rattle.std.specs.Prelude.{◌≡◌, ◌+◌, ◌<◌, ◌≤◌, ◌^◌, ◌++◌, [], length, reverse, IfOk, IfErr, vec_capacity};
-ghost use Rattle.kahn_crew.specs.{inner.Words.ℕ, inner.Words.Option, inner.Words.All, inner.Words.map, inner.Words.network_of, inner.Words.events_told, inner.Words.opening_view, inner.Words.AreIdle, inner.Words.HaveSettled, inner.Words.IsJob, inner.Words.rows_of, inner.Words.woken_task, inner.Left.run_fault, inner.Tasks.AreReadyTasks, inner.Tasks.HasBegun, inner.Tasks.IsNumber, inner.Tasks.told_tale, inner.Tasks.work_of};
+ghost use Rattle.std.specs.Prelude.{◌≡◌, ◌+◌, ◌<◌, ◌≤◌, ◌^◌, ◌++◌, [], length, reverse, IfOk, IfErr, vec_capacity, false, true};
+ghost use Rattle.kahn_crew.specs.{inner.Words.ℕ, inner.Words.Option, inner.Words.All, inner.Words.map, inner.Words.network_of, inner.Words.events_told, inner.Words.opening_view, inner.Words.AreIdle, inner.Words.HaveSettled, inner.Words.IsJob, inner.Words.rows_of, inner.Words.woken_task, inner.Left.run_fault, inner.Tasks.AreReadyTasks, inner.Tasks.HasBegun, inner.Tasks.IsNumber, inner.Tasks.told_tale, inner.Tasks.work_of, inner.Tasks.FitTogether, declared.opening.Order.TheVariants.Last};
 ghost use Rattle.kahn_board.specs.Wires.{wires};
+ghost use Rattle.crossbeam_deque.specs.Handles.{worker_index};
 
 use crate::crew::Crewing;
-use crate::hints::{Hints, first_hints};
+use crossbeam_deque::protocol::Free;
+use crossbeam_deque::{Steal, Stealer, Worker};
 use kahn_board::{Board, Reports, Seat};
+use kahn_code::Code;
 use kahn_job::{Idle, Task};
-use kahn_streams::{Input, Network, Role, RunFault};
+use kahn_streams::{Input, Network, NoMemory, Role, RunFault};
 use std::alloc::Global;
 use std::marker::Model;
-use thiserror::Error;
 
 /// The tasks of all instances in order, once all workers have left; how many events of the bound are left; whether the run
 /// was halted, since memory or a thread was refused; and whether memory was refused to a worker.
@@ -24,13 +27,11 @@ pub struct Left {
 }
 
 /// Why a network isn't run.
-#[derive(Clone, Copy, Debug, PartialEq, Eq, Drop, Error)]
+#[derive(Clone, Copy, Debug, PartialEq, Eq, Drop)]
 pub enum CrewFault {
     /// Memory was refused before the first event.
-    #[error("no memory")]
     NoMemory,
     /// A thread couldn't be started.
-    #[error("no thread")]
     NoThread,
 }
 
@@ -192,4 +193,135 @@ pub(crate) fn unbox_all(mut boxes: Vec<Boxed>, mut tasks: Vec<Task>) -> Vec<Task
     }
     tasks.reverse();
     tasks
+}
+
+/// The board on which the tasks are, their network, its input and its code, and how many events a task may do before another one is
+/// looked for, at least 1.
+#[derive(Drop)]
+pub struct Run<'b> {
+    pub board: &'b Board<Boxed>,
+    pub network: &'b Network,
+    pub input: &'b Input,
+    pub code: &'b Code,
+    pub quantum: u64,
+    ghost fits: { FitTogether board.now.table.shared.key network.now code.now.network.value input.now },
+    ghost some: { 0 < quantum },
+}
+
+// One of this many hints that a worker takes from its own is the oldest in any case, so that each comes.
+const CHAIN: usize = 64;
+
+/// When a hint comes among a worker's own: before all others, or after them.
+#[derive(Clone, Copy)]
+pub(crate) enum Order {
+    Next,
+    Last,
+}
+
+/// The hints of one worker: its own, and those of the others, which it may steal. A hint that is out of date does no harm.
+/// The newest reader of what the worker sent stands beside the deque: it comes next, while its tokens are in this processor's
+/// cache, and needs no step on a word that others see. Others steal the oldest hint.
+#[derive(Drop)]
+pub struct Hints {
+    next: Option<usize>,
+    taken: usize,
+    own: Worker<usize>,
+    others: Vec<Stealer<usize>>,
+    // Whether memory was refused to the worker: for a hint, an event or a segment.
+    pub(crate) wanted: bool,
+}
+
+impl Hints {
+    /// One hint more. False if memory was refused, which stays noted.
+    pub(crate) fn push(&mut self, instance: usize, order: Order) -> bool
+        ensures told { result ≡ true → self.new.wanted ≡ self.old.wanted }
+        ensures noted { result ≡ false → self.new.wanted ≡ true }
+        ensures more { result ≡ true → order ≡ Last → worker_index self.old.own < worker_index self.new.own }
+    {
+        let last = match order {
+            Order::Last => instance,
+            Order::Next => match self.next.replace(instance) {
+                Some(last) => last,
+                None => return true,
+            },
+        };
+        if self.own.push_as::<Free>(last).is_err() {
+            self.wanted = true;
+            return false;
+        }
+        true
+    }
+
+    /// A hint: one of its own, that comes next or is the oldest, or one that it steals.
+    pub(crate) fn find(&mut self, steals: bool) -> Option<usize>
+        ensures { self.new.wanted ≡ self.old.wanted }
+    {
+        if steals {
+            return self.steal();
+        }
+        self.taken = self.taken.wrapping_add(1);
+        if self.taken % CHAIN == 0 {
+            if let Some(oldest) = self.own.pop() {
+                return Some(oldest);
+            }
+        }
+        match self.next.take() {
+            Some(instance) => Some(instance),
+            None => self.own.pop(),
+        }
+    }
+
+    fn steal(&self) -> Option<usize> {
+        for other in self.others.iter() {
+            if let Steal::Success(instance) = other.steal() {
+                return Some(instance);
+            }
+        }
+        None
+    }
+}
+
+// Hints for each worker, each with room for a hint of every instance.
+fn bare_hints(alloc: Global, workers: usize, instances: usize) -> Result<Vec<Hints>, NoMemory>
+    ensures { IfOk result (λ v. length v.items ≡ workers) }
+{
+    let mut all = Vec::with_capacity(alloc, workers)?;
+    for _ in 0..workers {
+        all.push_reserved(Hints {
+            next: None,
+            taken: 0,
+            own: Worker::new_fifo(alloc, instances)?,
+            others: Vec::with_capacity(alloc, workers)?,
+            wanted: false,
+        });
+    }
+    Ok(all)
+}
+
+/// The hints of all workers, which name each instance once. Neighbours, which often send to one another, begin with one worker. Fails only
+/// if memory was refused.
+pub(crate) fn first_hints(
+    alloc: Global,
+    workers: usize,
+    instances: usize,
+) -> Result<Vec<Hints>, NoMemory>
+    requires { 0 < workers }
+    ensures { IfOk result (λ v. length v.items ≡ workers) }
+{
+    let mut all = bare_hints(alloc, workers, instances)?;
+    for worker in 0..workers {
+        for other in 0..workers {
+            if other != worker {
+                let stealer = all[other].own.stealer()?;
+                all[worker].others.push(stealer)?;
+            }
+        }
+    }
+    let share = instances.div_ceil(workers).max(1);
+    for instance in 0..instances {
+        if !all[instance / share % workers].push(instance, Order::Last) {
+            return Err(NoMemory);
+        }
+    }
+    Ok(all)
 }

@@ -1,17 +1,16 @@
 //! The program `kahn` with a gate that doesn't say that it is open: as many workers as are asked for begin at once, over lanes and
 //! the board, however little there is to do. With `held` before its other words the run is held between parts, and goes on after a
-//! refusal. It is for checks alone, and isn't released.
+//! refusal: after refused memory or a refused thread a further call goes on. It is for checks alone, and isn't released.
 #![tactic(auto)]
 
-mod parts;
-
-ghost use Rattle.std.specs.Prelude.{◌≤◌, IsTrue, length};
+ghost use Rattle.std.specs.Prelude.{IsTrue};
+ghost use Rattle.kahn_texts.specs.Formats.{HasItsLines, IsLine};
 
 use kahn_fault::{Fault, read_texts, tell};
 use kahn_line::{Options, read_line, tell_line, tell_no_memory, tell_words};
-use kahn_pool::{Gate, RunFault};
-use kahn_report::{WorkFault, work};
-use parts::work_in_parts;
+use kahn_pool::{Answer, Config, Gate, Held, HeldFault, RunFault, Verdict};
+use kahn_report::{WorkFault, checked, read_input, work, write_report};
+use kahn_streams::{Line, Network};
 use std::io::{BufWriter, Write};
 use std::process::ExitCode;
 use std::rt::Runtime;
@@ -27,6 +26,70 @@ impl Gate for Through {
     fn enter(&self, _instance: usize) {}
 }
 
+/// Whether a line is one of the network's.
+fn is_line(network: &Network, line: Line) -> bool
+    ensures { IsTrue result → IsLine network.now line }
+{
+    match line {
+        Line::Channel(channel) => channel < network.channels(),
+        Line::Print(instance) => instance < network.instances(),
+    }
+}
+
+/// Whether each stream of an answer is of a line of the network.
+fn has_its_lines(network: &Network, answer: &Answer) -> bool
+    ensures { IsTrue result → HasItsLines network.now answer.now }
+{
+    answer
+        .streams
+        .iter()
+        .all(|stream| is_line(network, stream.line))
+}
+
+/// Runs the program on the input in a part, and writes the report. After a refusal, which is told, it goes on once.
+fn work_in_parts<R: Runtime + AllocGlobal + Threads + Wait + Sync, W: Write, E: Write>(
+    rt: &R,
+    program: &str,
+    input: &str,
+    config: Config,
+    writer: &mut W,
+    errors: &mut E,
+) -> Result<Verdict, WorkFault> {
+    let network = checked(rt.alloc(), program)?;
+    let input = read_input(rt.alloc(), input, &network)?;
+    let mut held = match Held::start(rt.alloc(), &network, input, config) {
+        Ok(held) => held,
+        Err(fault) => return Err(WorkFault::Run(fault)),
+    };
+    let verdict = match held.resume(rt, 0, &Through) {
+        Ok(Verdict::Memory) | Err(HeldFault::NoMemory | HeldFault::NoThread) => {
+            let _ = errors.write_all(b"again\n");
+            held.resume(rt, 0, &Through)
+        }
+        verdict => verdict,
+    };
+    if !held.settled() {
+        return Err(WorkFault::Run(RunFault::NoMemory));
+    }
+    let answer = match held.answer() {
+        Err(_) => {
+            let _ = errors.write_all(b"again\n");
+            held.answer()
+        }
+        answer => answer,
+    };
+    let (Ok(verdict), Ok(answer)) = (verdict, answer) else {
+        return Err(WorkFault::Run(RunFault::NoMemory));
+    };
+    if !has_its_lines(&network, &answer) {
+        return Err(WorkFault::Run(RunFault::NoMemory));
+    }
+    match write_report(writer, &network, &answer) {
+        Ok(()) => Ok(verdict),
+        Err(fault) => Err(WorkFault::Write(fault)),
+    }
+}
+
 /// Does what the command line asks for, and returns the status. Faults are reported to the writer.
 fn answered<R: Runtime + AllocGlobal + Threads + Wait + Sync, W: Write>(
     rt: &R,
@@ -39,38 +102,21 @@ fn answered<R: Runtime + AllocGlobal + Threads + Wait + Sync, W: Write>(
         Err(fault) => return tell(&Err(fault), "", errors).status,
     };
     let (program, input, config) = (texts.program.as_str(), texts.input.as_str(), options.config);
-    let Ok(mut writer) = BufWriter::new(rt.alloc(), io::writer(rt)) else {
+    let alloc = rt.alloc();
+    let Ok(mut writer) = BufWriter::new(alloc, io::writer(rt)) else {
         let refused = Fault::Work(WorkFault::Run(RunFault::NoMemory));
         return tell(&Err(refused), "", errors).status;
     };
     let worked = if held {
-        work_in_parts(rt, program, input, config, &Through, &mut writer, errors)
+        work_in_parts(rt, program, input, config, &mut writer, errors)
     } else {
-        work(
-            rt,
-            rt.alloc(),
-            program,
-            input,
-            config,
-            &Through,
-            &mut writer,
-        )
+        work(rt, alloc, program, input, config, &Through, &mut writer)
     };
     let answer = match worked {
         Ok(verdict) => Ok(verdict),
         Err(fault) => Err(Fault::Work(fault)),
     };
     tell(&answer, program, errors).status
-}
-
-/// Whether the run is to be held between parts.
-fn is_held(words: &[String]) -> bool
-    ensures { IsTrue result → 1 ≤ length words.now }
-{
-    match words.get(1) {
-        Some(word) => word.as_str() == "held",
-        None => false,
-    }
 }
 
 fn main(rt: HostRuntime) -> ExitCode {
@@ -81,8 +127,11 @@ fn main(rt: HostRuntime) -> ExitCode {
     let Ok(words) = words.collect::<Vec<String>>(rt.alloc()) else {
         return ExitCode::from(tell_no_memory(&rt));
     };
-    let held = is_held(&words);
-    let others = if held { &words[1..] } else { &words[..] };
+    let others = match words.get(1) {
+        Some(word) if word.as_str() == "held" => &words[1..],
+        _ => &words[..],
+    };
+    let held = others.len() < words.len();
     let status = match read_line(rt.alloc(), others) {
         Ok(options) => answered(&rt, options, held, &mut rt.stderr()),
         Err(fault) => tell_line(&rt, &fault),

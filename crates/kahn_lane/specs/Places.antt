@@ -11,9 +11,13 @@ use Rattle.kahn_lane.specs.{declared.name.LaneName.LaneName, declared.name.Tag.T
 abbrev pub Named : Type 0
 Named = Option LaneName
 
--- a channel of a program's network, for an input
+-- a line of a program's network, for an input
+abbrev pub name_on_line : Program → Lists → Line → LaneName
+name_on_line network input line = record { network = network; input = input; line = line }
+
+-- a channel of it
 abbrev pub lane_name : Program → Lists → ℕ → LaneName
-lane_name network input channel = record { network = network; input = input; line = Channel channel }
+lane_name network input channel = name_on_line network input (Channel channel)
 
 -- what a token is of
 abbrev pub token_name : Token → LaneName
@@ -25,7 +29,7 @@ tag_name t = record { network = t.network.value; input = t.input.value; line = t
 
 -- the same line and network, for another input
 abbrev pub moved_to : Lists → LaneName → LaneName
-moved_to input n = record { network = n.network; input = input; line = n.line }
+moved_to input n = name_on_line n.network input n.line
 
 abbrev pub told : Option Tag → Named
 told None = None

@@ -1,20 +1,19 @@
 //! The calls of a relay: items pass between two threads one by one, in order, and any number of them may be under
-//! way.
-//!
-//! A taker that finds nothing returns at once. No call ever blocks.
+//! way. A taker that finds nothing returns at once. No call ever blocks.
 
 ghost use Rattle.std.specs.Prelude.{◌≡◌, ◌+◌, ◌<◌, ◌≤◌, List, [], ◌∷◌, ◌++◌, length, IfOk, MatchResult, MatchOption};
 ghost use Rattle.kahn_lane.specs.RelayEnds.{giver_relay, taker_relay, given, got, known_given, ComesBack, SameRelay, WasEmpty};
+ghost use Rattle.crossbeam_deque.specs.Handles.{worker_capacity, worker_flavor, worker_index, worker_view};
 
-use crate::deque::{LaneFault, TRIES, small_deque};
-use crate::ends::{Blank, Giver, Got, InOrder, Log, Roles, Sent, Taker, Total};
-use crossbeam_deque::Steal;
+use crate::segments::{Bare, Giver, Got, InOrder, Log, Sent, Sides, Taker, Total};
+use crossbeam_deque::protocol::Protocol;
+use crossbeam_deque::{Steal, Worker};
 use kahn_streams::{NoMemory, Steps};
-use std::alloc::Allocator;
+use std::alloc::{AllocError, Allocator};
 use std::marker::Brand;
 use std::mem;
-use std::sync::ledger;
-use std::sync::ledger::Ledger;
+use std::sync::ledger::{Blank, Ledger};
+use thiserror::Error;
 
 /// Makes a relay. Its two ends may go to different threads. Nothing was given or taken yet.
 #[tactic(auto, using(crate::proofs::RelayMoves::begins, crate::proofs::RelayMoves::forks))]
@@ -26,7 +25,7 @@ pub fn relay<T: Drop, A: Allocator + Clone + Drop>(
 {
     let mut worker = small_deque::<T, A, Log<T>, InOrder>(alloc)?;
     let stealer = worker.stealer()?;
-    let pass = worker.another::<Roles>();
+    let pass = worker.another::<Sides>();
     Ok((Giver { worker }, Taker { stealer, pass }))
 }
 
@@ -51,11 +50,10 @@ impl<T, A: Allocator> Taker<T, A> {
         ensures same { (taker_relay self.new ≡ taker_relay self.old) × (known_given self.new ≡ known_given self.old) }
         ensures rule { MatchOption result ((got self.new ≡ got self.old) × WasEmpty self.old self.new) (λ x. got self.new ≡ got self.old ++ x ∷ []) }
     {
-        self.take_counted::<Brand>(ledger::Blank::new(1))
+        self.take_counted::<Brand>(Blank::new(1))
     }
 
-    // The same, with a ledger for its tries.
-    fn take_counted<L: Ledger>(&mut self, blank: ledger::Blank) -> Option<T>
+    fn take_counted<L: Ledger>(&mut self, blank: Blank) -> Option<T>
         requires { (blank.name ≡ L.name) × (blank.parts ≡ L.parts) × (0 < blank.parts) }
         ensures same { (taker_relay self.new ≡ taker_relay self.old) × (known_given self.new ≡ known_given self.old) }
         ensures rule { MatchOption result ((got self.new ≡ got self.old) × WasEmpty self.old self.new) (λ x. got self.new ≡ got self.old ++ x ∷ []) }
@@ -64,7 +62,6 @@ impl<T, A: Allocator> Taker<T, A> {
         self.steal_next(&mut tries)
     }
 
-    // Tries so often to take the next item.
     #[tactic(auto, using(crate::proofs::RelayMoves::gets, crate::proofs::RelayMoves::finds))]
     fn steal_next<L: Ledger>(&mut self, tries: &mut Steps<L>) -> Option<T>
         ensures same { (taker_relay self.new ≡ taker_relay self.old) × (known_given self.new ≡ known_given self.old) }
@@ -91,13 +88,41 @@ impl<T, A: Allocator> Taker<T, A> {
         ensures rule { (items : List T) × (given giver.old ≡ got self.old ++ items) × (length items ≡ result) }
         ensures known { known_given self.new ≡ length (given giver.old) }
     {
-        let blank = giver.worker.another::<Blank>();
+        let blank = giver.worker.another::<Bare>();
         let pass = mem::replace(&mut self.pass, blank);
-        giver.worker.absorb::<Roles>(pass);
+        giver.worker.absorb::<Sides>(pass);
         let count = giver.worker.len_as::<Total>();
-        let pass = giver.worker.another::<Roles>();
+        let pass = giver.worker.another::<Sides>();
         let blank = mem::replace(&mut self.pass, pass);
-        giver.worker.absorb::<Blank>(blank);
+        giver.worker.absorb::<Bare>(blank);
         count as u64
+    }
+}
+
+// How often a steal that met another one is tried again. Clauses of relays and lanes count this.
+pub(crate) const TRIES: usize = 64;
+
+/// A new deque, with memory for one item, whose items are stolen in the order in which they were pushed.
+pub(crate) fn small_deque<T: Drop, A: Allocator + Clone + Drop, V, P: Protocol<T, V>>(
+    alloc: A,
+) -> Result<Worker<T, A, V, P>, AllocError>
+    requires { P.holds [] (P.first ∷ []) }
+    ensures small { IfOk result (λ w. worker_capacity w ≡ 1) }
+    ensures first { IfOk result (λ w. (worker_flavor w ≡ 0) × (worker_index w ≡ 0) × (worker_view w ≡ P.first)) }
+{
+    Worker::<T, A, V, P>::fifo_as(alloc, 1)
+}
+
+/// Why a lane or a relay couldn't be made.
+#[derive(PartialEq, Eq, Debug, Drop, Error)]
+pub enum LaneFault {
+    /// Memory was refused.
+    #[error("no memory")]
+    NoMemory,
+}
+
+impl From<AllocError> for LaneFault {
+    fn from(_error: AllocError) -> LaneFault {
+        LaneFault::NoMemory
     }
 }

@@ -3,16 +3,16 @@
 //! The writer asks for room, puts a token into its open segment, and flushes the segment when it is full or when the reader
 //! is to see it. The reader steals a segment when its own is used up, and takes its tokens one by one. No call ever blocks.
 
-ghost use Rattle.std.specs.Prelude.{◌≡◌, ◌+◌, ◌≤◌, ◌<◌, ◌^◌, ◌⊎◌, true, false, vec_len, IfOk, IsOk, OnErr, IsSome, MatchResult, MatchOption, Some};
+ghost use Rattle.std.specs.Prelude.{◌≡◌, ◌+◌, ◌≤◌, ◌<◌, ◌^◌, ◌⊎◌, true, false, vec_len, IfOk, IsOk, OnErr, IsSome, MatchResult, MatchOption, Some, ◌-◌, [], IfErr, ℕ, length, vec_capacity};
 ghost use Rattle.crossbeam_deque.specs.Handles.{worker_view, worker_deque, worker_flavor, stealer_deque, stealer_flavor};
-ghost use Rattle.kahn_lane.specs.Places.{lane_name, token_name, tag_name, owner};
-ghost use Rattle.kahn_lane.specs.LaneEnds.{sender_lane, receiver_lane, sender_name, filled, flushed, sent, CanPut, received, waiting, CanTake, heard, left, SameSender, SameReceiver, AreEndsNamed, HavePassed, TakesNext, WasDry};
+ghost use Rattle.kahn_lane.specs.{Places.lane_name, Places.name_on_line, Places.token_name, Places.tag_name, Places.owner, LaneEnds.sender_lane, LaneEnds.receiver_lane, LaneEnds.sender_name, LaneEnds.filled, LaneEnds.flushed, LaneEnds.sent, LaneEnds.CanPut, LaneEnds.received, LaneEnds.waiting, LaneEnds.CanTake, LaneEnds.heard, LaneEnds.left, LaneEnds.SameSender, LaneEnds.SameReceiver, LaneEnds.AreEndsNamed, LaneEnds.HavePassed, LaneEnds.TakesNext, LaneEnds.WasDry, Places.StandFrom, Places.moved_to, inner.LaneRule.size, inner.LaneRule.tokens_of, inner.Settles.HasBothRights, inner.Settles.HasStolen, inner.Settles.IsGrown, inner.Settles.LiftsTo, inner.Settles.SameLifted, declared.name.LaneName.LaneName};
+ghost use Rattle.kahn_streams.specs.Inputs.{Names};
 
-use crate::deque::{LaneFault, TRIES, small_deque};
-use crate::name::{Tag, make_tag};
+use crate::handover::{LaneFault, TRIES, small_deque};
+use crate::name::{Tag, tag_by};
 use crate::segments::{
-    Bare, Behind, Flushed, InPlaces, LaneStealer, LaneWorker, Mark, Receiver, Segment, Sender,
-    Sides, Starting, Stolen, Telling,
+    Bare, Behind, Emptied, Flushed, InPlaces, LaneStealer, LaneWorker, Lifted, Mark, Receiver,
+    Segment, Sender, Sides, Starting, Stolen, Telling,
 };
 use crossbeam_deque::Steal;
 use kahn_streams::{Carried, Input, Line, Network, NoMemory, Steps, Token};
@@ -49,19 +49,24 @@ fn opened<A: Allocator + Clone + Drop>(
     Ok((worker, stealer))
 }
 
-// The two ends of a new lane that begins at the place of two equal tags. The sender keeps the second.
+// The two ends of a new lane that begins at a place of a line, for the network and the input that the caller takes from two things at hand.
 #[tactic(auto, using(crate::proofs::LaneMoves::forks))]
-pub(crate) fn lane_from<A: Allocator + Clone + Drop>(
+fn lane_from<A: Allocator + Clone + Drop, X, Y>(
     alloc: A,
-    head: Tag,
-    tag: Tag,
+    x: &X,
+    y: &Y,
+    line: Line,
+    place: u64,
 ) -> Result<(Sender<A>, Receiver<A>), LaneFault>
-    requires { (tag_name head ≡ tag_name tag) × (head.from ≡ tag.from) }
+    ghost names: { Names }
+    requires { place ≤ 2 ^ 48 }
     ensures lane { IfOk result (λ r. sender_lane r.0 ≡ receiver_lane r.1) }
-    ensures name { IfOk result (λ r. AreEndsNamed (Some (tag_name tag)) r.0 r.1) }
-    ensures start { IfOk result (λ r. (sent r.0 ≡ tag.from) × (flushed r.0 ≡ tag.from) × (received r.1 ≡ tag.from) × (heard r.1 ≡ tag.from)) }
+    ensures name { IfOk result (λ r. AreEndsNamed (Some (name_on_line names.network names.input line)) r.0 r.1) }
+    ensures start { IfOk result (λ r. HavePassed place r.0 r.1) }
     ensures dry { IfOk result (λ r. vec_len r.1.current ≡ 0) }
 {
+    let head = tag_by(x, y, line, place);
+    let tag = tag_by(x, y, line, place);
     let left = Vec::new(alloc.clone()?);
     let right = Vec::with_capacity(alloc.clone()?, 1)?;
     let (mut worker, stealer) = opened(alloc, head)?;
@@ -111,10 +116,7 @@ pub fn lane_at<A: Allocator + Clone + Drop>(
     ensures name { IfOk result (λ r. AreEndsNamed (Some (lane_name network.now input.now channel)) r.0 r.1) }
     ensures start { IfOk result (λ r. HavePassed place r.0 r.1) }
 {
-    let line = Line::Channel(channel);
-    let head = make_tag(network, input, line, place);
-    let tag = make_tag(network, input, line, place);
-    lane_from(alloc, head, tag)
+    lane_from(alloc, network, input, Line::Channel(channel), place)
 }
 
 impl<A: Allocator + Clone + Drop> Sender<A> {
@@ -145,10 +147,29 @@ impl<A: Allocator + Clone + Drop> Sender<A> {
         ensures idle { sent self.old ≡ flushed self.old → IsOk result }
         ensures room { CanPut self.old → CanPut self.new }
     {
-        match self.current.len() {
-            0 => Ok(self.flushed),
-            1 => self.flush_alone(),
-            _ => self.flush_list(),
+        let count = self.current.len();
+        if count == 0 {
+            return Ok(self.flushed);
+        }
+        if count == 1 {
+            return self.flush_alone();
+        }
+        let alloc = self.current.allocator().clone()?;
+        let next = Vec::with_capacity(alloc, SEGMENT)?;
+        let tokens = mem::replace(&mut self.current, next);
+        match self.worker.push_as::<Flushed>(Segment {
+            tag: None,
+            alone: None,
+            tokens,
+        }) {
+            Ok(()) => {
+                self.flushed += count as u64;
+                Ok(self.flushed)
+            }
+            Err(segment) => {
+                self.current = segment.tokens;
+                Err(NoMemory)
+            }
         }
     }
 
@@ -172,33 +193,6 @@ impl<A: Allocator + Clone + Drop> Sender<A> {
             }
             Err(back) => {
                 self.current.push_reserved(back.alone.unwrap());
-                Err(NoMemory)
-            }
-        }
-    }
-
-    // Flushes the open segment with its list, once there is another.
-    fn flush_list(&mut self) -> Result<u64, NoMemory>
-        requires { 0 < filled self.old }
-        ensures same { SameSender self.old self.new × (sent self.new ≡ sent self.old) }
-        ensures flushed { MatchResult result (λ n. (n ≡ sent self.old) × (flushed self.new ≡ sent self.old)) (λ _. flushed self.new ≡ flushed self.old) }
-        ensures room { CanPut self.old → CanPut self.new }
-    {
-        let alloc = self.current.allocator().clone()?;
-        let next = Vec::with_capacity(alloc, SEGMENT)?;
-        let count = self.current.len() as u64;
-        let tokens = mem::replace(&mut self.current, next);
-        match self.worker.push_as::<Flushed>(Segment {
-            tag: None,
-            alone: None,
-            tokens,
-        }) {
-            Ok(()) => {
-                self.flushed += count;
-                Ok(self.flushed)
-            }
-            Err(segment) => {
-                self.current = segment.tokens;
                 Err(NoMemory)
             }
         }
@@ -268,8 +262,7 @@ impl<A: Allocator + Drop> Receiver<A> {
         self.from + self.used as u64
     }
 
-    // Steals the next segment once the open one is used up. It stands apart, so that `take` is short enough to be compiled into its
-    // callers.
+    // Steals the next segment. It stands apart, so that `take` is short enough to be compiled into its callers.
     #[inline(never)]
     fn refill<L: Ledger>(&mut self, blank: Blank) -> bool
         requires dry { waiting self.old ≡ 0 }
@@ -282,7 +275,6 @@ impl<A: Allocator + Drop> Receiver<A> {
         self.steal_next(&mut tries)
     }
 
-    // Tries so often to steal the next segment.
     #[tactic(auto, using(crate::proofs::LaneMoves::steals, crate::proofs::LaneMoves::finds))]
     fn steal_next<L: Ledger>(&mut self, tries: &mut Steps<L>) -> bool
         requires { waiting self.old ≡ 0 }
@@ -340,4 +332,140 @@ pub fn meet<A: Allocator>(sender: &mut Sender<A>, receiver: &mut Receiver<A>) ->
     let bare = mem::replace(&mut receiver.pass, pass);
     sender.worker.absorb::<Bare>(bare);
     sender.flushed - receiver.taken()
+}
+
+impl<A: Allocator + Drop> Lifted<A> {
+    #[tactic(auto, using(crate::proofs::Places::placed_more))]
+    fn put(&mut self, input: &Input, carried: &Carried)
+        requires room { vec_len self.old.tokens < vec_capacity self.old.tokens }
+        requires next { (token_name carried.now ≡ tag_name self.old.from) × (carried.now.place ≡ self.old.first + vec_len self.old.tokens) }
+        requires input { LiftsTo self.old input.now }
+        ensures same { SameLifted self.old self.new }
+        ensures more { vec_len self.new.tokens ≡ vec_len self.old.tokens + 1 }
+    {
+        carried.counted();
+        let place = self.first + self.tokens.len() as u64;
+        let token = carried.token(self.from.line, place);
+        self.tokens.push_reserved(Carried::of(input.lift(token)));
+    }
+
+    // Lifts the next tokens, all but the first of these, which were taken.
+    #[tactic(auto, using(crate::proofs::Places::placed_at, crate::proofs::Places::same_name))]
+    fn put_all(&mut self, input: &Input, tokens: &[Carried], used: usize)
+        requires room { vec_len self.old.tokens + (length tokens.now - used) ≤ vec_capacity self.old.tokens }
+        requires next { (n : ℕ) × StandFrom (Some (tag_name self.old.from)) n tokens.now × (n + used ≡ self.old.first + vec_len self.old.tokens) }
+        requires used { used ≤ length tokens.now }
+        requires input { LiftsTo self.old input.now }
+        ensures same { SameLifted self.old self.new }
+        ensures more { vec_len self.new.tokens + used ≡ vec_len self.old.tokens + length tokens.now }
+    {
+        for at in used..tokens.len() {
+            self.put(input, &tokens[at]);
+        }
+    }
+
+    // Lifts the tokens of all segments in the deque, whose worker has both rights.
+    #[tactic(auto, using(crate::proofs::LaneMoves::empties))]
+    fn put_rest(&mut self, input: &Input, worker: &mut LaneWorker<A>)
+        requires room { (worker_view worker.old).flushed ≤ self.old.first + vec_capacity self.old.tokens }
+        requires worker { HasBothRights (worker_flavor worker.old) (worker_view worker.old) }
+        requires next { HasStolen (tag_name self.old.from) (self.old.first + vec_len self.old.tokens) (worker_view worker.old) }
+        requires input { LiftsTo self.old input.now }
+        ensures same { SameLifted self.old self.new }
+        ensures all { self.new.first + vec_len self.new.tokens ≡ (worker_view worker.old).flushed }
+    {
+        while let Some(segment) = worker.pop_as::<Emptied>() {
+            self.put_segment(input, &segment);
+        }
+    }
+
+    fn put_segment(&mut self, input: &Input, segment: &Segment<A>)
+        requires room { vec_len self.old.tokens + size segment.now ≤ vec_capacity self.old.tokens }
+        requires next { StandFrom (Some (tag_name self.old.from)) (self.old.first + vec_len self.old.tokens) (tokens_of segment.now) }
+        requires input { LiftsTo self.old input.now }
+        ensures same { SameLifted self.old self.new }
+        ensures more { vec_len self.new.tokens ≡ vec_len self.old.tokens + size segment.now }
+    {
+        match &segment.alone {
+            None => self.put_all(input, segment.tokens.as_slice(), 0),
+            Some(token) => self.put(input, token),
+        }
+    }
+}
+
+// Allocates all that settling needs: both ends of a lane that begins where the old one ended, and room for the tokens that weren't
+// taken.
+fn prepare<A: Allocator + Clone + Drop>(
+    sender: &Sender<A>,
+    receiver: &Receiver<A>,
+    input: &Input,
+) -> Result<(Sender<A>, Receiver<A>, Vec<Carried, A>), LaneFault>
+    ensures lane { IfOk result (λ p. sender_lane p.0 ≡ receiver_lane p.1) }
+    ensures name { IfOk result (λ p. AreEndsNamed (Some (moved_to input.now (tag_name sender.now.tag))) p.0 p.1) }
+    ensures start { IfOk result (λ p. HavePassed (sent sender.now) p.0 p.1) }
+    ensures dry { IfOk result (λ p. vec_len p.1.current ≡ 0) }
+    ensures room { IfOk result (λ p. (p.2.items ≡ []) × (1 ≤ vec_capacity p.2) × (sent sender.now ≤ received receiver.now + vec_capacity p.2)) }
+{
+    let end = sender.sent();
+    let count = end.saturating_sub(receiver.taken()) as usize;
+    let tokens = Vec::with_capacity(sender.current.allocator().clone()?, count.max(1))?;
+    let alloc = sender.current.allocator().clone()?;
+    let (sender, receiver) = lane_from(alloc, &sender.tag, input, sender.tag.line, end)?;
+    Ok((sender, receiver, tokens))
+}
+
+// Collects the tokens of a lane that weren't taken, lifted to the input.
+#[tactic(auto, using(crate::proofs::LaneMoves::merges, crate::proofs::LaneMoves::behind))]
+fn gather<A: Allocator + Clone + Drop>(
+    sender: Sender<A>,
+    receiver: Receiver<A>,
+    input: &Input,
+    tokens: Vec<Carried, A>,
+) -> Vec<Carried, A>
+    requires lane { sender_lane sender ≡ receiver_lane receiver }
+    requires grown { IsGrown (tag_name sender.tag) input.now }
+    requires room { (tokens.items ≡ []) × (sent sender ≤ received receiver + vec_capacity tokens) }
+    ensures placed { StandFrom (Some (moved_to input.now (tag_name sender.tag))) (received receiver) result.items }
+    ensures all { received receiver + vec_len result ≡ sent sender }
+    ensures room { vec_capacity result ≡ vec_capacity tokens }
+{
+    let taken = receiver.taken();
+    let mut worker = sender.worker;
+    worker.absorb::<Sides>(receiver.pass);
+    let _segments = worker.len_as::<Behind>();
+    let mut lifted = Lifted {
+        to: tag_by(&sender.tag, input, sender.tag.line, taken),
+        from: sender.tag,
+        first: taken,
+        tokens,
+    };
+    lifted.put_all(input, receiver.current.as_slice(), receiver.used);
+    lifted.put_rest(input, &mut worker);
+    lifted.put_all(input, sender.current.as_slice(), 0);
+    lifted.tokens
+}
+
+/// Moves a lane to an input whose lists begin with those of its own: as many tokens were sent and taken, all that were sent are
+/// flushed, and all that weren't taken are in the receiver's hands. If memory is refused, both ends come back as they were.
+pub fn settle<A: Allocator + Clone + Drop>(
+    sender: Sender<A>,
+    receiver: Receiver<A>,
+    input: &Input,
+) -> Result<(Sender<A>, Receiver<A>), (NoMemory, Sender<A>, Receiver<A>)>
+    requires lane { sender_lane sender ≡ receiver_lane receiver }
+    requires grown { (n : LaneName) × (sender_name sender ≡ Some n) × IsGrown n input.now }
+    ensures lane { IfOk result (λ r. sender_lane r.0 ≡ receiver_lane r.1) }
+    ensures name { IfOk result (λ r. (n : LaneName) → sender_name sender ≡ Some n → AreEndsNamed (Some (moved_to input.now n)) r.0 r.1) }
+    ensures counts { IfOk result (λ r. (sent r.0 ≡ sent sender) × (flushed r.0 ≡ sent sender) × (received r.1 ≡ received receiver) × (heard r.1 ≡ sent sender)) }
+    ensures ready { IfOk result (λ r. received receiver < sent sender → CanTake r.1) }
+    ensures refused { IfErr result (λ e. (e.1 ≡ sender) × (e.2 ≡ receiver)) }
+{
+    let Ok((next, mut behind, tokens)) = prepare(&sender, &receiver, input) else {
+        return Err((NoMemory, sender, receiver));
+    };
+    let taken = receiver.taken();
+    let tokens = gather(sender, receiver, input, tokens);
+    behind.from = taken;
+    behind.current = tokens;
+    Ok((next, behind))
 }

@@ -5,20 +5,14 @@
 //! twice. No call blocks or needs a handle. All memory comes from the allocator that the maker was given.
 #![tactic(auto)]
 
-mod deque;
-mod ends;
 mod handover;
 mod lanes;
-mod lifted;
 mod name;
 mod segments;
-mod settling;
 
-pub use deque::LaneFault;
-pub use ends::{Giver, Taker};
-pub use handover::relay;
+pub use handover::{LaneFault, relay};
 pub use lanes::{lane, lane_at, meet};
-pub use segments::{Receiver, Sender};
+pub use segments::{Giver, Receiver, Sender, Taker};
 
 // For the crates above.
-pub use settling::settle;
+pub use lanes::settle;

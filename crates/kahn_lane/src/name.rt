@@ -25,8 +25,8 @@ pub struct Tag {
     ghost limited: { from ≤ 2 ^ 48 },
 }
 
-// The tag for the names of something at hand.
-fn tag_by<X, Y>(_x: &X, _y: &Y, line: Line, from: u64) -> Tag
+/// The tag of a line from a place on, for the network and the input that the caller takes from two things at hand.
+pub(crate) fn tag_by<X, Y>(_x: &X, _y: &Y, line: Line, from: u64) -> Tag
     ghost names: { Names }
     requires { from ≤ 2 ^ 48 }
     ensures here { (result.line ≡ line) × (result.from ≡ from) }
@@ -38,22 +38,4 @@ fn tag_by<X, Y>(_x: &X, _y: &Y, line: Line, from: u64) -> Tag
         network: About::named(),
         input: About::named(),
     }
-}
-
-/// Returns the tag of a line of this network, for this input, from this place on.
-pub(crate) fn make_tag(network: &Network, input: &Input, line: Line, from: u64) -> Tag
-    requires { from ≤ 2 ^ 48 }
-    ensures here { (result.line ≡ line) × (result.from ≡ from) }
-    ensures names { (result.network.value ≡ network.now) × (result.input.value ≡ input.now) }
-{
-    tag_by(network, input, line, from)
-}
-
-/// Returns the tag of the same line and network for another input, from this place on.
-pub(crate) fn move_tag(tag: &Tag, input: &Input, from: u64) -> Tag
-    requires { from ≤ 2 ^ 48 }
-    ensures here { (result.line ≡ tag.now.line) × (result.from ≡ from) }
-    ensures names { (result.network.value ≡ tag.now.network.value) × (result.input.value ≡ input.now) }
-{
-    tag_by(tag, input, tag.line, from)
 }

@@ -10,16 +10,16 @@
 //! The rule of a deque is fixed before any network or input is there, so it can't name them. A lane learns them from
 //! a first segment, without tokens, which its maker pushes and takes out again before the ends are parted.
 
-ghost use Rattle.std.specs.Prelude.{◌≡◌, ◌+◌, ◌≤◌, ◌^◌, is_some, true, false, Some, vec_len, vec_capacity};
-ghost use Rattle.crossbeam_deque.specs.Handles.{view, worker_view, worker_flavor, stealer_deque, stealer_flavor};
-ghost use Rattle.kahn_lane.specs.Places.{IsOn, IsOn-prop, StandFrom, Placed-prop, tag_name, name-prop, stage-prop, opening_mark, spent_mark, owner, writing_mark, reading, both};
-ghost use Rattle.kahn_lane.specs.{declared.segments.Stage.TheVariants.Running, inner.LaneRule.Laned, inner.LaneRule.TellsName, inner.LaneRule.Flushes, inner.LaneRule.Steals, inner.LaneRule.Empties};
+ghost use Rattle.std.specs.Prelude.{◌≡◌, ◌+◌, ◌≤◌, ◌^◌, is_some, true, false, Some, vec_len, vec_capacity, length, [], ◌++◌};
+ghost use Rattle.crossbeam_deque.specs.Handles.{view, worker_view, worker_flavor, stealer_deque, stealer_flavor, worker_index, worker_capacity};
+ghost use Rattle.kahn_lane.specs.{Places.IsOn, Places.IsOn-prop, Places.StandFrom, Places.Placed-prop, Places.tag_name, Places.name-prop, Places.stage-prop, Places.opening_mark, Places.spent_mark, Places.owner, Places.writing_mark, Places.reading, Places.both, declared.segments.Stage.TheVariants.Running, inner.LaneRule.Laned, inner.LaneRule.TellsName, inner.LaneRule.Flushes, inner.LaneRule.Steals, inner.LaneRule.Empties, Places.lane_name-prop, Places.moved_to, inner.RelayRule.log, inner.RelayRule.Relayed};
 
 use crate::name::{LaneName, Tag};
 use crossbeam_deque::protocol::{Join, Lesson, Outcome, Protocol, Split};
 use crossbeam_deque::{Pass, Stealer, Worker};
 use kahn_streams::{Carried, Line};
 use std::alloc::{Allocator, Global};
+use std::collections::LinkedList;
 
 /// A run of tokens at consecutive places: one alone, which needs no list, or those of a list. The first segment of a lane
 /// says what the tokens are of, and has none.
@@ -78,7 +78,7 @@ impl<A: Allocator> Outcome<Segment<A>, Mark> for Starting {
     ghost empty = { λ _. ⊥ };
 }
 
-/// The right to steal goes to another pass, or comes back.
+/// The right to steal or to take goes to another pass, or comes back.
 pub struct Sides;
 
 impl Split<Mark> for Sides {
@@ -186,4 +186,107 @@ pub struct Receiver<A: Allocator = Global> {
     ghost within: { used ≤ vec_len current },
     ghost roomy: { 1 ≤ vec_capacity current },
     ghost limited: { from + vec_len current ≤ 2 ^ 48 },
+}
+
+/// Tokens at consecutive places that were of one input and are lifted to another.
+#[derive(Drop)]
+pub(crate) struct Lifted<A: Allocator = Global> {
+    // What they were of, and what they are of now.
+    pub(crate) from: Tag,
+    pub(crate) to: Tag,
+    // The place of the first of them.
+    pub(crate) first: u64,
+    pub(crate) tokens: Vec<Carried, A>,
+    ghost moved: { tag_name to ≡ moved_to to.input.value (tag_name from) } by { lane_name-prop (tag_name to) (moved_to to.input.value (tag_name from)) },
+    ghost placed: { StandFrom (Some (tag_name to)) first tokens.items } by { Placed-prop (Some (tag_name to)) first tokens.items },
+}
+
+/// What a pass may do (push, take), what it has given and taken, and how many items it knows to have been given. Only
+/// contracts use it: no value of it is made.
+pub struct Log<T> {
+    pub pushes: bool,
+    pub pops: bool,
+    pub known: u64,
+    pub given: LinkedList<T>,
+    pub taken: LinkedList<T>,
+}
+
+/// The rule of a relay: items are taken in the order in which they were given.
+pub struct InOrder;
+
+impl<T> Protocol<T, Log<T>> for InOrder {
+    ghost holds = { Relayed };
+
+    ghost first = { log true true 0 [] [] };
+
+    ghost guest = { log false false 0 [] [] };
+}
+
+impl<T> Split<Log<T>> for Sides {
+    ghost left = { λ v. log true false 0 v.given [] };
+
+    ghost right = { λ v. log false true (length v.given) [] v.taken };
+}
+
+impl<T> Join<Log<T>> for Sides {
+    ghost both = { λ v w. log true true w.known v.given w.taken };
+
+    ghost spent = { log false false 0 [] [] };
+}
+
+impl<T> Split<Log<T>> for Bare {
+    ghost left = { λ v. v };
+
+    ghost right = { λ _. log false false 0 [] [] };
+}
+
+impl<T> Join<Log<T>> for Bare {
+    ghost both = { λ v _. v };
+
+    ghost spent = { log false false 0 [] [] };
+}
+
+/// A push adds its item to those given.
+pub struct Sent;
+
+impl<T> Outcome<T, Log<T>> for Sent {
+    ghost then = { λ v xs w. w ≡ log v.pushes v.pops v.known (v.given ++ xs) v.taken };
+}
+
+/// A steal adds its item to those taken. An empty deque shows that all that is known to have been given was taken.
+pub struct Got;
+
+impl<T> Outcome<T, Log<T>> for Got {
+    ghost then = { λ v xs w. w ≡ log v.pushes v.pops v.known v.given (v.taken ++ xs) };
+
+    ghost empty = { λ v. v.known ≤ length v.taken };
+}
+
+/// A pass with both rights sees the whole: what was given is what was taken, and then what the deque holds.
+pub struct Total;
+
+impl<T> Lesson<T, Log<T>> for Total {
+    ghost fact = { λ v items. v.given ≡ v.taken ++ items };
+}
+
+/// The end of a relay that puts items in.
+#[derive(Drop)]
+pub struct Giver<T, A: Allocator = Global> {
+    pub(crate) worker: Worker<T, A, Log<T>, InOrder>,
+    ghost gives: { (worker_view worker).pushes ≡ true },
+    ghost counted: { worker_index worker ≡ length (worker_view worker).given },
+    ghost roomy: { 1 ≤ worker_capacity worker },
+}
+
+/// The end of a relay that takes them out.
+#[derive(Drop)]
+pub struct Taker<T, A: Allocator = Global> {
+    pub(crate) stealer: Stealer<T, A, Log<T>, InOrder>,
+    pub(crate) pass: Pass<T, Log<T>, A>,
+    ghost rows: { pass.rows ≡ (stealer_deque stealer).0 },
+    ghost heap: { pass.heap ≡ (stealer_deque stealer).1 },
+    ghost hand: { is_some pass.me.hand ≡ false },
+    ghost spare: { is_some pass.me.spare ≡ false },
+    ghost takes: { (view pass).pops ≡ true },
+    ghost in_order: { stealer_flavor stealer ≡ 0 },
 }

@@ -1,7 +1,7 @@
 -- Inner. What a board begins with, what a worker's seat has and knows between two turns and in a turn, what it drew, and what the seats of a crew have together.
 use Rattle.std.specs.Prelude.{◌≡◌, ◌≢◌, ◌⊎◌, ℕ, suc, zero, ◌+◌, ◌*◌, ◌/◌, ◌^◌, ◌<◌, ◌≤◌, List, [], length, slice_index, slice_index_or, sum_by, Option, Some, None}
 use Rattle.atomic_table.specs.Seated.{TableId}
-use Rattle.kahn_board.specs.{Calls.Draws, Calls.Was, Calls.HoldsNothing, Rule.belongs, Rule.wired, Rule.IsDone, Rule.KnowsHalted, Rule.all_parts, Rule.channel_at, Rule.count_at, Wires.Summary, Wires.FlushedAll, Wires.flushed_of, Wires.events_past, Wires.Wires, Wires.wires, Plays.Carries, Plays.Sat, Plays.IsIn, Plays.SeesMore, Plays.after_giving_up, Plays.after_step, Plays.after_counting_down, declared.seat.Draw.Draw, declared.seat.Seat.Seat, declared.rule.Terms.Terms, declared.view.SeatView.SeatView, declared.opening.Wiring.Wiring, declared.seat.Draw.TheVariants.Got, declared.seat.Draw.TheVariants.Lost, declared.seat.Draw.TheVariants.Empty}
+use Rattle.kahn_board.specs.{Calls.Draws, Calls.Was, Calls.HoldsNothing, Rule.belongs, Rule.wired, Rule.IsDone, Rule.KnowsHalted, Rule.all_parts, Rule.channel_at, Rule.count_at, Wires.Summary, Wires.FlushedAll, Wires.flushed_of, Wires.events_past, Wires.Wires, Wires.wires, Plays.Carries, Plays.Sat, Plays.IsIn, Plays.SeesMore, Plays.after_giving_up, Plays.after_step, Plays.after_counting_down, declared.seat.Draw.Draw, declared.seat.Seat.Seat, declared.board.Terms.Terms, declared.view.SeatView.SeatView, declared.turn.Wiring.Wiring, declared.seat.Draw.TheVariants.Got, declared.seat.Draw.TheVariants.Lost, declared.seat.Draw.TheVariants.Empty}
 use Rattle.kahn_streams.specs.declared.tree.Program.{Program}
 
 -- what is kept of the network of a program

@@ -3,8 +3,8 @@ use Rattle.std.specs.Prelude.{◌≡◌, ◌≢◌, ◌⊎◌, ◌↔◌, ◌+�
 use Rattle.kahn_crew.specs.inner.Words.{ℕ, Bool, true, Option, None, Some, slice_index, false, List, length, slice_index_or, TableId, Was, belongs, wired, SeesMore, channel_at, TellsEnd, TellsWait, Seat, Terms, SeatView, BeginsTurn, EndsTurn, HoldsInTurn, IsBetween, IsDoneAt, IsSeatOf, SetsStill, SitsAt, Continues, Tasked}
 use Rattle.crossbeam_deque.specs.Handles.{worker_index}
 use Rattle.kahn_board.specs.{Rule.budget_at, Wires.Wires, declared.seat.Draw.Draw, declared.seat.Draw.TheVariants.Lost, inner.Turn.DrawsAgain}
-use Rattle.kahn_crew.specs.{declared.run.Run.Run, declared.turn.Due.Due, declared.worker.Worker.Worker, inner.Tasks.IsTaskOf, inner.Tasks.AgreesWith, inner.Tasks.IsLater, inner.Tasks.told_tale}
-use Rattle.kahn_crew.specs.declared.turn.Due.TheVariants as due
+use Rattle.kahn_crew.specs.{declared.opening.Run.Run, declared.worker.Due.Due, declared.worker.Worker.Worker, inner.Tasks.IsTaskOf, inner.Tasks.AgreesWith, inner.Tasks.IsLater, inner.Tasks.told_tale}
+use Rattle.kahn_crew.specs.declared.worker.Due.TheVariants as due
 use Rattle.kahn_job.specs.declared.task.TaskStanding.TheVariants as standing
 
 abbrev pub terms_of : Run → Terms Tasked

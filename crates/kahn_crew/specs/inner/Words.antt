@@ -8,7 +8,7 @@ pub use mathlib.Core.Option.{some}
 pub use Rattle.atomic_table.specs.Seated.{TableId}
 pub use Rattle.kahn_board.specs.{Calls.Was, Plays.SeesMore, Rule.channel_at, Rule.opening_view, Wires.Summary, Wires.TellsEnd, Wires.TellsWait}
 pub use Rattle.kahn_board.specs.Rule.{belongs, dealt, events_told, wired}
-pub use Rattle.kahn_board.specs.declared.{seat.Seat.Seat, rule.Terms.Terms, view.SeatView.SeatView}
+pub use Rattle.kahn_board.specs.declared.{seat.Seat.Seat, board.Terms.Terms, view.SeatView.SeatView}
 pub use Rattle.kahn_board.specs.inner.Turn.{BeginsTurn, EndsTurn, HoldsInTurn, IsBetween, IsBetweenTurns, IsDoneAt, IsLoneSeat, IsSeatOf, SetsStill, SitsAt, parts_of, raised_of}
 pub use Rattle.kahn_code.specs.{Standing.count, declared.progress.Pause.TheVariants.NoMemory}
 pub use Rattle.kahn_job.specs.declared.task.TaskStanding.{TaskStanding, TheVariants.Going}

@@ -1,6 +1,6 @@
 -- Inner. The rule of a relay's deque, and what each pass knows.
 use Rattle.std.specs.Prelude.{◌≡◌, ℕ, ◌≤◌, Bool, List, ◌++◌, length}
-use Rattle.kahn_lane.specs.{declared.ends.Log.Log, inner.Rights.HaveRights}
+use Rattle.kahn_lane.specs.{declared.segments.Log.Log, inner.Rights.HaveRights}
 
 module _ {T : Type 0} where
   abbrev pub log : Bool → Bool → ℕ → List T → List T → Log T

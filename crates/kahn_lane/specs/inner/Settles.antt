@@ -1,7 +1,7 @@
 -- Inner. A lane goes on with an input that has grown.
 use Rattle.std.specs.Prelude.{◌≡◌, ℕ, true, Some, vec_capacity}
 use Rattle.kahn_streams.specs.{Solution.AreInputsExtended, Inputs.Lists, Inputs.inputs_of}
-use Rattle.kahn_lane.specs.{Places.tag_name, declared.name.LaneName.LaneName, declared.lifted.Lifted.Lifted, declared.segments.Mark.Mark, declared.segments.Stage.TheVariants.Running}
+use Rattle.kahn_lane.specs.{Places.tag_name, declared.name.LaneName.LaneName, declared.segments.Lifted.Lifted, declared.segments.Mark.Mark, declared.segments.Stage.TheVariants.Running}
 
 -- each list that the name's input has is a prefix of one of this input
 abbrev pub IsGrown : LaneName → Lists → Type 0

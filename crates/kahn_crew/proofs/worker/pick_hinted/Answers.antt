@@ -1,11 +1,11 @@
-use Rattle.kahn_crew.proofs.Common.{◌∙◌}
+use Rattle.kahn_crew.proofs.Common.{refl, ◌∙◌}
 use Rattle.kahn_crew.proofs.worker.pick_hinted.Goals as goal
 
 pub pick_one-requires : goal.pick_one-requires
 pick_one-requires c = let r = c.requires in (r.0, c.loop.invariant.rests r.0 r.1)
 
 pub returns-then-pick_one-clause-picked : goal.returns-then-pick_one-clause-picked
-returns-then-pick_one-clause-picked c = λ n rests. c.pick_one.ensures.picked c.if-pick_one.true n (c.loop.invariant.rests n rests)
+returns-then-pick_one-clause-picked c = λ n rests. c.pick_one.ensures.picked c.if-pick_one.true refl n (c.loop.invariant.rests n rests)
 
 pub loop-preserved : goal.loop-preserved
 loop-preserved c = let one = c.pick_one.ensures in let i = c.loop.invariant in record {

@@ -1,3 +1,4 @@
+use Rattle.kahn_crew.proofs.Common.{refl}
 use Rattle.kahn_crew.proofs.Round.{picked_since}
 use Rattle.kahn_crew.proofs.worker.pick_next.Goals as goal
 
@@ -18,6 +19,6 @@ returns-clause-found c =
     let run = c.args.run.now in
     let b = c.pick_hinted.new.worker in
     let w = c.wait_a_little.new.worker in
-    let d = c.pick_any.new.worker in
-    picked_since run c.args.worker.now b d c.pick_any.result c.pick_hinted.ensures.same (picked_since run b w d c.pick_any.result c.wait_a_little.ensures.0
-    (picked_since run w c.pick_hinted-2.new.worker d c.pick_any.result c.pick_hinted-2.ensures.same c.pick_any.ensures.found))
+    let d = c.look_round.new.worker in
+    picked_since run c.args.worker.now b d c.look_round.result c.pick_hinted.ensures.same (picked_since run b w d c.look_round.result c.wait_a_little.ensures.0
+    (picked_since run w c.pick_hinted-2.new.worker d c.look_round.result c.pick_hinted-2.ensures.same (c.look_round.ensures.found refl)))

@@ -1,5 +1,0 @@
-use Rattle.kahn_crew.proofs.Common.{◌≡◌, ◌≤◌, length, vec_capacity}
-use Rattle.kahn_crew.proofs.hints.bare_hints.Given as goal
-
-abbrev pub invariant-loop : goal.invariant-loop
-invariant-loop l = (length l.all.items ≡ l.counter) × (l.workers ≤ vec_capacity l.all)

@@ -1,5 +1,0 @@
-use Rattle.kahn_crew.proofs.Common.{length}
-use Rattle.kahn_crew.proofs.parallel.+run_from.Given as goal
-
-abbrev pub decreases-run_from : goal.decreases-run_from
-decreases-run_from g l = length l.workers.items

@@ -1,4 +1,0 @@
-use Rattle.kahn_lane.proofs.name.move_tag.Given as goal
-
-abbrev pub ghost-tag_by : goal.ghost-tag_by
-ghost-tag_by a = record { network = a._x.now.network.value; input = a._y.now }
