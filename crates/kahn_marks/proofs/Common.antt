@@ -6,7 +6,7 @@ pub use Rattle.std.proofs.Common.{Bool, Bor, IsUtf8, List, None, Option, Some, [
 pub use Rattle.std.proofs.lemmas.Str.{IsUtf8-drop, IsUtf8-past_char, IsUtf8-take, chars-append, chars-nil, chars_past_char, encodes-chars, len_utf8_bounds, length-encode}
 pub use Rattle.std.specs.Str.{IsCharBoundary, encode_utf8_all}
 pub use Rattle.std.specs.Str.Iter.{char_indices_offset, char_indices_rest, chars_rest}
-pub use Rattle.kahn_marks.specs.declared.{columns.Row.Row}
+pub use Rattle.kahn_marks.specs.declared.{pieces.Row.Row}
 pub use Rattle.kahn_streams.specs.Place.{column_of, line_of}
 pub use Rattle.std.proofs.lemmas.{Bool.cases_lt, List.take_all}
 pub use Rattle.std.specs.List.{suffix_len}

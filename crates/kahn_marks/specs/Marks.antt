@@ -3,7 +3,7 @@ use Rattle.std.specs.Prelude.{ℕ, zero, suc, ◌+◌, ◌-◌, ◌==◌, ◌&&�
 use Rattle.std.specs.{List.concat, Char.is_control, Str.Lines.lines}
 use Rattle.unicode_width.specs.Width.{char_width}
 use Rattle.kahn_streams.specs.{Place.line_of, Place.column_of, declared.span.Span.Span}
-use Rattle.kahn_marks.specs.{declared.columns.Row.Row, declared.columns.Row.TheVariants.Source, declared.columns.Row.TheVariants.Blanks, declared.columns.Row.TheVariants.Carets}
+use Rattle.kahn_marks.specs.{declared.pieces.Row.Row, declared.pieces.Row.TheVariants.Source, declared.pieces.Row.TheVariants.Blanks, declared.pieces.Row.TheVariants.Carets}
 
 -- the line and the column of a byte of a text, or of its end where the text has no such byte, behind a word
 abbrev pub spot_text : List ℕ → List ℕ → ℕ → List ℕ

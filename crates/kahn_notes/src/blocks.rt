@@ -1,13 +1,13 @@
 //! What is said of blocks where a text has more `begin`s than `end`s, or fewer, by the indentation of their lines.
 
-use crate::mending::{Fixed, Saying, mending, placed, put_at, put_behind};
-use crate::place::{Place, finds, front, has_word, near};
+use crate::place::{
+    Fixed, Place, Saying, finds, front, has_word, mending, near, placed, put_at, put_behind,
+};
 use crate::unexpected::class_word;
 use kahn_marks::part_of;
 use kahn_syntax::Span;
 use std::alloc::AllocError;
 
-/// How many lexemes before an `end` are looked at.
 const FAR: usize = 256;
 
 /// A lexeme, as its class is written, with the number of its line, how deep that is indented, and whether the lexeme begins it.
@@ -47,13 +47,11 @@ fn seats(place: Place) -> Result<Vec<LineLexeme>, AllocError> {
     Ok(seats)
 }
 
-/// The word of the lexeme with a number; nothing where there is none.
 fn word_of(seats: &[LineLexeme], number: usize) -> &'static str {
     seats.get(number).map_or("", |seat| seat.word)
 }
 
-/// The number of the lexeme to which the statements before an `end` belong, which has that number: on its line, or on the nearest line
-/// that is as deep. Behind it stands a statement that is no block.
+/// The number of what leads to the statements before an `end` with a number: on its line, or on the nearest line that is as deep.
 fn guard_of(seats: &[LineLexeme], number: usize, end: LineLexeme) -> Option<usize> {
     let (mut depth, mut found) = (0usize, None);
     for (number, seat) in front(seats, number).iter().enumerate().rev().take(FAR) {
@@ -82,8 +80,7 @@ fn guard_of(seats: &[LineLexeme], number: usize, end: LineLexeme) -> Option<usiz
     found
 }
 
-/// Whether a block had to end before a line: before a process, an `end` that is less deep than its `begin`, and what is no deeper than this,
-/// where the first line within is.
+/// Whether a block had to end before a line: before a process, an `end` less deep than its `begin`, and what is no deeper than that.
 fn is_past(seats: &[LineLexeme], begin: usize, seat: LineLexeme) -> bool {
     let Some([begin, inside, ..]) = seats.get(begin..) else {
         return false;
@@ -98,8 +95,7 @@ fn is_past(seats: &[LineLexeme], begin: usize, seat: LineLexeme) -> bool {
         }
 }
 
-/// The block that has no `end`, by the number of its `begin`, and that of the lexeme before which it ends, of those up to a place. Where the
-/// indentation says nothing: at what may not stand in a block the innermost one; at the end of the text that of the program may be.
+/// The block that has no `end`, by its `begin`, and the lexeme before which it ends; by no indentation the innermost one at the place.
 fn unclosed_at(place: Place, seats: &[LineLexeme]) -> Result<Option<(usize, usize)>, AllocError> {
     let mut open = Vec::new(place.alloc);
     let seen = front(seats, place.number.saturating_add(1));
@@ -201,7 +197,6 @@ fn unclosed(place: Place, seats: &[LineLexeme]) -> Saying {
     Ok(Some((Some((one.span, words)), fix, None)))
 }
 
-/// The lexeme that leads to several statements, to the `end` with a number.
 fn guard_before(seats: &[LineLexeme], number: usize) -> Option<LineLexeme> {
     let guard = guard_of(seats, number, *seats.get(number)?)?;
     let mut between = seats.get(guard..number)?.iter();

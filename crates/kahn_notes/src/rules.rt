@@ -1,20 +1,23 @@
-//! What is said of a place where a text goes wrong, beside what was expected there, a rule a row: of one change of a lexeme that is often
-//! meant, of what stands as in another language, or without what belongs to it.
+//! What is said of a place where a text goes wrong, beside what was expected: rows of rules, and of words and characters of other languages.
+
+ghost use Rattle.std.specs.Prelude.{IfOk, IfSome};
+ghost use Rattle.kahn_notes.specs.Notes.{Mends};
 
 use crate::blocks::blocks_said;
-use crate::characters::foreign_word;
-use crate::mending::{Saying, filled, fix_of, put_at, sentence, told};
-use crate::place::{Place, before, cell, finds, fits, holds, near, offered, slip, word_at};
-use kahn_marks::{is_within, part_of};
-use kahn_syntax::Span;
+use crate::place::{
+    Fixed, Place, Put, Saying, before, cell, filled, finds, fits, fix_of, has_word, holds,
+    is_declared, mending, name_at, near, offered, put_at, sentence, slip, told, word_at,
+};
+use kahn_marks::{is_within, padded, part_of};
+use kahn_syntax::{Span, SyntaxFault};
+use kahn_wanted::is_of_word;
+use std::alloc::Global;
 
 /// A row has the lexeme before the place, the one there, and the tests; and what is said: where a change is and what is put there, of several
-/// the first that is offered; or the name of a rule; or a sentence. The first row that says something is told: first lines of others, and one
-/// of two same words; several words, slips, words of another language, and blocks; what would mislead; changes of one lexeme, as what one
-/// is often written for and what is one too many, and then what is often left out; habits; and at last what a part of a program looks like
-/// that is open there. In a sentence `$` stands for the lexeme before the place, and `^` for the one there.
+/// the first that is offered; or the name of a rule; or a sentence, with `$` for the lexeme before the place, and `^` for the one there. The
+/// first row that says something is told: slips, words of another language, and blocks; what would mislead; changes of one lexeme, as what is
+/// written for another or one too many, and then what is left out; habits; and at last what a part of a program that is open looks like.
 const RULES: &str = "
-any | < = | line ><_= | a merge left its marks: keep one of the two parts, and leave out the lines that begin with `<<<<<<<`, `=======` and `>>>>>>>`
 any | = | >< | sign | <=
 any | = | >> | sign | >=
 any | > | >< | sign | <>
@@ -28,7 +31,7 @@ any | any | +) | foreign
 any | name | !declared near !>;_end_else_nothing | instead | send process if while else do then channel on end begin par
 begin ; do then else | name | !declared near >begin | instead | repeat
 begin ; do then else repeat | name | !declared near far !>;_end_else_nothing | out
-any | any | named near | `^` is a keyword, and no name, in any letter case: take another one
+any | and begin channel div do else end false if in input integer logical mod not on or out output par print process repeat send then true wait while | named near | `^` is a keyword, and no name, in any letter case: take another one
 any | in or | far | instead | on
 any | end | far near | instead | send
 any | any | always | blocks
@@ -87,7 +90,6 @@ any | process | +statement | no process stands in the body of another one: all o
 any | channel | always | outside of processes `integer channel C` declares one; a process gets it by `integer in U` or `integer out W`
 nothing | name | always | a program has no name: it goes from `begin` to `end`
 any | name | +channel | variables are declared in processes; a channel is `integer channel C`
-) | ) | far near | out
 any | ) | opens | this `)` has no `(`: insert `(` before it, or leave it out
 any | begin | +:= | a loop that counts is `while I < N do begin S; I := I + 1 end`, and one without an end `repeat S`
 any | number | +name -declaration | a name begins with a letter
@@ -95,6 +97,7 @@ any | number | +name -declaration | a name begins with a letter
 end | if while repeat do process | always | an `end` stands alone: no word says what it ends
 any | if while repeat wait send print | +declaration | statements stand in processes alone
 ; | name process if while repeat send print | +begin | the body of a process stands between `begin` and `end`
+any | integer logical | +value | a kind changes no value: `if T then 1 else 0` makes a number of `T`, `X <> 0` a truth value of `X`
 any | integer logical process | +end -statement | channels and processes are declared before all instances
 any | integer logical | !+declaration | variables are declared right behind the first `begin` of a process, channels outside of processes
 any | end | +declaration | a program ends with its instances: `p(A, B) par q(B, C)`
@@ -108,7 +111,6 @@ integer logical | input output | +in | a channel is `integer input channel C`, a
 name | := = | +( -operator | an instance is `P(A, B)`: its brackets hand over the channels; statements stand in processes alone
 any | = := + - * < > <> <= >= and div mod or | +, +) -; | an argument is no expression: an instance hands over channels and literals, by their places: `P(A, -1, true)`
 any | + - * < > <> <= >= and div mod or = | -, +arithmetic | a comparison has two sides: `0 < X and X < 3`
-any | + - * < > <> <= >= and div mod or | -, +:= | a statement that begins with a name assigns to it, `X := E`; `send E on C` sends a value
 name | , + - * < > <> <= >= and div mod or | +) -, -; -operator | one channel alone stands between these brackets: `wait(C) + 1`
 any | = := | +, -arithmetic | a variable begins as 0 or `false`; a statement assigns to it, `X := E`
 any | , | +:= | a statement assigns to one name: `X := E; Y := F`
@@ -140,8 +142,7 @@ any | any | +integer | parameters are like `integer in U; integer out W; integer
 /// How many lexemes before a place a change may stand.
 pub(crate) const FAR: usize = 8;
 
-/// What is said of a word of another language: the keyword in its place; or else what the language has, and one that ends a block there is
-/// left out.
+/// What is said of a word of another language: the keyword in its place; or else what the language has, and it may be left out.
 fn foreign_said(place: Place) -> Saying {
     let Some((at, row)) = foreign_word(place) else {
         return Ok(None);
@@ -163,11 +164,7 @@ fn foreign_said(place: Place) -> Saying {
     let words = sentence(place.alloc, words, part_of(place.text, name), "")?;
     let below = cell(row, 2).strip_prefix("; ").unwrap_or("");
     let below = String::from_str(place.alloc, below)?;
-    let head = if at.back == 1 {
-        Some((name, words))
-    } else {
-        None
-    };
+    let head = Some((name, words)).filter(|_| at.back == 1);
     Ok(Some((head, fix, Some(below))))
 }
 
@@ -189,24 +186,14 @@ fn change_said(row: &'static str, place: Place, out: usize, puts: &str) -> Sayin
 fn sign_said(row: &'static str, place: Place, put: &str) -> Saying {
     for back in 0..2 {
         let at = before(place, back);
-        let (one, next) = (near(at, 0), near(at, 1));
-        let from = one.map_or(0, |one| one.span.from);
-        let to = next.map_or(0, |next| next.span.to);
+        let one = near(at, 0).map_or(place.span, |one| one.span);
+        let to = near(at, 1).map_or(one.to, |next| next.span.to);
         if fits(row, at) {
-            let (span, beside) = (Span { from, to }, place.span);
-            return told(place, Some(put_at(place.alloc, span, beside, put)?));
+            let fix = put_at(place.alloc, Span { to, ..one }, place.span, put)?;
+            return told(place, Some(fix));
         }
     }
     Ok(None)
-}
-
-/// What is said of `comment` in the place of the lexeme before a place that is a slip away from it.
-fn remark_said(place: Place) -> Saying {
-    let span = near(place, -1).map_or(place.span, |one| one.span);
-    if !is_within(part_of(place.text, span).as_bytes(), b"comment", 1) {
-        return Ok(None);
-    }
-    told(place, Some(put_at(place.alloc, span, span, "comment")?))
 }
 
 fn said_by(row: &'static str, place: Place) -> Saying {
@@ -218,7 +205,12 @@ fn said_by(row: &'static str, place: Place) -> Saying {
         "sign" => sign_said(row, place, puts),
         _ if !fits(row, place) => Ok(None),
         "slip" => told(place, fix_of(place, slip(place))?),
-        "remark" => remark_said(place),
+        "remark" => {
+            let one = near(place, -1).map_or(place.span, |one| one.span);
+            let is_near = is_within(part_of(place.text, one).as_bytes(), b"comment", 1);
+            let fix = put_at(place.alloc, one, one, "comment")?;
+            told(place, Some(fix).filter(|_| is_near))
+        }
         "foreign" => foreign_said(place),
         "blocks" => blocks_said(place),
         words => {
@@ -237,4 +229,150 @@ pub(crate) fn grammar_said(place: Place) -> Saying {
         }
     }
     Ok(None)
+}
+
+/// What stands there, what is put in its place if the text goes on with it, and what is said. The first row that fits is told.
+const CHARACTERS: &str = "
+. |  | ; numbers are whole, and no `.` stands in a name or behind the last `end`
+_ |  | ; a name begins with a letter, and a number has decimal digits alone
+!= ~= /= \u{2260} | <> | ; unequal is `<>`
+! | not | ; a value is sent by `send E on C`, and `not` is a word
+% | mod comment | ; a remainder is `mod`, and a comment goes from `comment` to `;`
+// /* | comment | ; a comment goes from `comment` to `;`, and a quotient is `div`
+/ | div | ; a quotient is `div`, and a comment goes from `comment` to `;`
+#define |  | ; there are no constants: an instance hands a number over, `P(A, 10)`
+# | comment | ; a comment goes from `comment` to `;`, and unequal is `<>`
+\" \u{2018} \u{2019} \u{201C} \u{201D} |  | ; there are no texts
+' | _ | ; there are no texts, and a name has letters, digits and `_`
+] | ) | ; brackets are `(` and `)`
+[ | ( | ; brackets are `(` and `)`, and there are no arrays; a channel that one process writes and reads is a queue
+{ | begin | ; a block goes from `begin` to `end`, a comment from `comment` to `;`
+} | end ) | ; a block goes from `begin` to `end`, a comment from `comment` to `;`
+&& & | and par | ; `and` is a word, and of logicals; between instances stands `par`
+^ |  | ; there is no power and no exclusive or: of logicals it is `<>`
+|| | or par | ; it is the word `or`, and between instances `par`
+| | or par | ; it is the word `or`, and between instances `par`
+~ | not | ; it is the word `not`
+? |  | ; a value is taken by `X := wait(C)`, and a choice is `if .. then .. else ..`
+: | then do nothing := ; | ; `:` stands right before `=` alone: a kind stands before its names, and behind a test `then` or `do`
+$ @ | nothing | ; a name begins with a letter, and has letters, digits and `_`
+``` |  | ; the lines of a fence are no part of a program
+` | nothing | ; names and operators stand without such marks
+\u{A0} \u{2002} \u{2003} \u{2009} \u{200A} \u{200B} \u{202F} |  | ; this isn't the blank that the space bar makes
+\u{2192} |  | ; there is no arrow: `send E on C` sends, `X := wait(C)` takes
+\u{2190} \u{2254} | := | ; all signs are of ASCII
+\u{2011} \u{2013} \u{2014} \u{2212} | - | ; all signs are of ASCII
+\u{2264} | <= | ; all signs are of ASCII
+\u{2265} | >= | ; all signs are of ASCII
+\u{FEFF} |  | ; a byte order mark (U+FEFF) isn't a blank here: save the text without one
+";
+
+/// The row of the character that begins a text, and the part of it that stands there.
+fn row_at(rest: &str) -> Option<(&'static str, &'static str)> {
+    for row in CHARACTERS.lines() {
+        let mut keys = cell(row, 0).split_ascii_whitespace();
+        if let Some(key) = keys.find(|key| rest.starts_with(*key)) {
+            return Some((row, key));
+        }
+    }
+    None
+}
+
+/// What stands from a part of a text to the end of its line, as a comment of the language.
+fn remark(alloc: Global, text: &str, part: Span) -> Put {
+    let rest = text.get(part.to..).unwrap_or("");
+    let line = rest.lines().next().unwrap_or("").trim_end();
+    let to = part.to.saturating_add(line.len());
+    let words = line.trim_end_matches("*/").trim();
+    let put = sentence(alloc, "comment @;", words, "")?;
+    put_at(alloc, Span { to, ..part }, part, put.as_str())
+}
+
+/// What is put in the place of such a character: the first with which the text goes on past the next lexeme, also with blanks for others.
+pub(crate) fn character_fix(alloc: Global, text: &str, plain: &str, span: Span) -> Fixed
+    ensures { IfOk result (λ fix. IfSome fix (Mends text.now span)) }
+{
+    let rest = text.get(span.from..).unwrap_or("");
+    let (row, key) = row_at(rest).unwrap_or(("", ""));
+    let to = span.from.saturating_add(key.len());
+    let part = Span { to, ..span };
+    let behind = text.get(to..).unwrap_or("").trim_start().len();
+    let from = text.len().saturating_sub(behind);
+    for put in cell(row, 1).split_whitespace() {
+        let mut fix = match put {
+            "nothing" => put_at(alloc, part, part, "")?,
+            "comment" => remark(alloc, text, part)?,
+            _ => put_at(alloc, part, part, put)?,
+        };
+        fix.put = padded(alloc, text, &fix)?;
+        let fix = mending(alloc, plain, Span { from, to: from }, Some(fix))?;
+        let fix = mending(alloc, text, span, fix)?;
+        if fix.is_some() {
+            return Ok(fix);
+        }
+    }
+    Ok(None)
+}
+
+/// What is said of a character that isn't of the language, or of a number that is too large, behind the words of the fault; nothing of others.
+pub fn character_help(program: &str, fault: SyntaxFault) -> &'static str {
+    let rest = match fault {
+        SyntaxFault::BadCharacter(span) => program.get(span.from..).unwrap_or(""),
+        SyntaxFault::NumberTooLarge(_) => {
+            return "; the greatest is 9223372036854775807, the least -9223372036854775807 - 1";
+        }
+        _ => "",
+    };
+    match (row_at(rest), rest.as_bytes().first()) {
+        (Some((row, _)), _) => cell(row, 2),
+        (None, None | Some(0..=0x7F)) => "",
+        (None, _) => "; names have ASCII letters, digits and `_`, and all signs are of ASCII",
+    }
+}
+
+/// Words of other languages, the keyword in their place if the text goes on with it, what is said of them, and a test of the place.
+const FOREIGN: &str = "
+elif elsif elseif | none | ; it is two words: `else if`
+let set var local declare | none | ; a kind declares variables, right behind the `begin` of a process: `integer X`; and `X := E` assigns
+until goto | none | ; `repeat S` goes on for ever, and a loop with a test is `while not E do S`
+for foreach | none | ; a loop that counts is `while I < N do begin S; I := I + 1 end`, and one without an end `repeat S`
+inout | none | ; one process reads a channel, and another one writes it: `in U`, `out W`
+break exit continue stop halt | none | ; a loop ends where the test of its `while` is false
+return yield | send | ; a process has no result: `send E on C` gives a value to another one | +:=
+int ints long short unsigned | integer | ; the kinds are `integer` and `logical`; one stands before its names
+bool boolean booleans | logical | ; the kinds are `integer` and `logical`; one stands before its names
+real float string char array | none | ; the kinds are `integer` and `logical`; one stands before its names
+inputs | input in | ; an input is `integer input channel C`, an output `integer output channel C`
+outputs | output out | ; an input is `integer input channel C`, an output `integer output channel C`
+function func procedure proc def fn void thread task node actor | process | ; a process is `process P(integer in U; integer out W); begin .. end`
+endif endwhile endfor endprocess endproc fi od done tel | end | ; an `if`, a `while` or a `repeat` has no `end` of its own
+const constant | none | ; there are no constants: an instance hands a number over, `P(A, 10)`
+xor | none | ; there is no exclusive or: of logicals it is `<>`
+go call spawn start run cobegin parbegin doco closeco coend parend | none | ; nothing starts an instance: it is `p(A, B)`, and `par` stands between two
+select alt | none | ; there is no choice among channels, since timing can't matter: a process waits on one at a time | +:=
+case switch match | none | ; a choice is `if E then S else if F then T else ..` | +:=
+recv receive get read take await waits scanf getline readln | none | ; a statement takes a value by `X := wait(C)` | +:=
+put emit write push sends give | send | ; a statement sends a value by `send E on C` | +:=
+writeln println printf echo prints | print | ; a statement prints a value by `print E` | +:=
+close | none | ; a channel has no end that is told: a process just sends no more | +:=
+skip pass null nop | none | ; a statement that does nothing is empty, or `begin end` | +:=
+";
+
+pub(crate) fn row_of_foreign(word: &str) -> Option<&'static str> {
+    FOREIGN.lines().find(|row| has_word(cell(row, 0), word))
+}
+
+/// A word of another language before a place, or at it, by its place, and its row; none that is declared, or given a value.
+fn foreign_word(place: Place) -> Option<(Place, &'static str)> {
+    for back in [1, 0] {
+        let at = before(place, back);
+        let is_head = finds("process channel", near(at, -1));
+        let is_given = back > 0 && finds("= :=", near(place, 0));
+        if let Some(row) = row_of_foreign(name_at(at, 0).unwrap_or("")) {
+            if !is_given && !is_head && !is_declared(at) && holds(cell(row, 3), place) {
+                return Some((at, row));
+            }
+        }
+    }
+    None
 }

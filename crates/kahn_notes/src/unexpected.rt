@@ -7,10 +7,8 @@ ghost use Rattle.kahn_streams.specs.declared.span.Span.{Span};
 ghost use Rattle.kahn_syntax.specs.{declared.fault.SyntaxFault.TheVariants.Expected, Texts.IsTextFault};
 ghost use Rattle.kahn_notes.specs.{Notes.IsExpected, Notes.IsNoteAt, Notes.IsThereOrFixed, Notes.IsToldAt, Notes.Mends, Notes.listed, Notes.pieces_of, Notes.text_end_words, Notes.wanted_words, Words.any_words, Words.separator};
 
-use crate::characters::character_fix;
-use crate::mending::{Heading, Saying, Words, mending, placed, put_behind, sentence};
-use crate::place::{MOST, Place};
-use crate::rules::{FAR, grammar_said};
+use crate::place::{Heading, MOST, Place, Saying, Words, mending, placed, put_behind, sentence};
+use crate::rules::{FAR, character_fix, grammar_said};
 use kahn_marks::{Fix, Note, Other, Sort, add, add_repeated, part_of, simple};
 use kahn_streams::NoMemory;
 use kahn_syntax::{Class, Lexeme, Span, SyntaxFault, What, lex};
@@ -52,7 +50,6 @@ fn group_words(group: LexemeGroup) -> &'static str
     }
 }
 
-/// What stands behind a piece where so many are left.
 fn separator(left: usize) -> &'static str
     ensures { result.now ≡ separator left }
 {
@@ -91,9 +88,6 @@ pub(crate) fn add_wanted(words: &mut String, wanted: &Wanted, what: What) -> Res
     }
     add(words, &[end])
 }
-
-/// How many characters that aren't of the language are passed over at most.
-const PASSED: usize = 16;
 
 /// What is said of a comment: where it begins, and where it ends, on the same line or further on.
 pub(crate) fn comment_words(alloc: Global, text: &str, comment: Span) -> Words {
@@ -138,23 +132,19 @@ fn expected_words(alloc: Global, text: &str, what: What, unexpected: &Unexpected
     Ok(words)
 }
 
-/// What is said of a place, beside what was expected there; nothing where the comment before it is what is wrong: it goes on over what reads
-/// like a part of a program.
+/// What is said of a place, beside what was expected there; nothing where the comment before it goes on over a part of a program.
 fn said_of(alloc: Global, text: &str, span: Span, at: &FaultPlace, before: Option<Span>) -> Saying {
-    let all = if at.lexemes.len() <= MOST {
-        reaches(alloc, &at.lexemes, at.number, FAR)?
-    } else {
-        Vec::new(alloc)
-    };
-    let far = all.iter().map(|reach| reach.to).max().unwrap_or(0);
     if let Some(it) = before {
-        if let Some(said) = unended_said(alloc, text, span, it)? {
-            return Ok(Some(said));
-        }
-        if swallows(text.as_bytes(), it.from, it.to.min(text.len()), true) {
-            return Ok(None);
+        let said = unended_said(alloc, text, span, it)?;
+        if said.is_some() || swallows(text.as_bytes(), it.from, it.to, true) {
+            return Ok(said);
         }
     }
+    let mut all = Vec::new(alloc);
+    if at.lexemes.len() <= MOST {
+        all = reaches(alloc, &at.lexemes, at.number, FAR)?;
+    }
+    let far = all.iter().map(|reach| reach.to).max().unwrap_or(0);
     grammar_said(Place {
         alloc,
         text,
@@ -164,12 +154,10 @@ fn said_of(alloc: Global, text: &str, span: Span, at: &FaultPlace, before: Optio
         span,
         wanted: &at.unexpected.wanted,
         reaches: &all,
-        whole: all.iter().any(|reach| reach.whole),
         to: far.max(at.number.saturating_add(3)),
     })
 }
 
-/// Where the heading stands: where a change is made, or at the place itself.
 fn heading_at(span: Span, fix: &Option<Fix>) -> Span
     ensures { IsThereOrFixed span fix.now result }
 {
@@ -179,54 +167,38 @@ fn heading_at(span: Span, fix: &Option<Fix>) -> Span
     }
 }
 
+/// What a note has beside what was expected: a heading of its own, a change, and sentences, of which one is on the comment before it.
+type Parts = (Heading, Option<Fix>, Vec<String>);
+
 /// The note on a place where something was expected, with a heading of its own or without.
-fn note_at(
-    alloc: Global,
-    span: Span,
-    expected: String,
-    head: Heading,
-    fix: Option<Fix>,
-    below: Vec<String>,
-) -> Result<Note, AllocError>
+fn note_at(alloc: Global, span: Span, expected: String, parts: Parts) -> Result<Note, AllocError>
     ensures told { IfOk result (IsToldAt span (string_bytes expected)) }
-    ensures fix { IfOk result (λ note. note.fix ≡ fix) }
+    ensures fix { IfOk result (λ note. note.fix ≡ parts.1) }
 {
-    let mut others = Vec::new(alloc);
-    match head {
-        Some((at, words)) => {
-            others.push(Other {
-                span,
-                words: expected,
-            })?;
-            Ok(Note {
-                sort: Sort::Error,
-                span: at,
-                words,
-                fix,
-                below,
-                others,
-            })
-        }
-        None => Ok(Note {
-            sort: Sort::Error,
-            span: heading_at(span, &fix),
-            words: expected,
-            fix,
-            below,
-            others,
-        }),
-    }
+    let (head, fix, below) = parts;
+    let mut note = simple(
+        alloc,
+        Sort::Error,
+        heading_at(span, &fix),
+        expected.as_str(),
+    )?;
+    note.fix = fix;
+    note.below = below;
+    let Some((at, words)) = head else {
+        return Ok(note);
+    };
+    note.others.push(Other {
+        span,
+        words: expected,
+    })?;
+    note.span = at;
+    note.words = words;
+    Ok(note)
 }
 
-/// What a note has beside what was expected: a heading of its own, a change, and sentences, of which one is on the comment before it.
-fn parts_at(
-    alloc: Global,
-    text: &str,
-    span: Span,
-    place: &FaultPlace,
-) -> Result<(Heading, Option<Fix>, Vec<String>), NoMemory> {
+fn parts_at(alloc: Global, text: &str, span: Span, at: &FaultPlace) -> Result<Parts, NoMemory> {
     let comment = comment_before(alloc, text, span.from)?;
-    let said = said_of(alloc, text, span, place, comment)?;
+    let said = said_of(alloc, text, span, at, comment)?;
     let (head, fix, sentence) = said.unwrap_or((None, None, None));
     let mut below = Vec::new(alloc);
     if let Some(comment) = comment {
@@ -238,11 +210,9 @@ fn parts_at(
     Ok((head, fix, below))
 }
 
-/// A note on a place where a text goes wrong, which tells what was expected there, and with it the first that answers of these: a
-/// comment that swallowed something; the keyword that a name is one slip away from; a word of another language; a block without `end`, or
-/// an `end` too many, by the indentation; the change of one lexeme that is most often meant, of those with which the text is a program or
-/// else goes on farthest, where it has at most 8,192 lexemes; and what the language has where a habit of others is found. The heading
-/// stands where the change is made. It refuses only where memory was refused.
+/// A note on a place where a text goes wrong, which tells what was expected there, and what is probably meant: a change of one lexeme with
+/// which the text is a program, or else goes on farthest, where it has at most 8,192 lexemes; where a block ends; or what the language has.
+/// The heading stands where the change is made. It refuses only where memory was refused.
 pub fn unexpected_note(alloc: Global, text: &str, span: Span, what: What) -> Result<Note, NoMemory>
     requires { IsTextFault text.now (Expected span what) }
     ensures { IfOk result (IsNoteAt text.now span what) }
@@ -251,27 +221,15 @@ pub fn unexpected_note(alloc: Global, text: &str, span: Span, what: What) -> Res
     let expected = expected_words(alloc, text, what, &place.unexpected)?;
     let (head, fix, below) = parts_at(alloc, text, span, &place)?;
     let fix = mending(alloc, text, span, fix)?;
-    Ok(note_at(alloc, span, expected, head, fix, below)?)
+    Ok(note_at(alloc, span, expected, (head, fix, below))?)
 }
 
-/// A text with blanks in the place of the first characters that aren't of the language, and of a comment without an end.
-fn blanked(alloc: Global, text: &str) -> Result<String, NoMemory> {
-    let mut plain = String::from_str(alloc, text)?;
-    for _ in 0..PASSED {
-        let text = plain.as_str();
-        let span = match lex(alloc, text) {
-            Err(SyntaxFault::BadCharacter(span)) => span,
-            Err(SyntaxFault::CommentOpen(span)) => {
-                let to = text.len();
-                Span { to, ..span }
-            }
-            Err(SyntaxFault::NoMemory) => return Err(NoMemory),
-            _ => return Ok(plain),
-        };
-        let mut new = String::from_str(alloc, text.get(..span.from).unwrap_or(""))?;
-        add_repeated(&mut new, " ", span.to.saturating_sub(span.from))?;
-        new.push_str(text.get(span.to..).unwrap_or(""))?;
-        plain = new;
+/// A text with blanks in the place of what is of no lexeme.
+fn blanked(alloc: Global, text: &str) -> Words {
+    let mut plain = String::new(alloc);
+    for byte in text.bytes() {
+        let is_of = byte.is_ascii_alphanumeric() || b" \t\r\n_;:=()+-*<>,".contains(&byte);
+        plain.push(if is_of { char::from(byte) } else { ' ' })?;
     }
     Ok(plain)
 }
@@ -307,10 +265,8 @@ fn holds_name(text: &str, name: &str, comment: Span) -> bool {
 pub fn held_remark(alloc: Global, text: &str, span: Span, comments: &[Span]) -> Words {
     let mut remark = String::new(alloc);
     let name = part_of(text, span);
-    let mut holding = comments
-        .iter()
-        .filter(|comment| holds_name(text, name, **comment));
-    if let Some(comment) = holding.next() {
+    let mut all = comments.iter();
+    if let Some(comment) = all.find(|comment| holds_name(text, name, **comment)) {
         let words = comment_words(alloc, text, *comment)?;
         let line = placed(alloc, text, "%", "", span.from)?;
         add_repeated(&mut remark, " ", line.len())?;

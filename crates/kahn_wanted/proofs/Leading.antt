@@ -1,5 +1,5 @@
 -- Which terminals a part of the grammar begins with, by the classes of lexemes.
-use Rattle.kahn_wanted.proofs.Common.{Keyword, Sign, Terminal, a_name, a_number, a_sign, a_word, accepts, bytes_eq, bytes_of_sign, codes, either, false, letters_of, not, refl, sign_terminal, word, ◌&&◌, ◌||◌, ◌≡◌}
+use Rattle.kahn_wanted.proofs.Common.{Keyword, Sign, Terminal, a_sign, a_word, accepts, bytes_eq, bytes_of_sign, codes, either, letters_of, not, refl, sign_terminal, word, ◌&&◌, ◌||◌, ◌≡◌}
 use Rattle.kahn_syntax.specs.declared.lexeme.Sign.TheVariants as mark
 
 pub word_or_sign : (w : Keyword) (s : Sign) → (bytes_eq (bytes_of_sign mark.Not) (bytes_of_sign s) && bytes_eq (letters_of w) (codes "not")) ≡ accepts (a_word w) (sign_terminal s)
@@ -9,14 +9,6 @@ word_or_sign w _ = refl
 pub sign_or_word : (g s : Sign) → (not (bytes_eq (bytes_of_sign mark.Not) (bytes_of_sign s)) && bytes_eq (bytes_of_sign g) (bytes_of_sign s)) ≡ accepts (a_sign g) (sign_terminal s)
 sign_or_word g mark.Not = refl
 sign_or_word g _ = refl
-
-pub no_number : (s : Sign) → false ≡ accepts a_number (sign_terminal s)
-no_number mark.Not = refl
-no_number _ = refl
-
-pub no_name : (s : Sign) → false ≡ accepts a_name (sign_terminal s)
-no_name mark.Not = refl
-no_name _ = refl
 
 pub one_of_two : (v w : Keyword) (k : Terminal) → (accepts (a_word v) k || accepts (a_word w) k) ≡ accepts (either v w) k
 one_of_two v w (word u) = refl

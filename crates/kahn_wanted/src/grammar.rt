@@ -1,59 +1,50 @@
-//! The parts of a program, by what may still come; and the grammar, as tables: what a part begins with, and which are open behind that.
+//! The parts of a program, by what may still come; the grammar, as tables: what a part begins with, and which are open behind that; and
+//! whether a part begins with a lexeme.
 
-ghost use Rattle.std.specs.Prelude.{◌≡◌};
-ghost use Rattle.kahn_syntax.specs.inner.Machine.{rules_of};
-ghost use Rattle.kahn_wanted.specs.inner.Walk.{awaited_part, operators_between, rules_by};
+ghost use Rattle.std.specs.Prelude.{◌≡◌, List, ℕ, ℤ, drop, option_map};
+ghost use Rattle.std.proofs.Common.{bytes_eq};
+ghost use Rattle.kahn_syntax.specs.{Grammar.rank, Grammar.word as word_terminal, Texts.bytes_of_sign, Texts.letters_of, Texts.sign_terminal};
+ghost use Rattle.kahn_syntax.specs.inner.Machine.{a_name, a_number, a_sign, a_word, accepts, an_operator, enters, operator_of, rank_or, rules_of};
+ghost use Rattle.kahn_wanted.specs.inner.Walk.{awaited_part, lead_of, opened_parts, rules_as, rules_by, terminal_with};
 
 use crate::grammar::Awaited::{
     Ands, Argument, Arguments, Comparison, Conjunction, Declarations, Denial, Direction,
     Expression, Factor, Group, Groups, Instance, Just, Last, Level, MoreArguments, MoreGroups,
-    MoreInstances, MoreNames, MoreStatements, Ors, Otherwise, Products, Role, Signs, Simple,
-    Statement, Sum, Term, Variables,
+    MoreInstances, MoreNames, MoreStatements, Ors, Otherwise, Products, Program, Role, Signs,
+    Simple, Statement, Sum, Term, Variables,
 };
-use crate::grammar::Lead::{Either, Word};
+use crate::grammar::Lead::{Either, Like, Mark, Word};
 use kahn_syntax::Keyword::{
     self, Begin, Channel, Do, Else, End, False, If, In, Input, Integer, Logical, Not, On, Out,
     Output, Par, Print, Process, Repeat, Send, Then, True, Wait, While,
 };
-use kahn_syntax::Operator;
 use kahn_syntax::Sign::{self, Becomes, Close, Comma, Minus, Open, Semicolon};
+use kahn_syntax::{Class, Operator};
 
 /// A part of a program that is open: one that is awaited, or that may be left out.
 #[derive(Clone, Copy)]
 pub(crate) enum Awaited {
     Program,
     Declarations,
-    /// `input` or `output`.
     Role,
     Groups,
     Group,
-    /// `in` or `out`.
     Direction,
     Variables,
     Statement,
-    /// A statement that may stand behind `then`.
     Simple,
     Expression,
-    /// An operand of `or`.
     Conjunction,
-    /// An operand of `and`.
     Denial,
-    /// An operand of a comparison.
     Sum,
-    /// An operand of `+` or `-`.
     Term,
-    /// An operand of `*`, `div` or `mod`.
     Factor,
     Ors,
     Ands,
-    /// A comparison with its operand.
     Comparison,
-    /// `+` and `-` with their operands.
     Signs,
-    /// `*`, `div` and `mod` with their operands.
     Products,
     Instance,
-    /// Arguments, with the closing bracket.
     Arguments,
     Argument,
     MoreNames,
@@ -61,13 +52,9 @@ pub(crate) enum Awaited {
     MoreGroups,
     MoreArguments,
     MoreInstances,
-    /// `else` with its statement.
     Otherwise,
-    /// A last semicolon.
     Last,
-    /// The end of a level of nesting: nothing.
     Level,
-    /// A single lexeme.
     Just(Lead),
 }
 
@@ -77,43 +64,32 @@ pub(crate) enum Lead {
     Word(Keyword),
     /// One of these two.
     Either(Keyword, Keyword),
-    Sign(Sign),
+    Mark(Sign),
     Number,
     Name,
     /// An operator of the level of this one.
-    Operator(Operator),
+    Like(Operator),
 }
 
-/// A lexeme with which a part begins, as far as which operators may follow then, and what is open before these, the first part last.
-pub(crate) type LeadRule = (Lead, usize, &'static [Awaited]);
+/// A lexeme with which a part begins, and what is open behind it, the first part last: behind an operand the operators of all levels.
+pub(crate) type LeadRule = (Lead, &'static [Awaited]);
 
-/// What a part begins with: by rules, with the first operator that may follow, or a single lexeme.
-pub(crate) type PartLeads = Result<(usize, &'static [LeadRule]), Lead>;
+/// Whether a part may be left out, and what it begins with: by rules, of which so many parts are none of it; or a single lexeme.
+pub(crate) type PartRules = Result<(bool, usize, &'static [LeadRule]), Lead>;
 
-/// What is open behind a lexeme: operators, and what comes before these, each with its first part last.
-pub(crate) type Opened = (&'static [Awaited], &'static [Awaited]);
-
-/// What several parts begin with.
 const KIND: Lead = Either(Integer, Logical);
 
 const TRUTH: Lead = Either(True, False);
 
-const MINUS: Lead = Lead::Sign(Minus);
-
-/// Single lexemes.
 const NAME: Awaited = Just(Lead::Name);
 
-const NUMBER: Awaited = Just(Lead::Number);
+const OPEN: Awaited = Just(Mark(Open));
 
-const OPEN: Awaited = Just(Lead::Sign(Open));
+const CLOSE: Awaited = Just(Mark(Close));
 
-const CLOSE: Awaited = Just(Lead::Sign(Close));
-
-const SEMICOLON: Awaited = Just(Lead::Sign(Semicolon));
+const SEMICOLON: Awaited = Just(Mark(Semicolon));
 
 const CHANNEL: Awaited = Just(Word(Channel));
-
-const DO: Awaited = Just(Word(Do));
 
 const ELSE: Awaited = Just(Word(Else));
 
@@ -121,24 +97,18 @@ const END: Awaited = Just(Word(End));
 
 const THEN: Awaited = Just(Word(Then));
 
-/// The operators that may follow an operand, the tightest last.
-static OPERATORS: [Awaited; 5] = [Ors, Ands, Comparison, Signs, Products];
-
 static PROGRAM: [LeadRule; 1] = [(
     Word(Begin),
-    0,
     &[Last, END, Last, MoreInstances, Instance, Declarations],
 )];
 
 static DECLARATIONS: [LeadRule; 2] = [
     (
         KIND,
-        0,
         &[Declarations, SEMICOLON, MoreNames, NAME, CHANNEL, Role],
     ),
     (
         Word(Process),
-        0,
         &[
             Declarations,
             SEMICOLON,
@@ -156,132 +126,229 @@ static DECLARATIONS: [LeadRule; 2] = [
     ),
 ];
 
-static ROLE: [LeadRule; 1] = [(Either(Input, Output), 0, &[])];
-
-static GROUPS: [LeadRule; 1] = [(KIND, 0, &[MoreGroups, MoreNames, NAME, Direction])];
-
-static GROUP: [LeadRule; 1] = [(KIND, 0, &[MoreNames, NAME, Direction])];
-
-static DIRECTION: [LeadRule; 1] = [(Either(In, Out), 0, &[])];
-
-static VARIABLES: [LeadRule; 1] = [(KIND, 0, &[Variables, SEMICOLON, MoreNames, NAME])];
-
 static STATEMENT: [LeadRule; 7] = [
-    (Word(If), 0, &[Level, Otherwise, Simple, THEN, Expression]),
-    (Word(While), 0, &[Level, Statement, DO, Expression]),
-    (Word(Repeat), 0, &[Level, Statement]),
-    (Lead::Name, 0, &[Expression, Just(Lead::Sign(Becomes))]),
-    (Word(Send), 0, &[NAME, Just(Word(On)), Expression]),
-    (Word(Print), 0, &[Expression]),
-    (Word(Begin), 0, &[Level, END, MoreStatements, Statement]),
+    (Word(If), &[Level, Otherwise, Simple, THEN, Expression]),
+    (Word(While), &[Level, Statement, Just(Word(Do)), Expression]),
+    (Word(Repeat), &[Level, Statement]),
+    (Lead::Name, &[Expression, Just(Mark(Becomes))]),
+    (Word(Send), &[NAME, Just(Word(On)), Expression]),
+    (Word(Print), &[Expression]),
+    (Word(Begin), &[Level, END, MoreStatements, Statement]),
 ];
 
-/// Those of all levels: operands take the operators from that of their level on, and `not` takes those of truth values.
+/// Those of all levels: an operand of one is without the operators of those before it, and `not` takes those of truth values.
 static EXPRESSION: [LeadRule; 8] = [
     (
         Word(If),
-        0,
         &[Level, Expression, ELSE, Expression, THEN, Expression],
     ),
-    (Word(Not), 2, &[Level, Denial]),
-    (Lead::Number, 5, &[]),
-    (TRUTH, 5, &[]),
-    (Lead::Name, 5, &[]),
-    (Word(Wait), 5, &[CLOSE, NAME, OPEN]),
-    (MINUS, 5, &[Level, Factor]),
-    (Lead::Sign(Open), 5, &[Level, CLOSE, Expression]),
+    (Word(Not), &[Ors, Ands, Level, Denial]),
+    (Lead::Number, &[Ors, Ands, Comparison, Signs, Products]),
+    (TRUTH, &[Ors, Ands, Comparison, Signs, Products]),
+    (Lead::Name, &[Ors, Ands, Comparison, Signs, Products]),
+    (
+        Word(Wait),
+        &[Ors, Ands, Comparison, Signs, Products, CLOSE, NAME, OPEN],
+    ),
+    (
+        Mark(Minus),
+        &[Ors, Ands, Comparison, Signs, Products, Level, Factor],
+    ),
+    (
+        Mark(Open),
+        &[
+            Ors, Ands, Comparison, Signs, Products, Level, CLOSE, Expression,
+        ],
+    ),
 ];
 
-static ORS: [LeadRule; 1] = [(Lead::Operator(Operator::Or), 0, &[Ors, Conjunction])];
-
-static ANDS: [LeadRule; 1] = [(Lead::Operator(Operator::And), 0, &[Ands, Denial])];
-
-static COMPARISON: [LeadRule; 1] = [(Lead::Operator(Operator::Equal), 0, &[Sum])];
-
-static SIGNS: [LeadRule; 1] = [(Lead::Operator(Operator::Add), 0, &[Signs, Term])];
-
-static PRODUCTS: [LeadRule; 1] = [(Lead::Operator(Operator::Multiply), 0, &[Products, Factor])];
-
-static INSTANCE: [LeadRule; 1] = [(Lead::Name, 0, &[Arguments, OPEN])];
-
 static ARGUMENTS: [LeadRule; 5] = [
-    (Lead::Sign(Close), 0, &[]),
-    (Lead::Name, 0, &[CLOSE, MoreArguments]),
-    (Lead::Number, 0, &[CLOSE, MoreArguments]),
-    (TRUTH, 0, &[CLOSE, MoreArguments]),
-    (MINUS, 0, &[CLOSE, MoreArguments, NUMBER]),
+    (Mark(Close), &[]),
+    (Lead::Name, &[CLOSE, MoreArguments]),
+    (Lead::Number, &[CLOSE, MoreArguments]),
+    (TRUTH, &[CLOSE, MoreArguments]),
+    (Mark(Minus), &[CLOSE, MoreArguments, Just(Lead::Number)]),
 ];
 
 static ARGUMENT: [LeadRule; 4] = [
-    (Lead::Name, 0, &[]),
-    (Lead::Number, 0, &[]),
-    (TRUTH, 0, &[]),
-    (MINUS, 0, &[NUMBER]),
+    (Lead::Name, &[]),
+    (Lead::Number, &[]),
+    (TRUTH, &[]),
+    (Mark(Minus), &[Just(Lead::Number)]),
 ];
 
-static MORE_NAMES: [LeadRule; 1] = [(Lead::Sign(Comma), 0, &[MoreNames, NAME])];
-
-static MORE_STATEMENTS: [LeadRule; 1] = [(Lead::Sign(Semicolon), 0, &[MoreStatements, Statement])];
-
-static MORE_GROUPS: [LeadRule; 1] = [(Lead::Sign(Semicolon), 0, &[MoreGroups, Group])];
-
-static MORE_ARGUMENTS: [LeadRule; 1] = [(Lead::Sign(Comma), 0, &[MoreArguments, Argument])];
-
-static MORE_INSTANCES: [LeadRule; 1] = [(Word(Par), 0, &[MoreInstances, Instance])];
-
-static OTHERWISE: [LeadRule; 1] = [(Word(Else), 0, &[Statement])];
-
-static LAST: [LeadRule; 1] = [(Lead::Sign(Semicolon), 0, &[])];
-
-static LEVEL: [LeadRule; 0] = [];
-
-/// The operators from a number on, as far as another.
-pub(crate) fn operators(from: usize, to: usize) -> &'static [Awaited]
-    ensures { result.now ≡ operators_between from to }
+/// What a part begins with.
+pub(crate) fn rules(part: Awaited) -> PartRules
+    ensures { rules_by result ≡ rules_of (awaited_part part) }
 {
-    match OPERATORS.get(from..to) {
-        Some(operators) => operators,
-        None => &[],
+    match part {
+        Program => Ok((false, 0, &PROGRAM)),
+        Declarations => Ok((true, 0, &DECLARATIONS)),
+        Role => Ok((true, 0, &[(Either(Input, Output), &[])])),
+        Groups => Ok((
+            true,
+            0,
+            &[(KIND, &[MoreGroups, MoreNames, NAME, Direction])],
+        )),
+        Group => Ok((false, 0, &[(KIND, &[MoreNames, NAME, Direction])])),
+        Direction => Ok((true, 0, &[(Either(In, Out), &[])])),
+        Variables => Ok((true, 0, &[(KIND, &[Variables, SEMICOLON, MoreNames, NAME])])),
+        Statement => Ok((true, 0, &STATEMENT)),
+        Simple => Ok((true, 0, &STATEMENT[3..])),
+        Expression => Ok((false, 0, &EXPRESSION)),
+        Conjunction => Ok((false, 1, &EXPRESSION[1..])),
+        Denial => Ok((false, 2, &EXPRESSION[1..])),
+        Sum => Ok((false, 3, &EXPRESSION[2..])),
+        Term => Ok((false, 4, &EXPRESSION[2..])),
+        Factor => Ok((false, 5, &EXPRESSION[2..])),
+        Ors => Ok((true, 0, &[(Like(Operator::Or), &[Ors, Conjunction])])),
+        Ands => Ok((true, 0, &[(Like(Operator::And), &[Ands, Denial])])),
+        Comparison => Ok((true, 0, &[(Like(Operator::Equal), &[Sum])])),
+        Signs => Ok((true, 0, &[(Like(Operator::Add), &[Signs, Term])])),
+        Products => Ok((true, 0, &[(Like(Operator::Multiply), &[Products, Factor])])),
+        Instance => Ok((false, 0, &[(Lead::Name, &[Arguments, OPEN])])),
+        Arguments => Ok((false, 0, &ARGUMENTS)),
+        Argument => Ok((false, 0, &ARGUMENT)),
+        MoreNames => Ok((true, 0, &[(Mark(Comma), &[MoreNames, NAME])])),
+        MoreStatements => Ok((true, 0, &[(Mark(Semicolon), &[MoreStatements, Statement])])),
+        MoreGroups => Ok((true, 0, &[(Mark(Semicolon), &[MoreGroups, Group])])),
+        MoreArguments => Ok((true, 0, &[(Mark(Comma), &[MoreArguments, Argument])])),
+        MoreInstances => Ok((true, 0, &[(Word(Par), &[MoreInstances, Instance])])),
+        Otherwise => Ok((true, 0, &[(Word(Else), &[Statement])])),
+        Last => Ok((true, 0, &[(Mark(Semicolon), &[])])),
+        Level => Ok((true, 0, &[])),
+        Just(lead) => Err(lead),
     }
 }
 
-/// Whether a part may be left out, and what it begins with.
-pub(crate) fn rules(part: Awaited) -> (bool, PartLeads)
-    ensures optional { result.0 ≡ (rules_of (awaited_part part)).0 }
-    ensures leads { rules_by result.1 ≡ (rules_of (awaited_part part)).1 }
+fn same_word(first: Keyword, second: Keyword) -> bool
+    ensures { result ≡ bytes_eq (letters_of first) (letters_of second) }
 {
-    match part {
-        Awaited::Program => (false, Ok((0, &PROGRAM))),
-        Awaited::Declarations => (true, Ok((0, &DECLARATIONS))),
-        Awaited::Role => (true, Ok((0, &ROLE))),
-        Awaited::Groups => (true, Ok((0, &GROUPS))),
-        Awaited::Group => (false, Ok((0, &GROUP))),
-        Awaited::Direction => (true, Ok((0, &DIRECTION))),
-        Awaited::Variables => (true, Ok((0, &VARIABLES))),
-        Awaited::Statement => (true, Ok((0, &STATEMENT))),
-        Awaited::Simple => (true, Ok((0, &STATEMENT[3..]))),
-        Awaited::Expression => (false, Ok((0, &EXPRESSION))),
-        Awaited::Conjunction => (false, Ok((1, &EXPRESSION[1..]))),
-        Awaited::Denial => (false, Ok((2, &EXPRESSION[1..]))),
-        Awaited::Sum => (false, Ok((3, &EXPRESSION[2..]))),
-        Awaited::Term => (false, Ok((4, &EXPRESSION[2..]))),
-        Awaited::Factor => (false, Ok((5, &EXPRESSION[2..]))),
-        Awaited::Ors => (true, Ok((0, &ORS))),
-        Awaited::Ands => (true, Ok((0, &ANDS))),
-        Awaited::Comparison => (true, Ok((0, &COMPARISON))),
-        Awaited::Signs => (true, Ok((0, &SIGNS))),
-        Awaited::Products => (true, Ok((0, &PRODUCTS))),
-        Awaited::Instance => (false, Ok((0, &INSTANCE))),
-        Awaited::Arguments => (false, Ok((0, &ARGUMENTS))),
-        Awaited::Argument => (false, Ok((0, &ARGUMENT))),
-        Awaited::MoreNames => (true, Ok((0, &MORE_NAMES))),
-        Awaited::MoreStatements => (true, Ok((0, &MORE_STATEMENTS))),
-        Awaited::MoreGroups => (true, Ok((0, &MORE_GROUPS))),
-        Awaited::MoreArguments => (true, Ok((0, &MORE_ARGUMENTS))),
-        Awaited::MoreInstances => (true, Ok((0, &MORE_INSTANCES))),
-        Awaited::Otherwise => (true, Ok((0, &OTHERWISE))),
-        Awaited::Last => (true, Ok((0, &LAST))),
-        Awaited::Level => (true, Ok((0, &LEVEL))),
-        Awaited::Just(lead) => (false, Err(lead)),
+    first.letters().as_bytes() == second.letters().as_bytes()
+}
+
+/// The letters of a sign.
+pub fn sign_letters(sign: Sign) -> &'static str
+    ensures { result.now ≡ bytes_of_sign sign }
+{
+    match sign {
+        Sign::Becomes => ":=",
+        Sign::Open => "(",
+        Sign::Close => ")",
+        Sign::Comma => ",",
+        Sign::Semicolon => ";",
+        Sign::Plus => "+",
+        Sign::Minus => "-",
+        Sign::Times => "*",
+        Sign::Equal => "=",
+        Sign::Unequal => "<>",
+        Sign::Less => "<",
+        Sign::AtMost => "<=",
+        Sign::Greater => ">",
+        Sign::AtLeast => ">=",
+        Sign::Not => "\u{AC}",
+    }
+}
+
+fn same_sign(first: Sign, second: Sign) -> bool
+    ensures { result ≡ bytes_eq (bytes_of_sign first) (bytes_of_sign second) }
+{
+    sign_letters(first).as_bytes() == sign_letters(second).as_bytes()
+}
+
+#[tactic(auto, using(crate::proofs::Leading::word_or_sign))]
+fn is_word(word: Keyword, class: Class) -> bool
+    ensures { (n : List ℕ) (z : ℤ) → result ≡ accepts (a_word word) (terminal_with n z class) }
+{
+    match class {
+        Class::Word(found) => same_word(word, found),
+        Class::Sign(found) => same_sign(Sign::Not, found) && same_word(word, Keyword::Not),
+        Class::Name | Class::Number(_) => false,
+    }
+}
+
+#[tactic(auto, using(crate::proofs::Leading::sign_or_word))]
+fn is_sign(sign: Sign, class: Class) -> bool
+    ensures { (n : List ℕ) (z : ℤ) → result ≡ accepts (a_sign sign) (terminal_with n z class) }
+{
+    match class {
+        Class::Word(_) => false,
+        Class::Sign(found) => !same_sign(Sign::Not, found) && same_sign(sign, found),
+        Class::Name | Class::Number(_) => false,
+    }
+}
+
+fn rank(operator: Operator) -> u8
+    ensures { result ≡ rank operator }
+{
+    match operator {
+        Operator::Or => 1,
+        Operator::And => 2,
+        Operator::Equal | Operator::Unequal | Operator::Less | Operator::AtMost => 4,
+        Operator::Greater | Operator::AtLeast => 4,
+        Operator::Add | Operator::Subtract => 5,
+        Operator::Multiply | Operator::Divide | Operator::Remainder => 6,
+    }
+}
+
+/// That of a lexeme, and 0 where it is no operator.
+fn rank_of(class: Class) -> u8
+    ensures { (n : List ℕ) (z : ℤ) → result ≡ rank_or (operator_of (terminal_with n z class)) }
+{
+    match class {
+        Class::Word(Keyword::Or) => 1,
+        Class::Word(Keyword::And) => 2,
+        Class::Word(Keyword::Div | Keyword::Mod) => 6,
+        Class::Sign(Sign::Equal | Sign::Unequal | Sign::Less | Sign::AtMost) => 4,
+        Class::Sign(Sign::Greater | Sign::AtLeast) => 4,
+        Class::Sign(Sign::Plus | Sign::Minus) => 5,
+        Class::Sign(Sign::Times) => 6,
+        _ => 0,
+    }
+}
+
+/// Whether a lexeme is one with which a part begins.
+#[tactic(auto, using(crate::proofs::Leading::one_of_two))]
+fn accepts(lead: Lead, class: Class) -> bool
+    ensures { (n : List ℕ) (z : ℤ) → result ≡ accepts (lead_of lead) (terminal_with n z class) }
+{
+    match lead {
+        Word(word) => is_word(word, class),
+        Either(first, second) => is_word(first, class) || is_word(second, class),
+        Mark(sign) => is_sign(sign, class),
+        Lead::Number => matches!(class, Class::Number(_)),
+        Lead::Name => matches!(class, Class::Name),
+        Like(operator) => rank_of(class) == rank(operator),
+    }
+}
+
+/// Parts without so many of them.
+fn without(from: usize, parts: &'static [Awaited]) -> &'static [Awaited]
+    ensures { result.now ≡ drop from parts.now }
+{
+    parts.get(from..).unwrap_or(&[])
+}
+
+/// What is open behind a lexeme, by the first rule that has it, without so many of its parts.
+fn by_rules(from: usize, rules: &'static [LeadRule], class: Class) -> Option<&'static [Awaited]>
+    ensures { (n : List ℕ) (z : ℤ) → option_map opened_parts result ≡ enters (rules_as from rules.now) (terminal_with n z class) }
+{
+    for rule in rules {
+        if accepts(rule.0, class) {
+            return Some(without(from, rule.1));
+        }
+    }
+    None
+}
+
+/// Whether a part may be left out, and what is open behind a lexeme, where it begins with that.
+pub(crate) fn entered(rules: PartRules, class: Class) -> (bool, Option<&'static [Awaited]>)
+    ensures optional { result.0 ≡ (rules_by rules.entry).0 }
+    ensures opened { (n : List ℕ) (z : ℤ) → option_map opened_parts result.1 ≡ enters (rules_by rules.entry).1 (terminal_with n z class) }
+{
+    match rules {
+        Ok((optional, from, rules)) => (optional, by_rules(from, rules, class)),
+        Err(lead) if accepts(lead, class) => (false, Some(&[])),
+        Err(_) => (false, None),
     }
 }

@@ -106,20 +106,17 @@ static STATEMENT: [Class; 7] = [
     Class::Word(Keyword::Repeat),
 ];
 
-impl LexemeGroup {
-    /// Its members.
-    pub fn members(self) -> &'static [Class]
-        ensures { result.now ≡ members self }
-    {
-        match self {
-            LexemeGroup::Expression => &CLASSES[..9],
-            LexemeGroup::Operand => &CLASSES[2..9],
-            LexemeGroup::Statement => &STATEMENT,
-            LexemeGroup::SimpleStatement => &STATEMENT[..4],
-            LexemeGroup::Declaration => &CLASSES[28..31],
-            LexemeGroup::Operator => &CLASSES[8..21],
-            LexemeGroup::Arithmetic => &CLASSES[8..13],
-        }
+fn members(group: LexemeGroup) -> &'static [Class]
+    ensures { result.now ≡ members group }
+{
+    match group {
+        LexemeGroup::Expression => &CLASSES[..9],
+        LexemeGroup::Operand => &CLASSES[2..9],
+        LexemeGroup::Statement => &STATEMENT,
+        LexemeGroup::SimpleStatement => &STATEMENT[..4],
+        LexemeGroup::Declaration => &CLASSES[28..31],
+        LexemeGroup::Operator => &CLASSES[8..21],
+        LexemeGroup::Arithmetic => &CLASSES[8..13],
     }
 }
 
@@ -150,7 +147,7 @@ fn find_groups(
     let mut groups = Vec::new(alloc);
     let mut told = Vec::new(alloc);
     for group in GROUPS {
-        let members = group.members();
+        let members = members(group);
         if are_within(members, classes) && !are_within(members, &told) {
             groups.push(group)?;
             told.extend_from_slice(members)?;

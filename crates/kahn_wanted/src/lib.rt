@@ -5,15 +5,8 @@ mod comments;
 mod found;
 mod grammar;
 mod groups;
-mod leads;
-mod reached;
-mod walk;
 
-pub use comments::{comment_before, comments_of, swallows};
-pub use found::{FaultPlace, Unexpected, place_at};
+pub use comments::{bytes_between, comment_before, comments_of, has_word, is_of_word, swallows};
+pub use found::{Change, FaultPlace, Reach, Unexpected, place_at, reaches};
+pub use grammar::sign_letters;
 pub use groups::{CLASSES, LexemeGroup, Wanted};
-pub use reached::{Change, Reach, reaches};
-
-// For the crates above.
-pub use comments::{bytes_between, has_word, is_of_word};
-pub use leads::sign_letters;

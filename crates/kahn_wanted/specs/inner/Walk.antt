@@ -1,5 +1,5 @@
 -- Inner. What is open behind lexemes: what the code calls the parts of the grammar, and what terminals do to them, one after another.
-use Rattle.std.specs.Prelude.{◌≡◌, ◌&&◌, ℕ, ℤ, Bool, List, [], ◌∷◌, ◌++◌, Option, Some, None, Result, Ok, Err, if◌then◌else◌, is_some, length, map, nat_le, slice_range}
+use Rattle.std.specs.Prelude.{◌≡◌, ℕ, ℤ, Bool, false, List, [], ◌∷◌, ◌++◌, Option, Some, None, Result, Ok, Err, drop, is_some, map}
 use Rattle.std.specs.Borrow.{Bor}
 use Rattle.kahn_syntax.specs.{declared.lexeme.Class.Class, Grammar.Terminal, Grammar.word, Grammar.numeral, Grammar.name, Texts.sign_terminal}
 use Rattle.kahn_syntax.specs.declared.lexeme.Class.TheVariants as class
@@ -11,10 +11,10 @@ use Rattle.kahn_wanted.specs.declared.grammar.Lead.TheVariants as lead
 abbrev pub lead_of : Lead → RuleToken
 lead_of (lead.Word w) = a_word w
 lead_of (lead.Either v w) = either v w
-lead_of (lead.Sign s) = a_sign s
+lead_of (lead.Mark s) = a_sign s
 lead_of lead.Number = a_number
 lead_of lead.Name = a_name
-lead_of (lead.Operator o) = an_operator o
+lead_of (lead.Like o) = an_operator o
 
 abbrev pub awaited_part : Awaited → Part
 awaited_part awaited.Program = ProgramPart
@@ -55,26 +55,20 @@ abbrev pub awaited_parts : List Awaited → List Part
 awaited_parts [] = []
 awaited_parts (p ∷ ps) = awaited_parts ps ++ awaited_part p ∷ []
 
--- the operators that may follow an operand, from a number on, as far as another
-abbrev pub all_operators : List Awaited
-all_operators = awaited.Ors ∷ awaited.Ands ∷ awaited.Comparison ∷ awaited.Signs ∷ awaited.Products ∷ []
+-- a rule without so many of its parts
+abbrev pub rule_of : ℕ → Lead × Bor (List Awaited) → Rule
+rule_of from r = (lead_of r.0, awaited_parts (drop from r.1.now))
 
-abbrev pub operators_between : ℕ → ℕ → List Awaited
-operators_between from to = if nat_le from to && nat_le to (length all_operators) then slice_range all_operators from to else []
-
-abbrev pub rule_of : ℕ → Lead × ℕ × Bor (List Awaited) → Rule
-rule_of from r = (lead_of r.0, awaited_parts (operators_between from r.1 ++ r.2.now))
-
-abbrev pub rules_as : ℕ → List (Lead × ℕ × Bor (List Awaited)) → List Rule
+abbrev pub rules_as : ℕ → List (Lead × Bor (List Awaited)) → List Rule
 rules_as from rs = map (rule_of from) rs
 
-abbrev pub rules_by : Result (ℕ × Bor (List (Lead × ℕ × Bor (List Awaited)))) Lead → List Rule
-rules_by (Ok r) = rules_as r.0 r.1.now
-rules_by (Err l) = (lead_of l, []) ∷ []
+abbrev pub rules_by : Result (Bool × ℕ × Bor (List (Lead × Bor (List Awaited)))) Lead → Bool × List Rule
+rules_by (Ok r) = (r.0, rules_as r.1 r.2.now)
+rules_by (Err l) = (false, (lead_of l, []) ∷ [])
 
--- what is open behind a lexeme, with the operators behind it
-abbrev pub opened_parts : Bor (List Awaited) × Bor (List Awaited) → List Part
-opened_parts o = awaited_parts (o.0.now ++ o.1.now)
+-- what is open behind a lexeme
+abbrev pub opened_parts : Bor (List Awaited) → List Part
+opened_parts o = awaited_parts o.now
 
 -- what is open behind a terminal: nothing where it can't stand
 abbrev pub left_open : Option (List Part) → List Part

@@ -1,6 +1,6 @@
 -- None of the rules so far has it.
 use Rattle.kahn_wanted.proofs.Common.{List, drop, enters, rules_as, terminal_with, ℕ, ℤ, ◌≡◌}
-use Rattle.kahn_wanted.proofs.leads.by_rules.Given as goal
+use Rattle.kahn_wanted.proofs.grammar.by_rules.Given as goal
 
 abbrev pub invariant-loop-rule : goal.invariant-loop-rule
 invariant-loop-rule l =

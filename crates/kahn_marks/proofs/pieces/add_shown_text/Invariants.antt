@@ -1,6 +1,6 @@
 -- What is left of the text comes behind what was added.
 use Rattle.kahn_marks.proofs.Common.{◌≡◌, ◌++◌, IsUtf8, chars, flat_map, string_bytes, chars_rest, shown_character, shown_text}
-use Rattle.kahn_marks.proofs.columns.add_shown_text.Given as goal
+use Rattle.kahn_marks.proofs.pieces.add_shown_text.Given as goal
 
 abbrev pub invariant-loop-character : goal.invariant-loop-character
 invariant-loop-character l =

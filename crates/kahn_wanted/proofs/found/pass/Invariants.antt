@@ -1,6 +1,6 @@
 -- What the lexeme does is what it does at the parts that are left.
 use Rattle.kahn_wanted.proofs.Common.{List, awaited_parts, length, step, terminal_with, ℕ, ℤ, ◌≡◌}
-use Rattle.kahn_wanted.proofs.walk.pass.Given as goal
+use Rattle.kahn_wanted.proofs.found.pass.Given as goal
 
 abbrev pub invariant-parts : goal.invariant-parts
 invariant-parts l =

@@ -1,6 +1,6 @@
 -- The lexemes that are left lead from here to where all lead.
 use Rattle.kahn_wanted.proofs.Common.{List, ProgramPart, [], awaited_parts, drop, terminals, walked, ℕ, ◌∷◌, ◌≡◌}
-use Rattle.kahn_wanted.proofs.walk.awaited_behind.Given as goal
+use Rattle.kahn_wanted.proofs.found.awaited_behind.Given as goal
 
 abbrev pub invariant-loop-lexeme : goal.invariant-loop-lexeme
 invariant-loop-lexeme l =

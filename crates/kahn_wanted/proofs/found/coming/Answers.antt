@@ -1,7 +1,7 @@
 use Rattle.kahn_wanted.proofs.Common.{AllMayCome, And, Contains-append_left, Contains-push, IsToldIfItComes, Word, [], ap, arith, awaited_parts, get_or, length, sym, terminals, ◌<◌, ◌∙◌, ◌∷◌}
 use Rattle.kahn_wanted.proofs.{Classes.all_grown, Classes.one_less, Classes.one_more, Walking.may_come, Walking.none_comes}
-use Rattle.kahn_wanted.proofs.walk.coming.Goals as goal
-use Rattle.kahn_wanted.proofs.walk.coming.Goals.{then-branch+in_ok-push, else-branch}
+use Rattle.kahn_wanted.proofs.found.coming.Goals as goal
+use Rattle.kahn_wanted.proofs.found.coming.Goals.{then-branch+in_ok-push, else-branch}
 
 pub loop-class-preserved : goal.loop-class-preserved
 loop-class-preserved c text =

@@ -1,6 +1,6 @@
 use Rattle.std.proofs.lemmas.Str.{IsUtf8-past_char, chars_past_char}
 use Rattle.kahn_marks.proofs.Rows.{done, moved}
-use Rattle.kahn_marks.proofs.columns.add_row.Goals as goal
+use Rattle.kahn_marks.proofs.pieces.add_row.Goals as goal
 
 pub loop-at-preserved : goal.loop-at-preserved
 loop-at-preserved c =

@@ -1,6 +1,6 @@
 use Rattle.kahn_marks.proofs.Common.{◌∙◌, sym, IsUtf8-past_char, chars_past_char}
 use Rattle.kahn_marks.proofs.Fronts.{at_end, ends, goes_on, same_end}
-use Rattle.kahn_marks.proofs.columns.shown_length.Goals as goal
+use Rattle.kahn_marks.proofs.pieces.shown_length.Goals as goal
 
 pub returns-then-ends_before-clause-shown : goal.returns-then-ends_before-clause-shown
 returns-then-ends_before-clause-shown c =

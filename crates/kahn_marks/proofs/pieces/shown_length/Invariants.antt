@@ -1,6 +1,6 @@
 -- All bytes so far are shown.
 use Rattle.kahn_marks.proofs.Common.{◌≡◌, ◌+◌, IsUtf8, chars, length, char_indices_offset, char_indices_rest, shown_length}
-use Rattle.kahn_marks.proofs.columns.shown_length.Given as goal
+use Rattle.kahn_marks.proofs.pieces.shown_length.Given as goal
 
 abbrev pub invariant-loop-at : goal.invariant-loop-at
 invariant-loop-at l =

@@ -1,6 +1,6 @@
 -- What is left of the line comes behind the row so far.
 use Rattle.kahn_marks.proofs.Common.{◌≡◌, ◌++◌, IsUtf8, chars, flat_map, string_bytes, char_indices_offset, char_indices_rest, piece_of, shown_row, with_places}
-use Rattle.kahn_marks.proofs.columns.add_row.Given as goal
+use Rattle.kahn_marks.proofs.pieces.add_row.Given as goal
 
 abbrev pub invariant-loop-at : goal.invariant-loop-at
 invariant-loop-at l =
