@@ -42,7 +42,7 @@ def data_of(data, shown):
     heads = [f"{it['line']}:{it['column']}: {it.get('sort', 'note')}: {it['words']}" for note in notes for it in (note, *note["others"])]
     put = [it["fix"]["put"].strip() for it in notes if it["fix"]]
     told = shown[1].decode()
-    return (data[0], [UNSHOWN.sub("\ufffd", it) for it in heads], put), (shown[0], HEAD.findall(told), PUT.findall(told))
+    return (data[0], [UNSHOWN.sub("\ufffd", it) for it in heads], put), (shown[0], HEAD.findall(told), [it.strip() for it in PUT.findall(told)])
 
 
 def try_mistakes(program, words, tried):

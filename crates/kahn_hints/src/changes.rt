@@ -1,13 +1,18 @@
 //! Changes of one or two words that were perhaps meant: each is made in the text, which is checked again, and the one that leaves the fewest
-//! faults is told.
+//! faults is told, if these are fewer and none wasn't there.
 
-use crate::mending::left_by;
-use crate::names::{NameKind, is_free, names_asked, names_seen};
-use crate::near::nearest;
-use crate::place::{NetworkPlace, side_of};
-use kahn_marks::{Fix, add};
-use kahn_streams::{CheckFault, NoMemory, Span};
-use kahn_syntax::{Class, Keyword, Lexeme};
+ghost use Rattle.std.specs.Prelude.{◌≡◌, ◌<◌, IfOk, IfSome, IsTrue, length, true};
+ghost use Rattle.std.specs.List.{list_all, list_any};
+ghost use Rattle.kahn_hints.specs.Hints.{AreFaultsOf, LessensFaults, are_known, is_known, is_same_fault, letters_at};
+
+use crate::place::{NameKind, NetworkPlace, names_seen, side_of, taken_by, word_at};
+use kahn_check::every;
+use kahn_fault::{check_span, check_words};
+use kahn_marks::{Fix, add, applied};
+use kahn_streams::{CheckFault, Kind, NoMemory, Span};
+use kahn_syntax::Keyword::{Channel, In, Input, Integer, Logical, Out, Output};
+use kahn_syntax::{Class, Lexeme, SyntaxFault, parse};
+use std::alloc::Global;
 
 /// Whether memory was there for trying a change.
 type Tried = Result<(), NoMemory>;
@@ -20,26 +25,116 @@ const MOST_TRIES: usize = 256;
 
 const MOST_READ: usize = 4_000_000;
 
-/// Of more arguments neighbours alone are interchanged.
-const MOST_MOVED: usize = 8;
+pub(crate) fn letters_at(text: &str, fault: CheckFault) -> &[u8]
+    ensures { result.now ≡ letters_at text.now fault }
+{
+    match check_span(fault) {
+        Some(span) => word_at(text, span),
+        None => &[],
+    }
+}
 
-/// Which change it is.
-#[derive(Clone, Copy)]
+/// Whether a fault of one text is the same as one of another text, with the same letters.
+pub(crate) fn is_same_fault(text: &str, fault: CheckFault, other: &str, found: CheckFault) -> bool
+    ensures { result ≡ is_same_fault text.now fault other.now found }
+{
+    check_words(fault).as_bytes() == check_words(found).as_bytes()
+        && letters_at(text, fault) == letters_at(other, found)
+}
+
+/// Whether a fault of a changed text is one of those that were there.
+fn is_known(text: &str, faults: &[CheckFault], other: &str, found: CheckFault) -> bool
+    ensures { result ≡ is_known text.now faults.now other.now found }
+{
+    faults
+        .iter()
+        .any(|fault| is_same_fault(text, *fault, other, found))
+}
+
+fn are_known(text: &str, faults: &[CheckFault], other: &str, left: &[CheckFault]) -> bool
+    ensures { result ≡ are_known text.now faults.now other.now left.now }
+{
+    left.iter()
+        .all(|found| is_known(text, faults, other, *found))
+}
+
+/// The faults of a text, if it spells a program.
+fn faults_in(alloc: Global, text: &str) -> Result<Option<Vec<CheckFault>>, NoMemory>
+    ensures { IfOk result (λ found. IfSome found (λ fs. AreFaultsOf text.now fs.items)) }
+{
+    match parse(alloc, text) {
+        Ok(tree) => Ok(Some(every(alloc, &tree)?)),
+        Err(SyntaxFault::NoMemory) => Err(NoMemory),
+        Err(_) => Ok(None),
+    }
+}
+
+fn are_fewer(text: &str, faults: &[CheckFault], other: &str, left: &[CheckFault]) -> bool
+    ensures fewer { IsTrue result → length left.now < length faults.now }
+    ensures known { IsTrue result → are_known text.now faults.now other.now left.now ≡ true }
+{
+    left.len() < faults.len() && are_known(text, faults, other, left)
+}
+
+/// How many faults of a text a change leaves, if these are fewer and none wasn't there, and one isn't there any more.
+pub(crate) fn left_by(
+    alloc: Global,
+    text: &str,
+    faults: &[CheckFault],
+    fault: CheckFault,
+    fix: &Fix,
+) -> Result<Option<usize>, NoMemory>
+    ensures { IfOk result (λ left. IfSome left (λ _. LessensFaults text.now faults.now fix.now)) }
+{
+    let Some(changed) = applied(alloc, text, fix)? else {
+        return Ok(None);
+    };
+    let other = changed.as_str();
+    let Some(left) = faults_in(alloc, other)? else {
+        return Ok(None);
+    };
+    if is_known(other, &left, text, fault) {
+        return Ok(None);
+    }
+    if are_fewer(text, faults, other, &left) {
+        return Ok(Some(left.len()));
+    }
+    Ok(None)
+}
+
+/// The kind of what stands at a place where the other one is wanted: that of a channel, or logical where a number is right.
+pub(crate) fn found_kind(place: NetworkPlace) -> Result<Option<Kind>, NoMemory> {
+    let (alloc, span, beside) = (place.alloc, place.at, place.at);
+    if let (None, Some((kind, _))) = (place.body, place.channel(place.word())) {
+        return Ok(Some(kind));
+    }
+    let put = String::from_str(alloc, "0")?;
+    let Some(other) = applied(alloc, place.text, &Fix { span, put, beside })? else {
+        return Ok(None);
+    };
+    let Some(faults) = faults_in(alloc, other.as_str())? else {
+        return Ok(None);
+    };
+    let is_wrong = faults.iter().any(|fault| {
+        matches!(fault, CheckFault::WrongKind(at) if at.from.abs_diff(span.from) < 2)
+            && letters_at(other.as_str(), *fault) == "0".as_bytes()
+    });
+    Ok(Some(if is_wrong {
+        Kind::Integer
+    } else {
+        Kind::Logical
+    }))
+}
+
+/// How a change is told.
+#[derive(Clone, Copy, PartialEq, Eq)]
 pub(crate) enum EditKind {
-    /// The nearest of the names in sight is put in the place of another.
-    Near,
-    /// Two neighbours are interchanged.
+    /// As a change that an editor may make.
+    Fix,
+    /// Two parts are interchanged.
     Swap,
-    /// A row of names has another kind, direction or role.
-    Flip,
-    /// A channel is one argument more.
-    Lost,
-    /// The next value of a channel stands in its place.
-    Waited,
-    /// A name in sight that nothing uses, or a channel that doesn't have the side.
-    Unused,
-    /// Any other name in sight.
-    Used,
+    /// Another name is put there.
+    Name,
 }
 
 /// A change that leaves fewer faults.
@@ -47,24 +142,12 @@ pub(crate) enum EditKind {
 pub(crate) struct Edit {
     pub(crate) way: EditKind,
     pub(crate) fix: Fix,
-    /// Two parts that are interchanged.
+    /// The first and the last part of what it changes.
     pub(crate) parts: (Span, Span),
     /// How many faults it leaves.
     pub(crate) left: usize,
     /// Whether another name leaves as few.
     is_one_of: bool,
-}
-
-impl Edit {
-    /// The less of it, the better: by the faults that are left, then what is done.
-    fn cost(&self) -> usize {
-        let doubt = match self.way {
-            EditKind::Unused => 1,
-            EditKind::Used => 2,
-            _ => 0,
-        };
-        self.left.saturating_mul(4).saturating_add(doubt)
-    }
 }
 
 pub(crate) fn tries_of(text: &str, lexemes: &[Lexeme]) -> usize {
@@ -75,31 +158,30 @@ pub(crate) fn tries_of(text: &str, lexemes: &[Lexeme]) -> usize {
     tries.min(MOST_TRIES)
 }
 
-/// The better of two changes: the one that costs less, or else the first.
+/// The better of two changes: the one that leaves fewer faults, or else the first.
 fn better(best: Option<Edit>, change: Edit) -> Edit {
     let Some(mut best) = best else {
         return change;
     };
-    let (least, cost) = (best.cost(), change.cost());
-    if cost < least {
+    if change.left < best.left {
         return change;
     }
-    let is_name = matches!(change.way, EditKind::Unused | EditKind::Used);
-    best.is_one_of = best.is_one_of || is_name && cost == least;
+    let is_like = change.left == best.left && best.way == EditKind::Name;
+    best.is_one_of = best.is_one_of || is_like;
     best
 }
 
 /// What may stand in the place of a word of a head: for a fault of kinds another kind, or else another direction or role, or none.
 fn others_for(class: Class, is_of_kinds: bool) -> &'static [&'static str] {
     match (class, is_of_kinds) {
-        (Class::Word(Keyword::Integer), true) => &["logical"],
-        (Class::Word(Keyword::Logical), true) => &["integer"],
-        (Class::Word(Keyword::Integer), false) => &["integer in", "integer out"],
-        (Class::Word(Keyword::Logical), false) => &["logical in", "logical out"],
-        (Class::Word(Keyword::In), false) => &["out", ""],
-        (Class::Word(Keyword::Out), false) => &["in", ""],
-        (Class::Word(Keyword::Input), false) => &["output", ""],
-        (Class::Word(Keyword::Output), false) => &["input", ""],
+        (Class::Word(Integer), true) => &["logical"],
+        (Class::Word(Logical), true) => &["integer"],
+        (Class::Word(Integer), false) => &["integer in", "integer out"],
+        (Class::Word(Logical), false) => &["logical in", "logical out"],
+        (Class::Word(In), false) => &["out", ""],
+        (Class::Word(Out), false) => &["in", ""],
+        (Class::Word(Input), false) => &["output", ""],
+        (Class::Word(Output), false) => &["input", ""],
         _ => &[],
     }
 }
@@ -108,16 +190,14 @@ fn others_for(class: Class, is_of_kinds: bool) -> &'static [&'static str] {
 #[derive(Drop)]
 struct Trial<'p> {
     place: NetworkPlace<'p>,
-    /// The fault there.
     fault: CheckFault,
     /// How many may be tried yet.
     tries: usize,
-    /// The best so far.
     best: Option<Edit>,
 }
 
 impl<'p> Trial<'p> {
-    /// Tries these pieces in the place of what stands from the first part to the second, if some change may be tried yet.
+    /// Tries these pieces in the place of what stands from the first part to the last, if some change may be tried yet.
     fn put(&mut self, way: EditKind, parts: (Span, Span), pieces: &[&str]) -> Tried {
         let Some(rest) = self.tries.checked_sub(1) else {
             return Ok(());
@@ -142,28 +222,14 @@ impl<'p> Trial<'p> {
         Ok(())
     }
 
-    fn put_one(&mut self, way: EditKind, at: Span, put: &str) -> Tried {
-        self.put(way, (at, at), &[put])
+    fn put_one(&mut self, at: Span, put: &str) -> Tried {
+        self.put(EditKind::Fix, (at, at), &[put])
     }
 
-    /// Two parts interchanged, with what stands between them.
-    fn with_swap(&mut self, way: EditKind, first: Span, last: Span) -> Tried {
-        let place = self.place;
-        let (from, to) = (first.to, last.from);
-        let between = place.part(Span { from, to });
-        let pieces = [place.part(last), between, place.part(first)];
-        self.put(way, (first, last), &pieces)
-    }
-
-    /// Some arguments of the instance at the place interchanged with those behind them; or in a process what stands at the place and a name
-    /// behind it.
+    /// Some arguments of the instance at the place interchanged with those behind them: the more there are, the fewer at a time.
     fn with_swaps(&mut self) -> Tried {
         let (place, handed) = (self.place, self.place.handed_there());
-        let most = if handed.len() > MOST_MOVED {
-            1
-        } else {
-            MOST_MOVED
-        };
+        let most = 64_usize.checked_div(handed.len()).unwrap_or(0);
         for (number, behind) in handed.iter().enumerate().skip(1) {
             let Some((front, back)) = handed.split_at_checked(number) else {
                 return Ok(());
@@ -172,44 +238,37 @@ impl<'p> Trial<'p> {
             for first in front.iter().rev().take(most) {
                 for last in back.iter().take(most) {
                     let (first, last) = (Span { to, ..first.span }, Span { from, ..last.span });
-                    self.with_swap(EditKind::Swap, first, last)?;
+                    let between = place.part(Span { from: to, to: from });
+                    let pieces = [place.part(last), between, place.part(first)];
+                    self.put(EditKind::Swap, (first, last), &pieces)?;
                 }
             }
         }
-        match (place.span(2), place.class(2)) {
-            (Some(last), Some(Class::Name)) if place.process.is_some() => {
-                self.with_swap(EditKind::Swap, place.at, last)
-            }
-            _ => Ok(()),
-        }
+        Ok(())
     }
 
     /// One argument more, of the channels that lack a side; or one less.
     fn with_count(&mut self) -> Tried {
         let (place, handed) = (self.place, self.place.handed_there());
-        let names = names_seen(place.alloc, place.program, None, Some(NameKind::Channel))?;
-        let mut spare: Vec<&str> = Vec::new(place.alloc);
+        let names = names_seen(place.alloc, place.program, None, NameKind::Channel)?;
+        let sides = [NameKind::Source, NameKind::Target];
         for name in &names {
-            let source = place.passed(NameKind::Source, name.text.as_bytes());
-            if source.is_none()
-                || place
-                    .passed(NameKind::Target, name.text.as_bytes())
-                    .is_none()
+            let word = name.text.as_str();
+            if sides
+                .iter()
+                .any(|side| place.passed(*side, word.as_bytes()).is_none())
             {
-                spare.push(name.text.as_str())?;
-            }
-        }
-        for one in handed {
-            let (at, here) = ((one.span, one.span), place.part(one.span));
-            for word in &spare {
-                self.put(EditKind::Lost, at, &[word, ", ", here])?;
-                self.put(EditKind::Lost, at, &[here, ", ", word])?;
+                for one in handed {
+                    let (at, here) = ((one.span, one.span), place.part(one.span));
+                    self.put(EditKind::Fix, at, &[word, ", ", here])?;
+                    self.put(EditKind::Fix, at, &[here, ", ", word])?;
+                }
             }
         }
         for (one, next) in handed.iter().zip(handed.iter().skip(1)) {
-            let parts = (one.span, next.span);
-            self.put(EditKind::Flip, parts, &[place.part(one.span)])?;
-            self.put(EditKind::Flip, parts, &[place.part(next.span)])?;
+            for span in [one.span, next.span] {
+                self.put(EditKind::Fix, (one.span, next.span), &[place.part(span)])?;
+            }
         }
         Ok(())
     }
@@ -219,30 +278,23 @@ impl<'p> Trial<'p> {
         let place = self.place;
         for fault in faults {
             if let CheckFault::Unknown(span) = *fault {
-                self.put_one(EditKind::Near, place.at, place.part(span))?;
+                self.put_one(place.at, place.part(span))?;
             }
         }
         Ok(())
     }
 
-    /// Other words in the heads of the process, or of the channels, or two neighbouring directions interchanged.
+    /// Other words in the heads of the process, or of the channels.
     fn with_heads(&mut self) -> Tried {
         let place = self.place;
         let is_of_kinds = matches!(self.fault, CheckFault::WrongKind(_));
-        let (all, mut last) = (place.seen(), None);
+        let all = place.seen();
         for (lexeme, next) in all.iter().zip(all.iter().skip(1)) {
-            let is_role = matches!(next.what, Class::Word(Keyword::Input | Keyword::Output));
-            let is_row = is_role || next.what == Class::Word(Keyword::Channel);
-            if place.process.is_some() || is_row {
+            let is_row = matches!(next.what, Class::Word(Input | Output | Channel));
+            if place.body.is_some() || is_row {
                 for word in others_for(lexeme.what, is_of_kinds) {
-                    self.put_one(EditKind::Flip, lexeme.span, word)?;
+                    self.put_one(lexeme.span, word)?;
                 }
-            }
-            if matches!(lexeme.what, Class::Word(Keyword::In | Keyword::Out)) {
-                if let Some(last) = last {
-                    self.with_swap(EditKind::Flip, last, lexeme.span)?;
-                }
-                last = Some(lexeme.span);
             }
         }
         Ok(())
@@ -250,25 +302,14 @@ impl<'p> Trial<'p> {
 
     /// The other names that may stand at the place; of channels of the program, those that don't have the side that is handed over there.
     fn with_names(&mut self) -> Tried {
-        let place = self.place;
-        let (word, side) = (place.word(), place.side());
-        let all = names_asked(place)?;
-        let mut names = Vec::new(place.alloc);
-        for name in &all {
-            let letters = name.text.as_bytes();
-            if word != letters && place.passed(side, letters).is_none() {
-                names.push(*name)?;
-            }
-        }
-        let near = nearest(word, &names);
+        let (place, at) = (self.place, (self.place.at, self.place.at));
+        let names = names_seen(place.alloc, place.program, place.body, place.asked())?;
+        let parameter = place.parameter();
+        let side = parameter.map_or(NameKind::Any, |one| taken_by(one).0);
         for name in &names {
-            if self.tries > 0 {
-                let way = match near {
-                    Some(near) if near.span == name.span => EditKind::Near,
-                    _ if is_free(place, name) => EditKind::Unused,
-                    _ => EditKind::Used,
-                };
-                self.put_one(way, place.at, name.text.as_str())?;
+            let letters = name.text.as_bytes();
+            if place.word() != letters && place.passed(side, letters).is_none() {
+                self.put(EditKind::Name, at, &[name.text.as_str()])?;
             }
         }
         Ok(())
@@ -279,16 +320,16 @@ impl<'p> Trial<'p> {
         let place = self.place;
         let front = place.lexemes.get(..place.number).unwrap_or(&[]);
         let mut words = front.iter().rev();
-        let channel = words.find(|lexeme| lexeme.what == Class::Word(Keyword::Channel));
+        let channel = words.find(|lexeme| lexeme.what == Class::Word(Channel));
         match (channel, place.taker(side_of(self.fault))) {
-            (Some(channel), None) => self.put_one(EditKind::Flip, channel.span, row),
+            (Some(channel), None) => self.put_one(channel.span, row),
             _ => Ok(()),
         }
     }
 
     fn with_fault(&mut self) -> Tried {
         let place = self.place;
-        let is_within = place.process.is_some();
+        let is_within = place.body.is_some();
         let is_named = match self.fault {
             CheckFault::NoWriter(_) => return self.with_role("input channel"),
             CheckFault::NoReader(_) => return self.with_role("output channel"),
@@ -298,7 +339,7 @@ impl<'p> Trial<'p> {
             CheckFault::ValueExpected(_) => {
                 if is_within {
                     let pieces = ["wait(", place.part(place.at), ")"];
-                    self.put(EditKind::Waited, (place.at, place.at), &pieces)?;
+                    self.put(EditKind::Fix, (place.at, place.at), &pieces)?;
                 }
                 false
             }

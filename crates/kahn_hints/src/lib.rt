@@ -3,17 +3,13 @@
 #![tactic(auto)]
 
 mod changes;
-mod kept;
-mod mending;
-mod names;
 mod near;
 mod notes;
 mod place;
 mod said;
-mod sight;
 
 pub use near::one_nearest;
 
 // For the crates above.
+pub use near::{add_unknown_channel, add_unknown_input};
 pub use notes::{FaultNotes, fault_notes};
-pub use sight::{add_unknown_channel, add_unknown_input};

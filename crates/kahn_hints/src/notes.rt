@@ -1,16 +1,16 @@
-//! The notes on what is wrong with a network.
+//! The notes on what is wrong with a network: on the faults that don't seem to follow from another one.
 
 ghost use Rattle.std.specs.Prelude.{◌≡◌, [], All, Contains, IfOk, IfSome};
 ghost use Rattle.kahn_fault.specs.Message.{check_span};
 ghost use Rattle.kahn_hints.specs.Hints.{LessensFaults, TellsFault, TellsMore, TellsOne};
 
-use crate::changes::{Edit, EditKind, change_for, tries_of};
-use crate::kept::{is_held, limit_of};
-use crate::mending::{found_kind, left_by};
-use crate::place::{NetworkPlace, beginning, handed_in};
-use crate::said::{add_advice, add_change, add_found, facts_of, others_of};
+use crate::changes::{Edit, EditKind, change_for, is_same_fault, left_by, letters_at, tries_of};
+use crate::place::{
+    Body, NetworkPlace, beginning, bodies_in, body_called, handed_in, instance_at, side_of,
+};
+use crate::said::{add_said, facts_of, others_of};
 use kahn_fault::{check_span, check_words};
-use kahn_marks::{Fix, MOST_NOTES, Note, Other, Sort};
+use kahn_marks::{Fix, MOST_NOTES, Note, Sort};
 use kahn_streams::{CheckFault, NoMemory, Program, Span};
 use kahn_syntax::lex;
 use std::alloc::Global;
@@ -24,12 +24,26 @@ pub struct FaultNotes {
     pub more: usize,
 }
 
-/// What is told of a fault.
-#[derive(Drop)]
-struct ToldFault {
-    note: Note,
-    /// Whether a change is told that leaves none.
-    is_whole: bool,
+/// Whether a fault of a text is held back, where others were told: of an instance what was told, one of sides beside any that isn't, one beside
+/// a fault of the text of its process, and one of a name that is declared twice; and a channel without a side where one lacks the other side.
+fn is_held(place: NetworkPlace, told: &[CheckFault], fault: CheckFault) -> bool {
+    let is_side = |one| matches!(one, CheckFault::TwoReaders(_) | CheckFault::TwoWriters(_));
+    let begin = |one| check_span(one).map_or(0, |span| span.from);
+    let Some(instance) = instance_at(&place.program.instances, begin(fault)) else {
+        let is_lack = matches!(fault, CheckFault::NoReader(_) | CheckFault::NoWriter(_));
+        return is_lack && told.iter().any(|other| side_of(*other) != side_of(fault));
+    };
+    let (text, process) = (place.text, instance.process.text.as_bytes());
+    let body = body_called(place.bodies, process);
+    let is_unknown = matches!(fault, CheckFault::Unknown(_));
+    told.iter()
+        .any(|other| is_same_fault(text, *other, text, fault))
+        || place.faults.iter().any(|other| {
+            let is_twice = matches!(other, CheckFault::DeclaredTwice(_));
+            is_twice && (is_unknown || letters_at(text, *other) == process)
+                || is_side(fault) && !is_side(*other)
+                || body.is_some_and(|body| body.from < begin(*other) && begin(*other) < body.to)
+        })
 }
 
 /// Where a fault stands; at the beginning where it has no place.
@@ -42,27 +56,7 @@ fn span_of(fault: CheckFault) -> Span
     }
 }
 
-/// The words of a fault, with what is wanted and found, and what to do; and the other places that have to do with it.
-fn told_of(
-    place: NetworkPlace,
-    fault: CheckFault,
-    change: &Option<Edit>,
-) -> Result<(String, Vec<Other>), NoMemory> {
-    let kind = match fault {
-        CheckFault::WrongKind(_) => found_kind(place)?,
-        _ => None,
-    };
-    let facts = facts_of(place, fault, kind)?;
-    let mut words = String::from_str(place.alloc, check_words(fault))?;
-    add_found(&mut words, place, fault, &facts)?;
-    match change {
-        Some(change) => add_change(&mut words, place, fault, change)?,
-        None => add_advice(&mut words, place, fault, &facts)?,
-    }
-    Ok((words, others_of(place, fault, &facts)?))
-}
-
-/// The change that is told apart from the words of a fault: that of a row of names.
+/// The change that is told apart from the words of a fault.
 fn fix_of(
     alloc: Global,
     text: &str,
@@ -76,33 +70,35 @@ fn fix_of(
         return Ok(None);
     };
     match left_by(alloc, text, faults, fault, &change.fix)? {
-        Some(_) if matches!(change.way, EditKind::Flip) => Ok(Some(change.fix)),
+        Some(_) if change.way == EditKind::Fix => Ok(Some(change.fix)),
         _ => Ok(None),
     }
 }
 
+/// The note on a fault, and whether a change is told that leaves none.
 fn found_at(
-    alloc: Global,
     text: &str,
     place: NetworkPlace,
     faults: &[CheckFault],
     fault: CheckFault,
     tries: &mut usize,
-) -> Result<ToldFault, NoMemory>
-    ensures { IfOk result (λ found. Contains faults.now fault → TellsFault text.now faults.now found.note fault) }
+) -> Result<(Note, bool), NoMemory>
+    ensures { IfOk result (λ found. Contains faults.now fault → TellsFault text.now faults.now found.0 fault) }
 {
-    let change = change_for(place, tries, fault)?;
+    let (alloc, change) = (place.alloc, change_for(place, tries, fault)?);
     let is_whole = change.as_ref().is_some_and(|change| change.left == 0);
-    let (words, others) = told_of(place, fault, &change)?;
+    let facts = facts_of(place, fault)?;
+    let mut words = String::from_str(alloc, check_words(fault))?;
+    add_said(&mut words, place, fault, &facts, &change)?;
     let note = Note {
         sort: Sort::Error,
         span: span_of(fault),
         words,
         fix: fix_of(alloc, text, faults, fault, change)?,
         below: Vec::new(alloc),
-        others,
+        others: others_of(place, fault, &facts)?,
     };
-    Ok(ToldFault { note, is_whole })
+    Ok((note, is_whole))
 }
 
 /// What is told so far.
@@ -112,8 +108,6 @@ struct ToldNotes {
     /// The faults of the notes, and those that have none since there are too many, and how many these are.
     told: Vec<CheckFault>,
     more: usize,
-    /// Where the first fault of a limit stands: none behind it has a note.
-    limit: usize,
     /// How many changes may be tried yet.
     tries: usize,
 }
@@ -124,7 +118,6 @@ impl ToldNotes {
     #[tactic(auto, using(crate::proofs::Telling::one_more, crate::proofs::Telling::one_alone))]
     fn tell(
         &mut self,
-        alloc: Global,
         text: &str,
         begin: NetworkPlace,
         faults: &[CheckFault],
@@ -133,30 +126,29 @@ impl ToldNotes {
         ensures told { IfOk result (λ _. TellsMore text.now faults.now fault self.old.notes.items self.new.notes.items) }
         ensures some { IfOk result (λ _. self.new.notes.items ≡ [] → ⊥) }
     {
-        let at = span_of(fault);
         let is_first = self.notes.is_empty();
-        let is_within = at.from < self.limit;
-        if !is_first && is_within && is_held(begin, &self.told, fault) {
+        let is_limit = matches!(fault, CheckFault::TooMany(_));
+        if !is_first && !is_limit && is_held(begin, &self.told, fault) {
             return Ok(false);
         }
         self.told.push(fault)?;
-        if !is_first && (self.notes.len() >= MOST_NOTES || at.from > self.limit) {
+        if !is_first && (self.notes.len() >= MOST_NOTES || is_limit) {
             self.more = self.more.saturating_add(1);
             return Ok(false);
         }
-        let place = begin.moved_to(at);
-        let found = found_at(alloc, text, place, faults, fault, &mut self.tries)?;
-        if found.is_whole {
+        let place = begin.moved_to(span_of(fault));
+        let (note, is_whole) = found_at(text, place, faults, fault, &mut self.tries)?;
+        if is_whole {
             self.notes.clear();
-            self.notes.push(found.note)?;
+            self.notes.push(note)?;
             return Ok(true);
         }
-        self.notes.push(found.note)?;
+        self.notes.push(note)?;
         Ok(false)
     }
 }
 
-/// The notes on the faults that are told of a text that spells a program: on 20 at most, and on none behind one of a limit. What seems to
+/// The notes on the faults that are told of a text that spells a program: on 20 at most, of which one alone is of a limit. What seems to
 /// follow from another fault is held back, and so are all others where a change is told that leaves none. It refuses only where memory was
 /// refused.
 pub fn fault_notes(
@@ -171,19 +163,19 @@ pub fn fault_notes(
     let Ok(lexemes) = lex(alloc, text) else {
         return Err(NoMemory);
     };
-    let handed = handed_in(alloc, program)?;
-    let begin = beginning(alloc, text, &lexemes, program, &handed, faults);
+    let bodies = bodies_in(alloc, program)?;
+    let handed = handed_in(alloc, program, &bodies)?;
+    let begin = beginning(alloc, text, &lexemes, program, &bodies, &handed, faults);
     let notes = Vec::new(alloc);
     let told = Vec::new(alloc);
     let mut telling = ToldNotes {
         notes,
         told,
         more: 0,
-        limit: limit_of(faults),
         tries: tries_of(text, &lexemes),
     };
     for fault in faults {
-        if telling.tell(alloc, text, begin, faults, *fault)? {
+        if telling.tell(text, begin, faults, *fault)? {
             let notes = telling.notes;
             return Ok(FaultNotes { notes, more: 0 });
         }

@@ -3,17 +3,50 @@
 ghost use Rattle.std.specs.Prelude.{◌≡◌};
 ghost use Rattle.kahn_hints.specs.Hints.{word_at};
 
-use crate::names::{NameKind, taken_by};
 use kahn_marks::part_of;
 use kahn_streams::{
-    Argument, CheckFault, Declaration, Instance, Kind, Name, Parameter, Process, Program, Role,
-    Span,
+    Argument, CheckFault, Declaration, Direction, Instance, Kind, Name, Parameter, Process,
+    Program, Role, Span, Taking,
 };
 use kahn_syntax::{Class, Keyword, Lexeme, Sign};
 use std::alloc::{AllocError, Global};
 
 /// Of so many instances the arguments are looked at: as many as a program may have.
 const MOST_INSTANCES: usize = 256;
+
+/// What a name stands for.
+#[derive(Clone, Copy, PartialEq, Eq)]
+pub(crate) enum NameKind {
+    /// Any of these.
+    Any,
+    Value,
+    Channel,
+    /// A channel whose values come from outside.
+    Input,
+    /// A parameter that takes a channel to be read.
+    Source,
+    /// A parameter that takes a channel to be written.
+    Target,
+    Process,
+}
+
+/// What a parameter takes stands for, and of which kind it is.
+pub(crate) fn taken_by(parameter: &Parameter) -> (NameKind, Kind) {
+    match parameter.taking {
+        Taking::Channel(Direction::In, kind) => (NameKind::Source, kind),
+        Taking::Channel(Direction::Out, kind) => (NameKind::Target, kind),
+        Taking::Value(kind) => (NameKind::Value, kind),
+    }
+}
+
+/// The side of a channel that a fault is about, if it is about one.
+pub(crate) fn side_of(fault: CheckFault) -> NameKind {
+    match fault {
+        CheckFault::NoWriter(_) | CheckFault::TwoWriters(_) => NameKind::Target,
+        CheckFault::NoReader(_) | CheckFault::TwoReaders(_) => NameKind::Source,
+        _ => NameKind::Channel,
+    }
+}
 
 /// The letters at a place of a text; none where it isn't within the text.
 pub(crate) fn word_at(text: &str, at: Span) -> &[u8]
@@ -29,36 +62,42 @@ pub(crate) fn is_called(word: &[u8], name: &Name) -> bool {
     word == name.text.as_bytes()
 }
 
-pub(crate) fn called_first<'p>(word: &[u8], names: &[&'p Name]) -> Option<&'p Name> {
-    names.iter().find(|name| is_called(word, name)).copied()
+/// A process, and its part of the text: from its name to the declaration behind it, or to the first instance.
+#[derive(Clone, Copy)]
+pub(crate) struct Body<'p> {
+    pub(crate) process: &'p Process,
+    pub(crate) from: usize,
+    pub(crate) to: usize,
 }
 
-/// The first process that a program declares under these letters.
-fn process_called<'p>(program: &'p Program, word: &[u8]) -> Option<&'p Process> {
-    let mut all = program.declarations.iter();
-    all.find_map(|declaration| match declaration {
-        Declaration::Process(process) if is_called(word, &process.name) => Some(process),
-        _ => None,
-    })
-}
-
-/// Where a declaration begins: at its first name.
-fn begin_of(declaration: &Declaration) -> usize {
-    match declaration {
-        Declaration::Process(process) => process.name.span.from,
-        Declaration::Channels(_, _, names) => names.first().map_or(0, |name| name.span.from),
+/// Those of a program, the last first.
+pub(crate) fn bodies_in<'p>(
+    alloc: Global,
+    program: &'p Program,
+) -> Result<Vec<Body<'p>>, AllocError> {
+    let mut bodies = Vec::new(alloc);
+    let first = program.instances.first();
+    let mut to = first.map_or(usize::MAX, |instance| instance.process.span.from);
+    for declaration in program.declarations.iter().rev() {
+        match declaration {
+            Declaration::Process(process) => {
+                let from = process.name.span.from;
+                bodies.push(Body { process, from, to })?;
+                to = from;
+            }
+            Declaration::Channels(_, _, names) => {
+                to = names.first().map_or(to, |name| name.span.from);
+            }
+        }
     }
+    Ok(bodies)
 }
 
-/// The part of a text from the name of a process to the declaration behind it, or to the first instance.
-pub(crate) fn text_of(program: &Program, word: &[u8]) -> Option<Span> {
-    let from = process_called(program, word)?.name.span.from;
-    let mut begins = program.declarations.iter().map(begin_of);
-    let to = match begins.find(|begin| *begin > from) {
-        Some(to) => to,
-        None => program.instances.first()?.process.span.from,
-    };
-    Some(Span { from, to })
+/// That of the first process of these letters.
+pub(crate) fn body_called<'p>(bodies: &[Body<'p>], word: &[u8]) -> Option<Body<'p>> {
+    let mut all = bodies.iter().rev();
+    all.find(|body| is_called(word, &body.process.name))
+        .copied()
 }
 
 /// The last of some instances that begins before a byte, or at it.
@@ -67,65 +106,37 @@ pub(crate) fn instance_at(instances: &[Instance], from: usize) -> Option<&Instan
     instances.get(count.checked_sub(1)?)
 }
 
-/// The process in whose text a byte stands, behind its name.
-fn process_at(program: &Program, from: usize) -> Option<&Process> {
-    if instance_at(&program.instances, from).is_some() {
-        return None;
-    }
-    let mut all = program.declarations.iter().rev();
-    match all.find(|declaration| begin_of(declaration) <= from)? {
-        Declaration::Process(process) if process.name.span.from < from => Some(process),
-        _ => None,
-    }
-}
-
 /// An argument that an instance hands over.
 #[derive(Clone, Copy)]
 pub(crate) struct Handed<'p> {
-    /// Where it stands.
     pub(crate) span: Span,
-    /// What it is.
-    pub(crate) argument: &'p Argument,
+    /// The letters of a channel; none of a value.
+    channel: &'p [u8],
     /// What takes it, if the process is declared and has so many parameters.
-    pub(crate) parameter: Option<&'p Parameter>,
+    parameter: Option<&'p Parameter>,
     /// The process of the instance.
     process: &'p Name,
-}
-
-impl<'p> Handed<'p> {
-    pub(crate) fn is_channel(&self, word: &[u8]) -> bool {
-        matches!(self.argument, Argument::Channel(name) if is_called(word, name))
-    }
-
-    /// Whether it is a value.
-    pub(crate) fn is_value(&self) -> bool {
-        !matches!(self.argument, Argument::Channel(_))
-    }
-
-    /// Whether a parameter takes it that stands for this.
-    fn is_for(&self, side: NameKind) -> bool {
-        matches!(self.parameter, Some(parameter) if taken_by(parameter).0 == side)
-    }
 }
 
 /// All arguments of the instances that a program may have.
 pub(crate) fn handed_in<'p>(
     alloc: Global,
     program: &'p Program,
+    bodies: &[Body<'p>],
 ) -> Result<Vec<Handed<'p>>, AllocError> {
     let mut all = Vec::new(alloc);
     for instance in program.instances.iter().take(MOST_INSTANCES) {
-        let called = process_called(program, instance.process.text.as_bytes());
+        let process = &instance.process;
+        let called = body_called(bodies, process.text.as_bytes());
         for (number, argument) in instance.arguments.iter().enumerate() {
-            let span = match argument {
-                Argument::Channel(name) => name.span,
-                Argument::Number(_, span) | Argument::Logical(_, span) => *span,
+            let (span, channel) = match argument {
+                Argument::Channel(name) => (name.span, name.text.as_bytes()),
+                Argument::Number(_, span) | Argument::Logical(_, span) => (*span, "".as_bytes()),
             };
-            let parameter = called.and_then(|called| called.parameters.get(number));
-            let process = &instance.process;
+            let parameter = called.and_then(|body| body.process.parameters.get(number));
             all.push(Handed {
                 span,
-                argument,
+                channel,
                 parameter,
                 process,
             })?;
@@ -138,12 +149,11 @@ pub(crate) fn handed_in<'p>(
 #[derive(Clone, Copy)]
 pub(crate) struct NetworkPlace<'p> {
     pub(crate) alloc: Global,
-    /// The text.
     pub(crate) text: &'p str,
-    /// Its lexemes.
     pub(crate) lexemes: &'p [Lexeme],
-    /// What they spell.
     pub(crate) program: &'p Program,
+    /// Its processes, the last first.
+    pub(crate) bodies: &'p [Body<'p>],
     /// What its instances hand over.
     pub(crate) handed: &'p [Handed<'p>],
     /// All faults of the text.
@@ -153,14 +163,16 @@ pub(crate) struct NetworkPlace<'p> {
     /// How many lexemes begin before it.
     pub(crate) number: usize,
     /// The process in whose text it stands, behind its name.
-    pub(crate) process: Option<&'p Process>,
+    pub(crate) body: Option<Body<'p>>,
 }
 
+/// That at the beginning of a text.
 pub(crate) fn beginning<'p>(
     alloc: Global,
     text: &'p str,
     lexemes: &'p [Lexeme],
     program: &'p Program,
+    bodies: &'p [Body<'p>],
     handed: &'p [Handed<'p>],
     faults: &'p [CheckFault],
 ) -> NetworkPlace<'p> {
@@ -169,24 +181,24 @@ pub(crate) fn beginning<'p>(
         text,
         lexemes,
         program,
+        bodies,
         handed,
         faults,
         at: Span { from: 0, to: 0 },
         number: 0,
-        process: None,
+        body: None,
     }
 }
 
 impl<'p> NetworkPlace<'p> {
     /// The same of another part.
     pub(crate) fn moved_to(self, at: Span) -> NetworkPlace<'p> {
-        let lexemes = self.lexemes;
-        let number = lexemes.partition_point(|lexeme| lexeme.span.from < at.from);
-        let process = process_at(self.program, at.from);
+        let (lexemes, mut bodies) = (self.lexemes, self.bodies.iter());
+        let body = bodies.find(|body| body.from < at.from && at.from < body.to);
         NetworkPlace {
             at,
-            number,
-            process,
+            number: lexemes.partition_point(|lexeme| lexeme.span.from < at.from),
+            body: body.copied(),
             ..self
         }
     }
@@ -199,41 +211,30 @@ impl<'p> NetworkPlace<'p> {
         part_of(self.text, part)
     }
 
-    fn lexeme(&self, behind: isize) -> Option<&'p Lexeme> {
-        self.lexemes.get(self.number.checked_add_signed(behind)?)
-    }
-
-    pub(crate) fn span(&self, behind: isize) -> Option<Span> {
-        Some(self.lexeme(behind)?.span)
-    }
-
+    /// What stands so many lexemes behind it.
     pub(crate) fn class(&self, behind: isize) -> Option<Class> {
-        Some(self.lexeme(behind)?.what)
-    }
-
-    /// The instance in whose text it stands.
-    pub(crate) fn instance(&self) -> Option<&'p Instance> {
-        instance_at(&self.program.instances, self.at.from)
+        let number = self.number.checked_add_signed(behind)?;
+        Some(self.lexemes.get(number)?.what)
     }
 
     /// The first process of its letters.
     pub(crate) fn called(&self) -> Option<&'p Process> {
-        process_called(self.program, self.word())
+        Some(body_called(self.bodies, self.word())?.process)
     }
 
-    /// The kind of the first channel of its letters, and what the outside has to do with it.
-    pub(crate) fn channel(&self) -> Option<(Kind, Role)> {
+    /// The kind of the first channel of these letters, and what the outside has to do with it.
+    pub(crate) fn channel(&self, word: &[u8]) -> Option<(Kind, Role)> {
         let mut all = self.program.declarations.iter();
         all.find_map(|declaration| match declaration {
             Declaration::Channels(kind, role, names)
-                if names.iter().any(|name| is_called(self.word(), name)) => Some((*kind, *role)),
+                if names.iter().any(|name| is_called(word, name)) => Some((*kind, *role)),
             _ => None,
         })
     }
 
     /// What the instance in whose text it stands hands over.
     pub(crate) fn handed_there(&self) -> &'p [Handed<'p>] {
-        let Some(instance) = self.instance() else {
+        let Some(instance) = instance_at(&self.program.instances, self.at.from) else {
             return &[];
         };
         let begin = instance.process.span.from;
@@ -245,7 +246,8 @@ impl<'p> NetworkPlace<'p> {
     /// Where a channel is handed over first for such a parameter.
     pub(crate) fn passed(&self, side: NameKind, word: &[u8]) -> Option<Span> {
         let mut all = self.handed.iter();
-        let one = all.find(|one| one.is_for(side) && one.is_channel(word))?;
+        let is_for = |parameter| taken_by(parameter).0 == side;
+        let one = all.find(|one| one.channel == word && one.parameter.is_some_and(is_for))?;
         Some(one.span)
     }
 
@@ -261,23 +263,16 @@ impl<'p> NetworkPlace<'p> {
         all.find(|one| one.span.from == self.at.from)?.parameter
     }
 
-    /// The side that a channel has which is handed over there, if one is.
-    pub(crate) fn side(&self) -> NameKind {
-        self.parameter()
-            .map_or(NameKind::Channel, |one| taken_by(one).0)
-    }
-
     /// The parameter of its process that has its letters.
     pub(crate) fn own_parameter(&self) -> Option<&'p Parameter> {
-        let mut all = self.process?.parameters.iter();
+        let mut all = self.body?.process.parameters.iter();
         all.find(|parameter| is_called(self.word(), &parameter.name))
     }
 
     /// The first parameter of its process for which an instance hands over the channel of its letters.
     pub(crate) fn parameter_for(&self) -> Option<&'p Name> {
-        let name = self.process?.name.text.as_bytes();
-        let mut all = self.handed.iter();
-        let one = all.find(|one| is_called(name, one.process) && one.is_channel(self.word()))?;
+        let (mut all, name) = (self.handed.iter(), self.name().as_bytes());
+        let one = all.find(|one| is_called(name, one.process) && one.channel == self.word())?;
         Some(&one.parameter?.name)
     }
 
@@ -288,17 +283,15 @@ impl<'p> NetworkPlace<'p> {
     }
 
     /// The first process without an instance that takes the channel of its letters so.
-    pub(crate) fn taker(&self, side: NameKind) -> Option<&'p Process> {
-        let wanted = (side, self.channel()?.0);
-        for declaration in &self.program.declarations {
-            if let Declaration::Process(process) = declaration {
-                let (mut all, name) = (process.parameters.iter(), process.name.text.as_bytes());
-                let mut made = self.program.instances.iter();
-                if all.any(|parameter| taken_by(parameter) == wanted)
-                    && !made.any(|instance| is_called(name, &instance.process))
-                {
-                    return Some(process);
-                }
+    pub(crate) fn taker(&self, side: NameKind) -> Option<Span> {
+        let wanted = (side, self.channel(self.word())?.0);
+        for body in self.bodies.iter().rev() {
+            let (name, mut all) = (&body.process.name, body.process.parameters.iter());
+            let mut made = self.program.instances.iter();
+            if all.any(|parameter| taken_by(parameter) == wanted)
+                && !made.any(|instance| is_called(name.text.as_bytes(), &instance.process))
+            {
+                return Some(name.span);
             }
         }
         None
@@ -306,26 +299,23 @@ impl<'p> NetworkPlace<'p> {
 
     /// The name of the process in whose text it stands, if it stands in one.
     pub(crate) fn name(&self) -> &'p str {
-        match self.process {
-            Some(process) => process.name.text.as_str(),
-            None => "",
-        }
+        self.body.map_or("", |body| body.process.name.text.as_str())
     }
 
     /// The lexemes of the part that sees the names at the place: a process, or the whole text.
     pub(crate) fn seen(&self) -> &'p [Lexeme] {
         let lexemes = self.lexemes;
-        let Some(part) = text_of(self.program, self.name().as_bytes()) else {
+        let Some(body) = self.body else {
             return lexemes;
         };
-        let from = lexemes.partition_point(|lexeme| lexeme.span.from < part.from);
-        let to = lexemes.partition_point(|lexeme| lexeme.span.from < part.to);
+        let from = lexemes.partition_point(|lexeme| lexeme.span.from < body.from);
+        let to = lexemes.partition_point(|lexeme| lexeme.span.from < body.to);
         lexemes.get(from..to).unwrap_or(&[])
     }
 
     /// What the names stand for that may stand at the place.
     pub(crate) fn asked(&self) -> NameKind {
-        match (self.process, self.class(-2), self.class(-1), self.class(1)) {
+        match (self.body, self.class(-2), self.class(-1), self.class(1)) {
             (None, _, _, Some(Class::Sign(Sign::Open))) => NameKind::Process,
             (None, _, _, _) => NameKind::Channel,
             (_, _, Some(Class::Word(Keyword::On)), _) => NameKind::Target,
@@ -334,13 +324,62 @@ impl<'p> NetworkPlace<'p> {
             _ => NameKind::Value,
         }
     }
+
+    /// Whether nothing has a name that may stand there: it stands where it is declared alone, or is a channel that may have the side and
+    /// doesn't.
+    pub(crate) fn is_free(&self, name: &Name) -> bool {
+        let word = name.text.as_bytes();
+        let Some((side, kind)) = self.parameter().map(taken_by) else {
+            let mut all = self.seen().iter();
+            return !all.any(|lexeme| {
+                lexeme.span.from != name.span.from && word_at(self.text, lexeme.span) == word
+            });
+        };
+        match (self.channel(word), side) {
+            (Some((_, Role::Output)), NameKind::Source) => false,
+            (Some((_, Role::Input)), NameKind::Target) => false,
+            (Some((found, _)), _) => found == kind && self.passed(side, word).is_none(),
+            (None, _) => false,
+        }
+    }
 }
 
-/// The side of a channel that a fault is about, if it is about one.
-pub(crate) fn side_of(fault: CheckFault) -> NameKind {
-    match fault {
-        CheckFault::NoWriter(_) | CheckFault::TwoWriters(_) => NameKind::Target,
-        CheckFault::NoReader(_) | CheckFault::TwoReaders(_) => NameKind::Source,
-        _ => NameKind::Channel,
+/// The names of a process, its parameters first, or those of the program where there is none: those that stand for what is asked for.
+pub(crate) fn names_seen<'p>(
+    alloc: Global,
+    program: &'p Program,
+    body: Option<Body<'p>>,
+    asked: NameKind,
+) -> Result<Vec<&'p Name>, AllocError> {
+    let mut names = Vec::new(alloc);
+    let is_asked = |kind: NameKind| asked == NameKind::Any || asked == kind;
+    let Some(body) = body else {
+        for declaration in &program.declarations {
+            match declaration {
+                Declaration::Process(process) if is_asked(NameKind::Process) => {
+                    names.push(&process.name)?;
+                }
+                Declaration::Channels(_, role, channels)
+                    if is_asked(NameKind::Channel)
+                        || is_asked(NameKind::Input) && *role == Role::Input => {
+                    for channel in channels {
+                        names.push(channel)?;
+                    }
+                }
+                _ => {}
+            }
+        }
+        return Ok(names);
+    };
+    for parameter in &body.process.parameters {
+        if is_asked(taken_by(parameter).0) {
+            names.push(&parameter.name)?;
+        }
     }
+    for variable in &body.process.variables {
+        if is_asked(NameKind::Value) {
+            names.push(&variable.name)?;
+        }
+    }
+    Ok(names)
 }

@@ -1,23 +1,20 @@
 //! The words behind those of a fault, by what is known of its place: what is wanted, what is found, and what to do; and another place.
 
-use crate::changes::{Edit, EditKind};
-use crate::names::{NameKind, is_free, names_asked, names_seen, taken_by};
-use crate::near::nearest;
-use crate::place::{NetworkPlace, called_first, is_called, side_of};
-use crate::sight::add_near;
+use crate::changes::{Edit, EditKind, MOST_LEXEMES, found_kind};
+use crate::near::{add_near, nearest};
+use crate::place::{NameKind, NetworkPlace, is_called, names_seen, side_of, taken_by};
 use itoa::Buffer;
 use kahn_fault::{check_span, check_words};
-use kahn_marks::{Other, add, add_spot};
-use kahn_streams::{CheckFault, Kind, Role, Span};
+use kahn_marks::{Other, add};
+use kahn_streams::{CheckFault, Kind, NoMemory, Role, Span};
 use kahn_syntax::{Class, Keyword, Sign};
 use std::alloc::AllocError;
 
 /// Whether memory was there for adding words.
-pub(crate) type Added = Result<(), AllocError>;
+type Added = Result<(), AllocError>;
 
 /// What is wanted, and what is found: of a fault, the first row of which all facts hold.
 const FOUND: &str = "
-name is not declared | wants-process channel |  as a process, but as a channel
 kind does not agree | integer | : wanted logical, found integer
 kind does not agree | logical | : wanted integer, found logical
 direction does not agree | source | : wanted `in`, found `out`
@@ -46,9 +43,7 @@ a value is expected | from-channel | ; its next value is `wait(#)`
 a value is expected | to-channel | ; it takes a value by `send E on #`
 a value is expected | outside channel | ; hand over a number, `true` or `false` there
 name is not declared | channel target integer | ; add `integer out #` to the parameters of `@`, and hand `#` to it
-name is not declared | channel target logical | ; add `logical out #` to the parameters of `@`, and hand `#` to it
 name is not declared | channel body integer | ; add `integer in #` to the parameters of `@`, and hand `#` to it
-name is not declared | channel body logical | ; add `logical in #` to the parameters of `@`, and hand `#` to it
 name is not declared | body short | ; `@` has fewer parameters than an instance has arguments
 name is not declared | assigned | ; is a declaration such as `integer #;` missing after `begin`?
 name is not declared | wants-channel | ; is a declaration such as `integer channel #;` missing?
@@ -56,8 +51,6 @@ a channel is expected | body source | ; a value is read without `wait`
 name is declared twice | channel is-process | ; channels and processes share one name space: give one of them another name
 channel has two writers | - | ; give each writer a channel of its own, and join these in a process, as in examples/merge.kahn
 channel has two readers | - | ; let a process take from it and send each value on a channel for each reader
-channel has no writer | idle | ; `@` has no instance, and could write it
-channel has no reader | idle | ; `@` has no instance, and could read it
 channel has no writer | inner unread | ; it is handed to no process: leave its declaration out
 channel has no writer | inner | ; hand it to an `out` parameter, or declare it `input` where its values come from outside
 channel has no writer | - | ; hand it to an `out` parameter
@@ -98,18 +91,20 @@ fn sentence_of(table: &'static str, fault: CheckFault, facts: &[&str]) -> Option
 pub(crate) fn facts_of(
     place: NetworkPlace,
     fault: CheckFault,
-    kind: Option<Kind>,
-) -> Result<Vec<&'static str>, AllocError> {
+) -> Result<Vec<&'static str>, NoMemory> {
     let parameter = place.own_parameter().map(|parameter| taken_by(parameter).0);
-    let channel = place.channel();
-    let kind = kind.or(channel.map(|channel| channel.0));
+    let channel = place.channel(place.word());
+    let kind = match fault {
+        CheckFault::WrongKind(_) => found_kind(place)?,
+        _ => channel.map(|channel| channel.0),
+    };
     let (asked, side, word) = (place.asked(), side_of(fault), place.word());
     let (own, next) = (place.class(0), place.class(1));
     let mut facts = Vec::new(place.alloc);
     for (holds, fact) in [
         (true, "-"),
-        (place.process.is_some(), "body"),
-        (place.process.is_none(), "outside"),
+        (place.body.is_some(), "body"),
+        (place.body.is_none(), "outside"),
         (channel.is_some(), "channel"),
         (matches!(channel, Some((_, Role::Inner))), "inner"),
         (place.called().is_some(), "is-process"),
@@ -117,11 +112,9 @@ pub(crate) fn facts_of(
         (matches!(own, Some(Class::Number(_))), "number"),
         (kind == Some(Kind::Integer), "integer"),
         (kind == Some(Kind::Logical), "logical"),
-        (asked == NameKind::Process, "wants-process"),
         (asked == NameKind::Channel, "wants-channel"),
         (asked == NameKind::Source, "source"),
         (asked == NameKind::Target, "target"),
-        (asked == NameKind::Value, "value"),
         (next == Some(Class::Sign(Sign::Becomes)), "assigned"),
         (own == Some(Class::Word(Keyword::If)), "conditional"),
         (word.iter().any(|byte| b"<=>".contains(byte)), "compared"),
@@ -139,116 +132,89 @@ pub(crate) fn facts_of(
     Ok(facts)
 }
 
-/// Adds how many arguments are wanted and found at an instance, and which value is missing, if some are.
-fn add_counts(words: &mut String, place: NetworkPlace) -> Added {
-    let (Some(process), handed) = (place.called(), place.handed_there()) else {
-        return Ok(());
+/// Adds what is wanted, and what is found: of an instance how many arguments.
+fn add_found(words: &mut String, place: NetworkPlace, fault: CheckFault, facts: &[&str]) -> Added {
+    let (CheckFault::WrongCount(_), Some(process)) = (fault, place.called()) else {
+        return words.push_str(sentence_of(FOUND, fault, facts).unwrap_or(""));
     };
-    let (wanted, found) = (process.parameters.len(), handed.len());
     let (mut first, mut second) = (Buffer::new(), Buffer::new());
-    add(words, &[": wanted ", first.format(wanted)])?;
-    add(words, &[", found ", second.format(found)])?;
-    let given = handed.iter().filter(|one| one.is_value()).count();
-    let all = process.parameters.iter();
-    let mut values = all.filter(|one| taken_by(one).0 == NameKind::Value);
-    match values.nth(given) {
-        Some(one) if found < wanted => add(words, &["; `", one.name.text.as_str(), "` is missing"]),
-        _ => Ok(()),
-    }
+    let wanted = first.format(process.parameters.len());
+    let found = second.format(place.handed_there().len());
+    add(words, &[": wanted ", wanted, ", found ", found])
 }
 
-pub(crate) fn add_found(
-    words: &mut String,
-    place: NetworkPlace,
-    fault: CheckFault,
-    facts: &[&str],
-) -> Added {
-    match fault {
-        CheckFault::WrongCount(_) => add_counts(words, place),
-        _ => words.push_str(sentence_of(FOUND, fault, facts).unwrap_or("")),
+/// Adds a sentence, with what stands at the place where that is on one line, and with its process.
+fn add_filled(words: &mut String, place: NetworkPlace, sentence: &str) -> Added {
+    for (number, piece) in sentence.split("#").enumerate() {
+        let whole = place.part(place.at);
+        let shown = if whole.contains("\n") { "E" } else { whole };
+        words.push_str(if number == 0 { "" } else { shown })?;
+        for (number, piece) in piece.split("@").enumerate() {
+            add(words, &[if number == 0 { "" } else { place.name() }, piece])?;
+        }
     }
+    Ok(())
 }
 
-/// What stands at a place, where it is on one line.
-fn shown<'p>(place: NetworkPlace<'p>) -> &'p str {
-    let whole = place.part(place.at);
-    if whole.find("\n").is_some() {
-        "E"
-    } else {
-        whole
-    }
-}
-
-/// Adds which name was perhaps meant: the nearest of those that nothing has, or of all, or the only one that nothing has, unless it is the very
-/// name, declared a second time; or else the first five of all, and what to do.
+/// Adds which name was perhaps meant, or else the first five of those that may stand there, and what to do.
 fn add_unknown(words: &mut String, place: NetworkPlace, advice: &str) -> Added {
     if let Some(name) = place.parameter_for().filter(|_| !advice.is_empty()) {
         let its = name.text.as_str();
         return add(words, &["; `", place.name(), "` has it as `", its, "`"]);
     }
-    let (names, mut free) = (names_asked(place)?, Vec::new(place.alloc));
+    let names = names_seen(place.alloc, place.program, place.body, place.asked())?;
+    let mut free = Vec::new(place.alloc);
     for name in &names {
-        if is_free(place, name) {
+        if place.lexemes.len() <= MOST_LEXEMES && place.is_free(name) {
             free.push(*name)?;
         }
     }
     let near = nearest(place.word(), &free).or(nearest(place.word(), &names));
-    let only = match free.as_slice() {
-        [only] if !place.is_short() => Some(*only),
-        _ => None,
-    };
-    match near.or(only) {
-        Some(name) if is_called(place.word(), name) => Ok(()),
-        Some(name) => add(words, &["; did you mean `", name.text.as_str(), "`?"]),
-        None => {
-            if place.process.is_none() || place.channel().is_none() {
-                add_near(words, place.word(), "; in sight: ", &names)?;
-            }
-            add_filled(words, place, advice, place.name())
-        }
+    let only = free.first().copied().filter(|_| free.len() == 1);
+    if let Some(name) = near.or(only) {
+        return add(words, &["; did you mean `", name.text.as_str(), "`?"]);
     }
-}
-
-fn add_filled(words: &mut String, place: NetworkPlace, sentence: &str, process: &str) -> Added {
-    for (number, piece) in sentence.split("#").enumerate() {
-        words.push_str(if number == 0 { "" } else { shown(place) })?;
-        let (front, rest) = piece.split_once("@").unwrap_or((piece, ""));
-        let between = if front.len() < piece.len() {
-            process
-        } else {
-            ""
-        };
-        add(words, &[front, between, rest])?;
+    if place.body.is_none() || place.channel(place.word()).is_none() {
+        add_near(words, place.word(), "; in sight: ", &names)?;
     }
-    Ok(())
+    add_filled(words, place, advice)
 }
 
 /// Adds what to do, where no change is known that leaves fewer faults.
-pub(crate) fn add_advice(
-    words: &mut String,
-    place: NetworkPlace,
-    fault: CheckFault,
-    facts: &[&str],
-) -> Added {
+fn add_advice(words: &mut String, place: NetworkPlace, fault: CheckFault, facts: &[&str]) -> Added {
     let sentence = sentence_of(ADVICE, fault, facts).unwrap_or("");
     let is_named = match fault {
         CheckFault::Unknown(_) | CheckFault::WrongDirection(_) => true,
-        CheckFault::ChannelExpected(_) => place.process.is_some(),
+        CheckFault::ChannelExpected(_) => place.body.is_some(),
         _ => false,
     };
     if is_named {
         return add_unknown(words, place, sentence);
     }
-    let taker = place.taker(side_of(fault));
-    let process = taker.map_or("", |taker| taker.name.text.as_str());
-    add_filled(words, place, sentence, process)
+    add_filled(words, place, sentence)
 }
 
-/// The first channel that lacks the other side than one does.
-fn lacking(place: NetworkPlace, fault: CheckFault) -> Option<Span> {
-    let side = side_of(fault);
-    let mut others = place.faults.iter().filter(|other| side_of(**other) != side);
-    check_span(*others.next()?)
+/// Adds what is wanted and found, and a change, unless it is told apart, or else what to do.
+pub(crate) fn add_said(
+    words: &mut String,
+    place: NetworkPlace,
+    fault: CheckFault,
+    facts: &[&str],
+    change: &Option<Edit>,
+) -> Added {
+    add_found(words, place, fault, facts)?;
+    let Some(change) = change else {
+        return add_advice(words, place, fault, facts);
+    };
+    let (first, last) = (place.part(change.parts.0), place.part(change.parts.1));
+    match change.way {
+        EditKind::Fix => Ok(()),
+        EditKind::Swap => {
+            add(words, &["; are `", first, "` and `", last])?;
+            words.push_str("` interchanged?")
+        }
+        _ => add(words, &["; did you mean `", change.fix.put.as_str(), "`?"]),
+    }
 }
 
 /// The other place that has to do with a fault, if there is one: a process that could have the side, where the channel is handed over first,
@@ -258,22 +224,22 @@ pub(crate) fn others_of(
     fault: CheckFault,
     facts: &[&str],
 ) -> Result<Vec<Other>, AllocError> {
-    let mut others = Vec::new(place.alloc);
-    let side = side_of(fault);
-    let process = place
-        .process
+    let (mut others, side) = (Vec::new(place.alloc), side_of(fault));
+    let body = place
+        .body
         .filter(|_| !matches!(fault, CheckFault::Unknown(_)));
-    let names = names_seen(place.alloc, place.program, process, None)?;
-    let declared = called_first(place.word(), &names);
-    let second = match fault {
-        CheckFault::NoWriter(_) | CheckFault::NoReader(_) => {
-            let taker = place.taker(side).map(|process| process.name.span);
-            taker.or(lacking(place, fault))
+    let names = names_seen(place.alloc, place.program, body, NameKind::Any)?;
+    let mut all = names.iter();
+    let declared = all.find(|name| is_called(place.word(), name));
+    let second = match (fault, declared) {
+        (CheckFault::NoWriter(_) | CheckFault::NoReader(_), _) => {
+            let mut others = place.faults.iter();
+            let other = others.find(|other| side_of(**other) != side);
+            let lacking = other.and_then(|other| check_span(*other));
+            place.taker(side).or(lacking)
         }
-        CheckFault::TooMany(_) | CheckFault::NoMemory => None,
-        CheckFault::ChannelExpected(_) if declared.is_none() => {
-            place.parameter().map(|one| one.name.span)
-        }
+        (CheckFault::TooMany(_), _) => None,
+        (CheckFault::ChannelExpected(_), None) => place.parameter().map(|one| one.name.span),
         _ => place.passed_before(side).or(declared.map(|name| name.span)),
     };
     if let Some(span) = second {
@@ -282,37 +248,4 @@ pub(crate) fn others_of(
         others.push(Other { span, words })?;
     }
     Ok(others)
-}
-
-/// Adds a change to the words of a fault, unless it is made elsewhere.
-pub(crate) fn add_change(
-    words: &mut String,
-    place: NetworkPlace,
-    fault: CheckFault,
-    change: &Edit,
-) -> Added {
-    let (first, last) = (place.part(change.parts.0), place.part(change.parts.1));
-    let put = change.fix.put.as_str();
-    match (change.way, side_of(fault)) {
-        (EditKind::Flip, _) => Ok(()),
-        (EditKind::Swap, _) => {
-            add(words, &["; are `", first, "` and `", last])?;
-            words.push_str("` interchanged?")
-        }
-        (EditKind::Lost, _) => {
-            let (one, other) = put.split_once(", ").unwrap_or((put, ""));
-            add(
-                words,
-                &[
-                    "; is `",
-                    if one == first { other } else { one },
-                    "` missing?",
-                ],
-            )
-        }
-        (EditKind::Waited, _) => add(words, &["; its next value is `", put, "`"]),
-        (_, NameKind::Source) => add(words, &["; nothing reads `", put, "`"]),
-        (_, NameKind::Target) => add(words, &["; nothing writes `", put, "`"]),
-        _ => add(words, &["; did you mean `", put, "`?"]),
-    }
 }

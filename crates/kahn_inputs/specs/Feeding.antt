@@ -27,7 +27,7 @@ AreFirstGiven text name fault others = others ≡ []
 
 -- the note on the line that begins at byte `from`
 abbrev pub IsLineNote : Program → List ℕ → ℕ → List ℕ → TextFault → Note → Type 0
-IsLineNote t text from line fault note = (note.sort ≡ Error)
+IsLineNote t text from line fault note = (note.sort ≡ Error) × (note.below.items ≡ [])
     × ((kind : Option Kind) × (span : Span) × IsKindFor t (line_name line) kind × IsFaultSpan line kind fault span × (note.span ≡ moved_by from span))
     × AreFirstGiven text (line_name line) fault note.others.items
 

@@ -1,10 +1,11 @@
 //! Why an input text is refused, as a note on the place.
 
 ghost use Rattle.std.specs.Prelude.{◌≡◌, ◌+◌, ◌≤◌, IfOk, length};
-ghost use Rattle.kahn_inputs.specs.Feeding.{AreFirstGiven, IsFaultSpan, IsInputNote, IsKindFor, IsLineNote, sought_of};
+ghost use Rattle.kahn_inputs.specs.{Feeding.AreFirstGiven, Feeding.IsFaultSpan, Feeding.IsInputNote, Feeding.IsKindFor, Feeding.IsLineNote, Feeding.sought_of, Placed.AlwaysPlaced};
 
-use crate::fitting::{lack_of, line_name, moved_by, name_span, part_of, unfit_span};
-use crate::seeking::{FoundLine, find_line, first_named};
+use crate::fitting::{
+    FoundLine, find_line, first_named, lack_of, line_name, moved_by, name_span, part_of, unfit_span,
+};
 use crate::strange::{head_words, value_words};
 use kahn_hints::add_unknown_input;
 use kahn_marks::{Note, Other, Sort, add};
@@ -191,3 +192,8 @@ pub fn input_note(
         None => Ok(None),
     }
 }
+
+/// Of a fault that an input text has, other than that it is too long, there is always a note: its line is found.
+pub fn always_placed()
+    ensures { AlwaysPlaced }
+{}

@@ -3,13 +3,10 @@
 
 mod feeding;
 mod fitting;
-mod laws;
 mod refused;
-mod seeking;
 mod strange;
 
-pub use feeding::input_note;
-pub use laws::always_placed;
+pub use feeding::{always_placed, input_note};
 pub use refused::{
     RefusedPart, head_part, inputs_words, kind_part, name_part, unknown_words, value_part,
 };

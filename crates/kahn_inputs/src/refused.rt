@@ -5,8 +5,7 @@ ghost use Rattle.kahn_texts.specs.Formats.{content as content_of};
 ghost use Rattle.kahn_inputs.specs.{Fitting.line_name, Refused.IsHeadPart, Refused.IsKindPart, Refused.IsValuePart};
 
 use crate::feeding::{kind_for, kind_words};
-use crate::fitting::{lack_of, line_name, part_of, unfit_span};
-use crate::seeking::content;
+use crate::fitting::{content, lack_of, line_name, part_of, unfit_span};
 use crate::strange::{PARTS, first_words, strange_words, value_words, words_of};
 use kahn_hints::add_unknown_input;
 use kahn_streams::Network;
@@ -38,7 +37,7 @@ pub fn head_part(line: &[u8]) -> RefusedPart<'_>
     let line = content(line);
     let (span, wanted) = lack_of(line);
     let word = part_of(line, span);
-    let words = first_words(&[strange_words(word), words_of(PARTS, word), wanted]);
+    let words = first_words(&[strange_words(word), words_of(&PARTS, word), wanted]);
     RefusedPart { word, words }
 }
 

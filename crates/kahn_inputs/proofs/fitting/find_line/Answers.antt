@@ -1,7 +1,7 @@
 use Rattle.kahn_inputs.proofs.Common.{rules, tests, ◌+◌, ◌≤◌, ◌<◌, ◌==◌, length, take, drop, [], ◌∷◌, ◌++◌, arith, refl, sym, subst, length_push, take_all, YieldsList-from_slice_split, YieldsList-turn, YieldsList-end, text_lines, CountsAs, CountTo}
 use Rattle.kahn_inputs.proofs.{Fitted.cut_here, Fitted.from_part, Fitted.length_more, Fitted.one_more, Fitted.reaches, Sought.one_on, Sought.reached}
 use Rattle.std.proofs.lemmas.Bool.Decides.{nat_tests}
-use Rattle.kahn_inputs.proofs.seeking.find_line.Goals as goal
+use Rattle.kahn_inputs.proofs.fitting.find_line.Goals as goal
 
 pub past-further-requires : goal.past-further-requires
 past-further-requires c =

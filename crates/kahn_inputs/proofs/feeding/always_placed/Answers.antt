@@ -1,5 +1,5 @@
 use Rattle.kahn_inputs.proofs.Placed.{always_placed}
-use Rattle.kahn_inputs.proofs.laws.always_placed.Goals as goal
+use Rattle.kahn_inputs.proofs.feeding.always_placed.Goals as goal
 
 pub returns : goal.returns
 returns c = always_placed

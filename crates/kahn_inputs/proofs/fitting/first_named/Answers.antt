@@ -1,6 +1,6 @@
 use Rattle.kahn_inputs.proofs.Common.{rules, tests, ◌≡◌, ◌∙◌, ◌+◌, ◌==◌, All, ap, ◌≤◌, sym, length, take, drop, [], ◌∷◌, ◌++◌, arith, refl, subst, true, false, length_push, take_all, YieldsList-from_slice_split, YieldsList-turn, YieldsList-end, text_lines, moved_by, name_span, parts_length, has_line_name}
 use Rattle.kahn_inputs.proofs.Fitted.{all_more, cut_here, from_part, length_more, reaches}
-use Rattle.kahn_inputs.proofs.seeking.first_named.Goals as goal
+use Rattle.kahn_inputs.proofs.fitting.first_named.Goals as goal
 
 pub past-further-requires : goal.past-further-requires
 past-further-requires c =

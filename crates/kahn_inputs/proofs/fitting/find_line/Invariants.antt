@@ -1,6 +1,6 @@
 -- The lines so far count as many as aren't left, and this is where they end.
 use Rattle.kahn_inputs.proofs.Common.{◌≡◌, ◌+◌, ℕ, length, take, text_lines, parts_length, CountTo}
-use Rattle.kahn_inputs.proofs.seeking.find_line.Given as goal
+use Rattle.kahn_inputs.proofs.fitting.find_line.Given as goal
 
 abbrev pub invariant-loop-whole : goal.invariant-loop-whole
 invariant-loop-whole l = record {

@@ -1,6 +1,6 @@
 -- The lines so far begin with other names, and this is where they end.
 use Rattle.kahn_inputs.proofs.Common.{◌≡◌, All, false, length, take, text_lines, parts_length, has_line_name}
-use Rattle.kahn_inputs.proofs.seeking.first_named.Given as goal
+use Rattle.kahn_inputs.proofs.fitting.first_named.Given as goal
 
 abbrev pub invariant-loop-line : goal.invariant-loop-line
 invariant-loop-line l = record {

@@ -1,6 +1,6 @@
 use Rattle.kahn_hints.proofs.Common.{string_bytes, subst, sym, AreFaultsOf}
 use Rattle.kahn_marks.specs.Notes.{IsApplied}
-use Rattle.kahn_hints.proofs.mending.left_by.Goals as goal
+use Rattle.kahn_hints.proofs.changes.left_by.Goals as goal
 
 pub returns-then-are_fewer : goal.returns-then-are_fewer
 returns-then-are_fewer c =
