@@ -26,8 +26,8 @@ pub use Rattle.kahn_warnings.specs.Telling.{AreNotesOf}
 pub use Rattle.kahn_warnings.specs.Uses.{any_varies_by, assigned_by, assigns, is_assigned_in, is_named, is_used_in, uses_name, varies_by, waits_in}
 pub use Rattle.kahn_warnings.specs.Warned.{warned}
 pub use Rattle.kahn_warnings.specs.Warnings.{block_items, by_layout, declaration_warnings, first_standing, first_unreached, list_warnings, name_warnings, parameter_warnings, program_warnings, row_warnings, site_warnings, statement_warnings, variable_warnings}
-pub use Rattle.kahn_warnings.specs.declared.{sites.ConstantSite.ConstantSite, warning.Warning.Warning}
-pub use Rattle.kahn_warnings.specs.declared.warning.WarningKind.TheVariants.{LongComment, Unreached}
+pub use Rattle.kahn_warnings.specs.declared.{sites.ConstantSite.ConstantSite, program.Warning.Warning}
+pub use Rattle.kahn_warnings.specs.declared.program.WarningKind.TheVariants.{LongComment, Unreached}
 pub use Rattle.kahn_warnings.specs.inner.Collecting.{contains}
 pub use Rattle.std.proofs.Common.{All, Bool, Err, List, None, Ok, Option, Result, Some, [], ap, append-nil, append_assoc, arith, bytes_eq, cond, drop, false, flat_map, get_or, if◌then◌else◌, int_div, int_rem, is_some, length, nat_eq, nat_lt, neg_ℤ, negsuc, not, pos, refl, slice_set, string_bytes, subst, suc, sym, take, true, true≢false, zero, ℕ, ℤ, ◌&&◌, ◌*ℤ◌, ◌++◌, ◌+ℤ◌, ◌+◌, ◌-ℤ◌, ◌/◌, ◌<◌, ◌==◌, ◌^◌, ◌||◌, ◌∙◌, ◌∷◌, ◌≡◌, ◌≤◌, ⊎_elim, Equal, Greater, Less, rules}
 pub use Rattle.std.proofs.Math.Bool.{or-false, or_assoc}

@@ -1,5 +1,5 @@
 -- The operands of a level and the statements of a block and of a body, one after another.
-use Rattle.kahn_warnings.proofs.Common.{Binary, Bool, Bracket', Conditional', Expr, Form, Level', List, Negate', None, Not', Operand, Option, Row_of-Operand, Row_of-Statement, Scope, Some, Span, Statement, Stmt, Unreached, Warning, [], any_varies_by, ap, append_assoc, at_drop_all, block_items, body_of, drop, end_of-Operand, end_of-Statement, expr_of, expression_of, false, first_standing, first_unreached, flat_map, if◌then◌else◌, is_assigned_in, is_named, is_seen, is_used_in, items-the_row-Operand, items-the_row-Statement, length, level_of, list_any, list_warnings, more_of-Operand, more_of-Statement, never_ends, option_or, refl, row_of, row_warnings, statement_of, statement_warnings, stmt_of, sym, take, take_all, true, varies_by, waits_in, warned, ℕ, ◌++◌, ◌||◌, ◌∙◌, ◌∷◌, ◌≡◌, ◌≤◌, or-false, or_assoc}
+use Rattle.kahn_warnings.proofs.Common.{Binary, Bool, Bracket', Conditional', Expr, Form, Level', List, Negate', None, Not', Operand, Option, Row_of-Operand, Row_of-Statement, Scope, Seq, Some, Span, Statement, Stmt, Unreached, Warning, [], any_varies_by, ap, append_assoc, at_drop_all, block_items, body_of, drop, end_of-Operand, end_of-Statement, expr_of, expression_of, false, first_standing, first_unreached, flat_map, if◌then◌else◌, is_assigned_in, is_named, is_seen, is_used_in, items-the_row-Operand, items-the_row-Statement, length, level_of, list_any, list_warnings, more_of-Operand, more_of-Statement, never_ends, option_or, refl, row_of, row_warnings, statement_of, statement_warnings, stmt_of, sym, take, take_all, true, varies_by, waits_in, warned, ℕ, ◌++◌, ◌||◌, ◌∙◌, ◌∷◌, ◌≡◌, ◌≤◌, or-false, or_assoc}
 
 -- one more of a list, and no more, where they are tried from the left
 module _ {X : Type 0} (f : X → Bool) (l : List X) (all had : Bool) (so_far : had || list_any f l ≡ all) where
@@ -64,13 +64,17 @@ pub body_is_assigned_in : (names : Scope) (ss : List Statement) → is_assigned_
 body_is_assigned_in names [] = refl
 body_is_assigned_in names (s ∷ rest) = ap (λ b. is_assigned_in 0 (statement_of names s) || b) (body_is_assigned_in names rest)
 
-pub block_never_ends : {m : _} (names : Scope) (row : Row_of-Statement m) → never_ends (row_of names row) ≡ list_any (is_so never_ends names) (items-the_row-Statement m row)
-block_never_ends names end_of-Statement = refl
-block_never_ends names (more_of-Statement at a rest) = ap (λ b. never_ends (stmt_of names a) || b) (block_never_ends names rest)
+pub body_never_ends : (names : Scope) (ss : List Statement) → never_ends (body_of names ss) ≡ list_any (is_so never_ends names) ss
+body_never_ends names [] = refl
+body_never_ends names (s ∷ rest) = ap (λ b. never_ends (statement_of names s) || b) (body_never_ends names rest)
 
-pub block_is_seen : {m : _} (names : Scope) (row : Row_of-Statement m) → is_seen (row_of names row) ≡ list_any (is_so is_seen names) (items-the_row-Statement m row)
-block_is_seen names end_of-Statement = refl
-block_is_seen names (more_of-Statement at a rest) = ap (λ b. is_seen (stmt_of names a) || b) (block_is_seen names rest)
+pub body_is_seen : (names : Scope) (ss : List Statement) → is_seen (body_of names ss) ≡ list_any (is_so is_seen names) ss
+body_is_seen names [] = refl
+body_is_seen names (s ∷ rest) = ap (λ b. is_seen (statement_of names s) || b) (body_is_seen names rest)
+
+pub block_body : {m : _} (names : Scope) (row : Row_of-Statement m) → row_of names row ≡ body_of names (items-the_row-Statement m row)
+block_body names end_of-Statement = refl
+block_body names (more_of-Statement at a rest) = ap (Seq (stmt_of names a)) (block_body names rest)
 
 -- warnings
 

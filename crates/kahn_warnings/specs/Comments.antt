@@ -2,7 +2,7 @@
 use Rattle.std.specs.Prelude.{◌≡◌, ℕ, All, Contains, List}
 use Rattle.kahn_streams.specs.declared.span.Span.{Span}
 use Rattle.kahn_wanted.specs.Comments.{AreComments, EndsLine}
-use Rattle.kahn_warnings.specs.{declared.warning.Warning.Warning, declared.warning.WarningKind.TheVariants.LongComment}
+use Rattle.kahn_warnings.specs.{declared.program.Warning.Warning, declared.program.WarningKind.TheVariants.LongComment}
 
 -- of one of these comments, in which a line ends
 abbrev pub IsCommentWarning : List ℕ → List Span → Warning → Type 0

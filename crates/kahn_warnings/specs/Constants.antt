@@ -4,7 +4,7 @@ use Rattle.std.specs.Prelude.{◌≡◌, ℕ, Bool, true, false, ◌&&◌, pos, 
 use Rattle.kahn_streams.specs.{declared.tree.Operator.Operator, declared.value.Value.Value, declared.value.Failure.Failure, declared.tree.Operator.TheVariants.Divide, declared.tree.Operator.TheVariants.Remainder, declared.tree.Operator.TheVariants.Subtract, declared.tree.Operator.TheVariants.Unequal, declared.value.Failure.TheVariants.Overflow, declared.value.Failure.TheVariants.Division, Arithmetic.apply, Arithmetic.is_zero, Arithmetic.number, Arithmetic.truth, Meaning.Store, Meaning.constant, Meaning.eval, Meaning.exec, Meaning.value_of, Script.Fail, Script.Fault, Script.Give, Script.Got, Script.Tapes, Script.Turns, Script.at_once, Script.play}
 use Rattle.kahn_streams.specs.Syntax as S
 use Rattle.kahn_streams.specs.declared.value.Value.TheVariants as value
-use Rattle.kahn_warnings.specs.{declared.sites.SiteKind.SiteKind, declared.warning.WarningKind.WarningKind, declared.sites.SiteKind.TheVariants.Binary, declared.sites.SiteKind.TheVariants.Test, declared.sites.SiteKind.TheVariants.Turn, declared.warning.WarningKind.TheVariants.Divides, declared.warning.WarningKind.TheVariants.Overflows, declared.warning.WarningKind.TheVariants.AlwaysTrue, declared.warning.WarningKind.TheVariants.AlwaysFalse, declared.warning.WarningKind.TheVariants.Unchanged, declared.warning.WarningKind.TheVariants.BareDo}
+use Rattle.kahn_warnings.specs.{declared.sites.SiteKind.SiteKind, declared.program.WarningKind.WarningKind, declared.sites.SiteKind.TheVariants.Binary, declared.sites.SiteKind.TheVariants.Test, declared.sites.SiteKind.TheVariants.Turn, declared.program.WarningKind.TheVariants.Divides, declared.program.WarningKind.TheVariants.Overflows, declared.program.WarningKind.TheVariants.AlwaysTrue, declared.program.WarningKind.TheVariants.AlwaysFalse, declared.program.WarningKind.TheVariants.Unchanged, declared.program.WarningKind.TheVariants.BareDo}
 
 -- ---- the value that an expression has wherever it is reached, where that is told
 

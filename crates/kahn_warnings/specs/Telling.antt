@@ -3,7 +3,7 @@ use Rattle.std.specs.Prelude.{◌≡◌, ℕ, List, map}
 use Rattle.kahn_streams.specs.declared.{span.Span.Span, tree.Program.Program}
 use Rattle.kahn_marks.specs.declared.rendering.{Note.Note, Sort.Sort}
 use Rattle.kahn_marks.specs.declared.rendering.Sort.TheVariants as sort
-use Rattle.kahn_warnings.specs.{Warnings.AreWarnings, declared.warning.Warning.Warning}
+use Rattle.kahn_warnings.specs.{Warnings.AreWarnings, declared.program.Warning.Warning}
 
 -- what a note is, and where it stands; on a warning
 abbrev pub note_place : Note → Sort × Span

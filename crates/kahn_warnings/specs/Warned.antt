@@ -1,7 +1,7 @@
 -- Believed. A warning of a part of the text.
 use Rattle.std.specs.Prelude.{List, [], ◌∷◌, Option, Some, None}
 use Rattle.kahn_streams.specs.declared.span.Span.{Span}
-use Rattle.kahn_warnings.specs.declared.warning.{Warning.Warning, WarningKind.WarningKind}
+use Rattle.kahn_warnings.specs.declared.program.{Warning.Warning, WarningKind.WarningKind}
 
 -- of this part; none where there is nothing to warn of, or the part stands nowhere
 abbrev pub warned : Option WarningKind → Option Span → List Warning

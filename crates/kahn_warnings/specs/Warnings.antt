@@ -7,8 +7,8 @@ use Rattle.kahn_streams.specs.{View.bytes_of, View.expression_of, View.stmt_of, 
 use Rattle.kahn_streams.specs.declared.{span.Span.Span, tree.Kind.Kind, tree.Name.Name, tree.Statement.Statement, tree.Parameter.Parameter, tree.Process.Process, tree.Instance.Instance, tree.Declaration.Declaration, tree.Program.Program, tree.Variable.Variable}
 use Rattle.kahn_streams.specs.declared.tree.Action.{Action, Block', If', While', Repeat', Row_of-Statement, end_of-Statement, more_of-Statement, Held-Action-If-2, None', Some'}
 use Rattle.kahn_streams.specs.declared.tree.Declaration.TheVariants as D
-use Rattle.kahn_warnings.specs.{Comments.AreCommentWarnings, Constants.constant_of, Constants.is_true, Constants.site_kind, Loops.is_seen, Loops.never_ends, Sites.body_sites, Uses.assigns, Uses.is_empty, Uses.uses_name, Warned.warned, declared.sites.ConstantSite.ConstantSite, declared.warning.Warning.Warning, declared.warning.WarningKind.WarningKind}
-use Rattle.kahn_warnings.specs.declared.warning.WarningKind.TheVariants.{NoInstance, Unused, Unread, StaysZero, StaysFalse, Idle, Unreached, BareThen, Beside}
+use Rattle.kahn_warnings.specs.{Comments.AreCommentWarnings, Constants.constant_of, Constants.is_true, Constants.site_kind, Loops.is_seen, Loops.never_ends, Sites.body_sites, Uses.assigns, Uses.is_empty, Uses.uses_name, Warned.warned, declared.sites.ConstantSite.ConstantSite, declared.program.Warning.Warning, declared.program.WarningKind.WarningKind}
+use Rattle.kahn_warnings.specs.declared.program.WarningKind.TheVariants.{NoInstance, Unused, Unread, StaysZero, StaysFalse, Idle, Unreached, BareThen, Beside}
 
 -- ---- a process without an instance
 

@@ -1,20 +1,20 @@
-//! All that is warned of in a program.
+//! All that is warned of in a program, and how it is told; and where its faults of arithmetic come from.
 
 ghost use Rattle.std.specs.Prelude.{◌≡◌, ◌++◌, ◌&&◌, ◌||◌, IfOk, None, if◌then◌else◌};
 ghost use Rattle.std.specs.{List.list_any, Option.option_or};
-ghost use Rattle.kahn_streams.specs.View.{Scope, statement_of};
-ghost use Rattle.kahn_warnings.specs.{Comments.AreCommentWarnings, Loops.LoopsHold, Loops.is_seen, Loops.never_ends, Uses.assigns, Uses.uses_name, Warnings.AreWarnings, Warnings.bare_kind, Warnings.body_warnings, Warnings.declaration_warnings, Warnings.is_of, Warnings.loop_kind, Warnings.name_kind, Warnings.name_warnings, Warnings.names_warnings, Warnings.process_kind, Warnings.statement_warnings, inner.Collecting.Are};
+ghost use Rattle.kahn_streams.specs.View.{Scope, body_of, statement_of};
+ghost use Rattle.kahn_warnings.specs.{Comments.AreCommentWarnings, Constants.site_kind, Loops.LoopsHold, Sites.action_sites, Sites.body_sites, Loops.is_seen, Loops.never_ends, Warnings.AreWarnings, Warnings.bare_kind, Warnings.body_warnings, Warnings.declaration_warnings, Warnings.is_of, Warnings.loop_kind, Warnings.name_kind, Warnings.names_warnings, Warnings.process_kind, Warnings.statement_warnings, Warned.warned, Telling.AreWarningNotes, Telling.note_place, Telling.warning_place, Faults.FaultsLie, Faults.fault_places, Faults.place_where};
 
-use crate::collected::{NameSet, has, is_empty, names_in, waits_in};
-use crate::constants::{add_constants, is_true};
-use crate::layout::misplaced;
-use crate::sites::constant_of;
-use crate::warning::WarningKind::{BareThen, Beside, Idle};
-use crate::warning::{Warning, WarningKind, add_warning};
-use kahn_streams::{
-    Action, Declaration, Instance, Kind, Name, NoMemory, Process, Program, Span, Statement,
+use crate::program::WarningKind::{BareThen, Idle, NoInstance};
+use crate::sites::{
+    ConstantSite, SiteKind, add_expression, add_site, has, is_empty, is_true, names_in, site_can,
+    sure_fault, truth, varies_by, waits_in,
 };
-use kahn_wanted::{comments_of, swallows};
+use kahn_marks::{Note, Other, Sort, simple};
+use kahn_streams::{
+    Action, Declaration, Failure, Instance, Kind, NoMemory, Process, Program, Span, Statement,
+};
+use kahn_wanted::{bytes_between, comments_of, swallows};
 use std::alloc::{AllocError, Global};
 
 /// The warnings of the comments of a text that has lexemes, in order. It refuses only where memory was refused.
@@ -39,14 +39,13 @@ fn has_instance(instances: &[Instance], process: &Process) -> bool
         == process.name.text.as_bytes())
 }
 
-/// What is warned of a process: that no instance names it.
 fn process_kind(instances: &[Instance], process: &Process) -> Option<WarningKind>
     ensures { result ≡ process_kind instances.now process.now }
 {
     if has_instance(instances, process) {
         return None;
     }
-    Some(WarningKind::NoInstance)
+    Some(NoInstance)
 }
 
 /// What is warned of a name that is used or isn't, and is assigned or isn't: of a variable of this kind, or of a parameter.
@@ -62,22 +61,6 @@ fn name_kind(is_used: bool, is_assigned: bool, variable: Option<Kind>) -> Option
     }
 }
 
-fn add_name(
-    warnings: &mut Vec<Warning>,
-    names: &(NameSet, NameSet),
-    _process: &Process,
-    variable: Option<Kind>,
-    name: &Name,
-) -> Result<(), AllocError>
-    requires used { Are (uses_name _process.now) names.now.0 }
-    requires assigned { Are (assigns _process.now) names.now.1 }
-    ensures { IfOk result (λ _. warnings.new.items ≡ warnings.old.items ++ name_warnings (uses_name _process.now) (assigns _process.now) variable name.now) }
-{
-    let kind = name_kind(has(&names.0, name), has(&names.1, name), variable);
-    add_warning(warnings, kind, Some(name.span))
-}
-
-/// Adds those of the parameters of a process, and then those of its variables.
 fn add_names(
     warnings: &mut Vec<Warning>,
     alloc: Global,
@@ -87,22 +70,29 @@ fn add_names(
 {
     let names = names_in(alloc, process)?;
     for parameter in &process.parameters {
-        add_name(warnings, &names, process, None, &parameter.name)?;
+        let name = &parameter.name;
+        let kind = name_kind(has(&names.0, name), has(&names.1, name), None);
+        add_warning(warnings, kind, Some(name.span))?;
     }
     for variable in &process.variables {
-        let kind = Some(variable.kind);
-        add_name(warnings, &names, process, kind, &variable.name)?;
+        let name = &variable.name;
+        let kind = name_kind(
+            has(&names.0, name),
+            has(&names.1, name),
+            Some(variable.kind),
+        );
+        add_warning(warnings, kind, Some(name.span))?;
     }
     Ok(())
 }
 
-/// What is warned of a loop, which may have no end, and may wait, send or print.
 fn loop_kind(is_endless: bool, is_seen: bool) -> Option<WarningKind>
     ensures { result ≡ loop_kind is_endless is_seen }
 {
-    match (is_endless, is_seen) {
-        (true, false) => Some(Idle),
-        (true, true) | (false, _) => None,
+    if is_endless & !is_seen {
+        Some(Idle)
+    } else {
+        None
     }
 }
 
@@ -117,11 +107,7 @@ fn bare_kind(yes: &Statement) -> Option<WarningKind>
 fn place_on(ends: bool, place: Option<Span>, next: Option<Span>) -> Option<Span>
     ensures { result ≡ option_or place (if ends then next else None) }
 {
-    match (place, ends) {
-        (Some(place), _) => Some(place),
-        (None, true) => next,
-        (None, false) => None,
-    }
+    place.or(if ends { next } else { None })
 }
 
 /// Whether an `if` never ends, by both branches, and whether it is seen, by its test too.
@@ -132,72 +118,103 @@ fn branched(waits: bool, yes: (bool, bool), no: (bool, bool)) -> (bool, bool)
     (yes.0 & no.0, waits | yes.1 | no.1)
 }
 
-/// Adds the warnings of a statement. Answers whether it never ends, and whether it waits, sends or prints anywhere.
+/// Adds the warnings of statements that stand one behind the other, and the places in them. Answers whether one of them never ends, and
+/// whether one waits, sends or prints anywhere.
+#[cycle(walk)]
+fn add_list(
+    warnings: &mut Vec<Warning>,
+    sites: &mut Vec<ConstantSite>,
+    alloc: Global,
+    statements: &[Statement],
+) -> Result<(bool, bool), AllocError>
+    ensures warnings { IfOk result (λ _. warnings.new.items ≡ warnings.old.items ++ body_warnings statements.now) }
+    ensures sites { IfOk result (λ _. sites.new.items ≡ sites.old.items ++ body_sites statements.now) }
+    ensures ends { IfOk result (λ course. (names : Scope) → course.0 ≡ never_ends (body_of names statements.now)) }
+    ensures seen { IfOk result (λ course. (names : Scope) → course.1 ≡ is_seen (body_of names statements.now)) }
+{
+    let mut ends = false;
+    let mut seen = false;
+    let mut place = None;
+    for statement in statements {
+        place = place_on(ends, place, statement.span);
+        let course = add_statement(warnings, sites, alloc, statement)?;
+        ends = ends | course.0;
+        seen = seen | course.1;
+    }
+    add_warning(warnings, Some(WarningKind::Unreached), place)?;
+    Ok((ends, seen))
+}
+
+#[cycle(walk)]
 fn add_statement(
     warnings: &mut Vec<Warning>,
+    sites: &mut Vec<ConstantSite>,
     alloc: Global,
     statement: &Statement,
 ) -> Result<(bool, bool), AllocError>
     ensures warnings { IfOk result (λ _. warnings.new.items ≡ warnings.old.items ++ statement_warnings statement.now.span statement.now.action) }
+    ensures sites { IfOk result (λ _. sites.new.items ≡ sites.old.items ++ action_sites statement.now.action) }
     ensures ends { IfOk result (λ course. (names : Scope) → course.0 ≡ never_ends (statement_of names statement.now)) }
     ensures seen { IfOk result (λ course. (names : Scope) → course.1 ≡ is_seen (statement_of names statement.now)) }
 {
     match &statement.action {
         Action::Empty => Ok((false, false)),
-        Action::Assign(_, expression) => Ok((false, waits_in(alloc, expression))),
-        Action::Send(_, _) | Action::Print(_) => Ok((false, true)),
-        Action::Block(statements) => {
-            let mut ends = false;
-            let mut seen = false;
-            let mut place = None;
-            for inner in statements {
-                place = place_on(ends, place, inner.span);
-                let course = add_statement(warnings, alloc, inner)?;
-                ends = ends | course.0;
-                seen = seen | course.1;
-            }
-            add_warning(warnings, Some(WarningKind::Unreached), place)?;
-            Ok((ends, seen))
+        Action::Assign(_, expression) => {
+            add_expression(sites, expression)?;
+            Ok((false, waits_in(alloc, expression)))
         }
+        Action::Send(expression, _) | Action::Print(expression) => {
+            add_expression(sites, expression)?;
+            Ok((false, true))
+        }
+        Action::Block(statements) => add_list(warnings, sites, alloc, statements),
         Action::If(test, yes, no) => {
-            let first = add_statement(warnings, alloc, yes)?;
+            let value = add_expression(sites, test)?;
+            add_site(sites, SiteKind::Test(value), test.span)?;
+            let first = add_statement(warnings, sites, alloc, yes)?;
             let Some(no) = no else {
                 add_warning(warnings, bare_kind(yes), statement.span)?;
                 return Ok(branched(waits_in(alloc, test), first, (false, false)));
             };
-            let second = add_statement(warnings, alloc, no)?;
+            let second = add_statement(warnings, sites, alloc, no)?;
             Ok(branched(waits_in(alloc, test), first, second))
         }
         Action::While(test, body) => {
-            let (_, seen) = add_statement(warnings, alloc, body)?;
-            let ends = is_true(constant_of(alloc, test)?);
+            let value = add_expression(sites, test)?;
+            let kind = SiteKind::Turn(value, varies_by(alloc, body, test)?, is_empty(body));
+            add_site(sites, kind, test.span)?;
+            let (_, seen) = add_statement(warnings, sites, alloc, body)?;
+            let ends = is_true(value);
             add_warning(warnings, loop_kind(ends, seen), statement.span)?;
             Ok((ends, waits_in(alloc, test) | seen))
         }
         Action::Repeat(body) => {
-            let (_, seen) = add_statement(warnings, alloc, body)?;
+            let (_, seen) = add_statement(warnings, sites, alloc, body)?;
             add_warning(warnings, loop_kind(true, seen), statement.span)?;
             Ok((true, seen))
         }
     }
 }
 
-fn add_body(
-    warnings: &mut Vec<Warning>,
-    alloc: Global,
-    statements: &[Statement],
-) -> Result<(), AllocError>
-    ensures { IfOk result (λ _. warnings.new.items ≡ warnings.old.items ++ body_warnings statements.now) }
+/// What is warned of an operator or of a test: one of a `while` that has no turn, or that nothing in the loop changes, which may be empty.
+fn site_kind(kind: SiteKind) -> Option<WarningKind>
+    ensures { result ≡ site_kind kind }
 {
-    let mut ends = false;
-    let mut place = None;
-    for statement in statements {
-        place = place_on(ends, place, statement.span);
-        let course = add_statement(warnings, alloc, statement)?;
-        ends = ends | course.0;
+    match kind {
+        SiteKind::Binary(operator, left, right) => match sure_fault(operator, left, right) {
+            None => None,
+            Some(Failure::Overflow) => Some(WarningKind::Overflows),
+            Some(Failure::Division) => Some(WarningKind::Divides),
+        },
+        SiteKind::Test(None) => None,
+        SiteKind::Test(Some(value)) if truth(value) => Some(WarningKind::AlwaysTrue),
+        SiteKind::Test(Some(_)) => Some(WarningKind::AlwaysFalse),
+        SiteKind::Turn(None, true, _) => None,
+        SiteKind::Turn(None, false, true) => Some(WarningKind::BareDo),
+        SiteKind::Turn(None, false, false) => Some(WarningKind::Unchanged),
+        SiteKind::Turn(Some(value), _, _) if truth(value) => None,
+        SiteKind::Turn(Some(_), _, _) => Some(WarningKind::AlwaysFalse),
     }
-    add_warning(warnings, Some(WarningKind::Unreached), place)?;
-    Ok(())
 }
 
 fn add_declaration(
@@ -214,15 +231,19 @@ fn add_declaration(
             let place = Some(process.name.span);
             add_warning(warnings, process_kind(instances, process), place)?;
             add_names(warnings, alloc, process)?;
-            add_body(warnings, alloc, &process.statements)?;
-            add_constants(warnings, alloc, &process.statements)
+            let mut sites = Vec::new(alloc);
+            add_list(warnings, &mut sites, alloc, &process.statements)?;
+            for site in &sites {
+                add_warning(warnings, site_kind(site.kind), Some(site.span))?;
+            }
+            Ok(())
         }
     }
 }
 
 /// All that is warned of in a program of this text: the comments first, then one process after another, and then by indentation. It
 /// refuses only where memory was refused.
-pub fn warnings(alloc: Global, program: &Program, text: &str) -> Result<Vec<Warning>, NoMemory>
+fn warnings(alloc: Global, program: &Program, text: &str) -> Result<Vec<Warning>, NoMemory>
     ensures { IfOk result (λ ws. AreWarnings text.now program.now ws.items) }
 {
     let mut warnings = comment_warnings(alloc, text)?;
@@ -231,7 +252,7 @@ pub fn warnings(alloc: Global, program: &Program, text: &str) -> Result<Vec<Warn
     }
     let spans = misplaced(alloc, text, program)?;
     for span in &spans {
-        add_warning(&mut warnings, Some(Beside), Some(*span))?;
+        add_warning(&mut warnings, Some(WarningKind::Beside), Some(*span))?;
     }
     Ok(warnings)
 }
@@ -241,4 +262,232 @@ pub fn warnings(alloc: Global, program: &Program, text: &str) -> Result<Vec<Warn
 #[tactic(auto, using(crate::proofs::Unseen::loops_hold))]
 pub fn loops_hold()
     ensures { LoopsHold }
+{}
+
+#[derive(Clone, Copy)]
+pub(crate) enum WarningKind {
+    LongComment,
+    NoInstance,
+    Unused,
+    Unread,
+    StaysZero,
+    StaysFalse,
+    Idle,
+    Unreached,
+    Divides,
+    Overflows,
+    AlwaysTrue,
+    AlwaysFalse,
+    Unchanged,
+    BareDo,
+    BareThen,
+    Beside,
+}
+
+/// A warning, and the part of the text that it is about.
+#[derive(Clone, Copy)]
+pub(crate) struct Warning {
+    pub kind: WarningKind,
+    /// The whole comment; the name of the process, of the parameter or of the variable where it is declared; the loop; the
+    /// first statement that isn't reached, or doesn't belong to the `if`; the right operand, or the one behind a sign; the test; or the `if`.
+    pub span: Span,
+}
+
+/// Adds the warning of a part, where there is something to warn of and the part stands anywhere.
+fn add_warning(
+    warnings: &mut Vec<Warning>,
+    kind: Option<WarningKind>,
+    place: Option<Span>,
+) -> Result<(), AllocError>
+    ensures { IfOk result (λ _. warnings.new.items ≡ warnings.old.items ++ warned kind place) }
+{
+    match (kind, place) {
+        (None, _) | (Some(_), None) => Ok(()),
+        (Some(kind), Some(span)) => Ok(warnings.push(Warning { kind, span })?),
+    }
+}
+
+fn warning_words(kind: WarningKind) -> &'static str {
+    match kind {
+        WarningKind::LongComment =>
+            "comment goes on to a later line, over what reads like a statement",
+        WarningKind::NoInstance => "process has no instance",
+        WarningKind::Unused => "name is never used",
+        WarningKind::Unread => "name is assigned, and never read",
+        WarningKind::StaysZero => "name is read, and never assigned: it is always 0",
+        WarningKind::StaysFalse => "name is read, and never assigned: it is always false",
+        WarningKind::Idle => "loop never ends, and doesn't wait, send or print",
+        WarningKind::Unreached =>
+            "statement is never reached: one before it never ends; `begin` and `end` make one statement of several",
+        WarningKind::Divides => "divisor is always 0",
+        WarningKind::Overflows => "result is always out of range: overflow",
+        WarningKind::AlwaysTrue => "test is always true",
+        WarningKind::AlwaysFalse => "test is always false",
+        WarningKind::Unchanged =>
+            "nothing in the loop changes this test; `begin` and `end` make one statement of several",
+        WarningKind::BareDo =>
+            "nothing stands behind `do`, so nothing changes this test: a statement behind `;` is not in the loop",
+        WarningKind::BareThen =>
+            "nothing stands behind `then`: a statement behind `;` is always done",
+        WarningKind::Beside =>
+            "statement is indented like the one before it, and isn't part of the same `if` or loop; `begin` and `end` make one statement of several",
+    }
+}
+
+fn note_of(alloc: Global, warning: Warning) -> Result<Note, AllocError>
+    ensures { IfOk result (λ note. note_place note ≡ warning_place warning) }
+{
+    let words = warning_words(warning.kind);
+    let mut note = simple(alloc, Sort::Warning, warning.span, words)?;
+    if let WarningKind::LongComment = warning.kind {
+        let to = warning.span.to;
+        let from = to.saturating_sub(1);
+        let span = Span { from, to };
+        let words = String::from_str(alloc, "comment ends here")?;
+        note.others.push(Other { span, words })?;
+    }
+    Ok(note)
+}
+
+/// The notes on what is warned of in a program of this text, in order. It refuses only where memory was refused.
+pub fn warning_notes(alloc: Global, text: &str, program: &Program) -> Result<Vec<Note>, NoMemory>
+    ensures { IfOk result (λ notes. AreWarningNotes text.now program.now notes.items) }
+{
+    let warnings = warnings(alloc, program, text)?;
+    let mut notes = Vec::new(alloc);
+    for warning in &warnings {
+        notes.push(note_of(alloc, *warning)?)?;
+    }
+    Ok(notes)
+}
+
+/// The line of a place, up to there: the column behind that, how deep the line is indented, and whether nothing but blanks stands on it so
+/// far. A tab goes to the next multiple of 8.
+fn line_before(text: &str, at: usize) -> (usize, usize, bool) {
+    let before = bytes_between(text, 0, at);
+    let end = before.iter().rposition(|byte| *byte == b'\n');
+    let from = end.map_or(0, |end| end.saturating_add(1));
+    let (mut column, mut deep, mut blank) = (0usize, 0usize, true);
+    for byte in bytes_between(text, from, at) {
+        if *byte == b'\t' {
+            column |= 7;
+        }
+        column = column.saturating_add(1);
+        blank = blank && (*byte == b' ' || *byte == b'\t');
+        if blank {
+            deep = column;
+        }
+    }
+    (column, deep, blank)
+}
+
+/// Whether a statement looks like a part of the `if` or the loop of one that stands behind a `then`, an `else`, a `do` or a `repeat`: that is
+/// deeper than the line of this, and the statement begins a later line in its column; or it stands on the line that the other one begins.
+fn is_under(text: &str, inner: Span, next: Span) -> bool {
+    let (column, _, is_first) = line_before(text, next.from);
+    let (other, _, is_other_first) = line_before(text, inner.from);
+    let guard = text.get(..inner.from).unwrap_or("").trim_end().len();
+    let is_later = bytes_between(text, inner.from, next.from).contains(&b'\n');
+    let is_alike = (is_later & is_first & (other == column)) | (!is_later & is_other_first);
+    is_alike && line_before(text, guard).1 < other
+}
+
+/// Adds those within statements that stand one behind the other, and those of them that are indented as if they belonged to the one before.
+#[cycle(layout)]
+fn add_under(
+    spans: &mut Vec<Span>,
+    text: &str,
+    statements: &[Statement],
+) -> Result<(), AllocError> {
+    for (number, statement) in statements.iter().enumerate() {
+        let next = statements.get(number.saturating_add(1));
+        add_within(
+            spans,
+            text,
+            statement,
+            next.and_then(|next| next.span),
+            false,
+        )?;
+    }
+    Ok(())
+}
+
+/// Adds those within a statement, which may be guarded by a `then`, an `else`, a `do` or a `repeat`; and the next statement, if this one is no
+/// block, and that looks like a part of what this is a part of, or ends with.
+#[cycle(layout)]
+fn add_within(
+    spans: &mut Vec<Span>,
+    text: &str,
+    statement: &Statement,
+    next: Option<Span>,
+    guarded: bool,
+) -> Result<(), AllocError> {
+    let is_block = matches!(statement.action, Action::Block(_));
+    let mut behind = next;
+    if let (true, false, Some(span), Some(next)) = (guarded, is_block, statement.span, next) {
+        if is_under(text, span, next) {
+            spans.push(next)?;
+            behind = None;
+        }
+    }
+    match &statement.action {
+        Action::Block(statements) => add_under(spans, text, statements),
+        Action::If(_, yes, Some(no)) => {
+            add_within(spans, text, yes, None, true)?;
+            add_within(spans, text, no, behind, true)
+        }
+        Action::If(_, body, None) => add_within(spans, text, body, behind, true),
+        Action::While(_, body) | Action::Repeat(body) => {
+            add_within(spans, text, body, behind, true)
+        }
+        _ => Ok(()),
+    }
+}
+
+pub(crate) fn misplaced(
+    alloc: Global,
+    text: &str,
+    program: &Program,
+) -> Result<Vec<Span>, AllocError> {
+    let mut spans = Vec::new(alloc);
+    for declaration in &program.declarations {
+        if let Declaration::Process(process) = declaration {
+            add_under(&mut spans, text, &process.statements)?;
+        }
+    }
+    Ok(spans)
+}
+
+fn add_where(places: &mut Vec<Span>, can: bool, at: Span) -> Result<(), AllocError>
+    ensures { IfOk result (λ _. places.new.items ≡ places.old.items ++ place_where can at) }
+{
+    if can {
+        places.push(at)?;
+    }
+    Ok(())
+}
+
+/// The operands in a body by which a fault can come, in the order of the text: of an operator its right one, of a sign its only one.
+pub fn fault_places(
+    alloc: Global,
+    failure: Failure,
+    statements: &[Statement],
+) -> Result<Vec<Span>, AllocError>
+    ensures { IfOk result (λ places. places.items ≡ fault_places failure statements.now) }
+{
+    let mut warnings = Vec::new(alloc);
+    let mut sites = Vec::new(alloc);
+    add_list(&mut warnings, &mut sites, alloc, statements)?;
+    let mut places = Vec::new(alloc);
+    for site in &sites {
+        add_where(&mut places, site_can(failure, site.kind), site.span)?;
+    }
+    Ok(places)
+}
+
+/// The law of faults: an operator that isn't told has no such fault, whatever its operands are; a body in which none is told never ends
+/// with that fault, so an instance that has it in the solution has a place. Its contract is what it does.
+#[tactic(auto, using(crate::proofs::Nowhere::faults_lie))]
+pub fn faults_lie()
+    ensures { FaultsLie }
 {}

@@ -30,6 +30,12 @@ told_placed program f span n e there is mends =
     (λ at. (m : Note) × (Some n ≡ Some m) × (m.span ≡ at) × IsRefusedWords f (string_bytes m.words) × IfSome m.fix (Mends program at))) (sym e)
     (n, refl, there, is, mends)
 
+-- of one that has none
+pub told_unplaced : (program : List ℕ) (f : SyntaxFault) (note : Option Note) → note ≡ None → syntax_span f ≡ None → IsPlacedNote program f note
+told_unplaced program f note is e =
+    subst (λ o. MatchOption o (note ≡ None)
+    (λ at. (m : Note) × (note ≡ Some m) × (m.span ≡ at) × IsRefusedWords f (string_bytes m.words) × IfSome m.fix (Mends program at))) (sym e) is
+
 -- and of the others
 pub told_other : (program : List ℕ) (f : SyntaxFault) (note : Option Note) → expected_of f ≡ None → IsPlacedNote program f note → IsSyntaxNote program f note
 told_other program f note e h =

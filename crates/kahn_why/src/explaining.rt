@@ -1,16 +1,24 @@
-//! What explaining comes to: from a program text to its network, or to why it or the input text is refused.
+//! What explaining comes to: why a program text or an input text is refused, and what is warned of, in lines or as data.
 
-ghost use Rattle.std.specs.Prelude.{◌++◌, Bool, IfOk};
-ghost use Rattle.kahn_fault.specs.Work.{IsUnchecked};
-ghost use Rattle.kahn_why.specs.{Telling.AreInputLines, Telling.HasToldInput, inner.Told.HasAdmitted, inner.Told.HasRefused, inner.Told.HasWritten, inner.Told.IsStrictAbout};
+ghost use Rattle.std.specs.Prelude.{◌++◌, Bool, IfOk, ◌≡◌, All, MatchOption, None, string_bytes};
+ghost use Rattle.kahn_fault.specs.{Work.IsUnchecked, Message.check_span};
+ghost use Rattle.kahn_why.specs.{Telling.AreInputLines, Telling.HasToldInput, inner.Told.HasAdmitted, inner.Told.HasRefused, inner.Told.HasWritten, inner.Told.IsStrictAbout, Noting.AreWarningLines, Noting.StandsIn, Refusing.IsNoteOn, Refusing.IsRefusal, Refusing.IsRefusedWords, Refusing.IsRenderedAs, Refusing.IsSyntaxNote, Refusing.expected_of, Data.HasToldData};
+ghost use Rattle.kahn_syntax.specs.Texts.{IsTextFault as IsSyntaxFault};
 
-use crate::refusing::{refusal_note, rendered, warned_lines};
 use crate::why::Finding;
-use kahn_fault::{WorkFault, checked};
+use itoa::Buffer;
+use kahn_check::{CheckFault, check, every, part_by_part};
+use kahn_fault::{WorkFault, check_span, checked, syntax_span, syntax_words};
+use kahn_hints::fault_notes;
 use kahn_inputs::input_note;
-use kahn_streams::{Network, NoMemory, RunFault};
-use kahn_texts::{TextFault, write_line};
-use std::alloc::Global;
+use kahn_marks::{MOST_NOTES, Note, Sort, add, add_more, first_ones, padded, place, render};
+use kahn_notes::{character_help, commented_note, held_remark, unexpected_note};
+use kahn_streams::{Network, NoMemory, Program, RunFault, Span};
+use kahn_syntax::{SyntaxFault, What, parse};
+use kahn_texts::{TextFault, read_input, write_line};
+use kahn_wanted::comments_of;
+use kahn_warnings::warning_notes;
+use std::alloc::{AllocError, Global};
 use std::io::Write;
 
 /// What the explaining came to.
@@ -122,5 +130,320 @@ pub fn refuse_input<W: Write>(
         Ok(Some(note)) => write_both("", note.as_str(), Came::Refused, writer),
         Ok(None) => Err(WorkFault::Text(fault)),
         Err(NoMemory) => Err(WorkFault::Run(RunFault::NoMemory)),
+    }
+}
+
+/// The words of a fault of a program text, with what the language has in the place of such a character.
+fn refused_words(alloc: Global, program: &str, fault: SyntaxFault) -> Result<String, AllocError>
+    ensures { IfOk result (λ words. IsRefusedWords fault (string_bytes words)) }
+{
+    let mut words = String::from_str(alloc, syntax_words(fault))?;
+    words.push_str(character_help(program, fault))?;
+    Ok(words)
+}
+
+fn expected_of(fault: SyntaxFault) -> Option<(Span, What)>
+    ensures { result ≡ expected_of fault }
+{
+    match fault {
+        SyntaxFault::Expected(span, what) => Some((span, what)),
+        _ => None,
+    }
+}
+
+fn syntax_note(alloc: Global, program: &str, fault: SyntaxFault) -> Result<Option<Note>, NoMemory>
+    requires { IsSyntaxFault program.now fault }
+    ensures { IfOk result (IsSyntaxNote program.now fault) }
+{
+    match expected_of(fault) {
+        Some((span, what)) => {
+            let note = unexpected_note(alloc, program, span, what)?;
+            Ok(Some(note))
+        }
+        None => match syntax_span(fault) {
+            Some(span) => {
+                let words = refused_words(alloc, program, fault)?;
+                let placed = commented_note(alloc, program, span, words.as_str())?;
+                Ok(Some(placed))
+            }
+            None => Ok(None),
+        },
+    }
+}
+
+fn rendered(
+    alloc: Global,
+    path: &str,
+    program: &str,
+    note: &Option<Note>,
+) -> Result<Option<String>, AllocError>
+    ensures { IfOk result (IsRenderedAs path.now program.now note.now) }
+{
+    match note {
+        Some(note) => Ok(Some(render(alloc, path, program, note)?)),
+        None => Ok(None),
+    }
+}
+
+/// What is said below the note on a name that isn't declared: of the comment that holds its declaration.
+fn held_words(
+    alloc: Global,
+    text: &str,
+    comments: &[Span],
+    faults: &[CheckFault],
+    note: &Note,
+) -> Result<String, AllocError> {
+    let from = note.span.from;
+    let mut all = faults.iter();
+    if all.any(|fault| matches!(fault, CheckFault::Unknown(span) if span.from == from)) {
+        return held_remark(alloc, text, note.span, comments);
+    }
+    Ok(String::new(alloc))
+}
+
+/// Notes in lines, with such a text between, and what is said below those on these faults of a program whose text has these comments.
+fn note_lines(
+    alloc: Global,
+    path: &str,
+    text: &str,
+    notes: &[Note],
+    between: &str,
+    comments: &[Span],
+    faults: &[CheckFault],
+) -> Result<String, AllocError>
+    ensures { IfOk result (λ lines. All (StandsIn path.now text.now (string_bytes lines)) notes.now) }
+{
+    let mut lines = String::new(alloc);
+    for note in notes {
+        let held = held_words(alloc, text, comments, faults, note)?;
+        let one = render(alloc, path, text, note)?;
+        lines.push_str(if lines.is_empty() { "" } else { between })?;
+        lines.push_str(one.as_str())?;
+        lines.push_str(held.as_str())?;
+    }
+    Ok(lines)
+}
+
+/// The notes on what is warned of in a program of this text, at most 20 of them, and how many more there are; the empty text where there is
+/// nothing to warn of. It refuses only where memory was refused.
+fn warned_lines(
+    alloc: Global,
+    path: &str,
+    text: &str,
+    program: &Program,
+) -> Result<String, NoMemory>
+    ensures { IfOk result (λ lines. AreWarningLines path.now text.now program.now (string_bytes lines)) }
+{
+    let notes = warning_notes(alloc, text, program)?;
+    if notes.is_empty() {
+        return Ok(String::new(alloc));
+    }
+    let (told, more) = first_ones(&notes, MOST_NOTES);
+    let mut lines = note_lines(alloc, path, text, told, "", &[], &[])?;
+    add_more(&mut lines, "", "warning", more.len())?;
+    Ok(lines)
+}
+
+/// The notes on what is wrong with the network of a program text, with a blank line between, and how many more faults there are, where its
+/// first fault has a place.
+fn network_note(
+    alloc: Global,
+    path: &str,
+    program: &str,
+    fault: CheckFault,
+) -> Result<Option<String>, NoMemory>
+    ensures { IfOk result (λ note. MatchOption note (check_span fault ≡ None) (IsNoteOn path.now program.now)) }
+{
+    if check_span(fault).is_none() {
+        return Ok(None);
+    }
+    // A text that was checked is refused for want of memory alone, and what it spells has a fault.
+    let Ok(tree) = parse(alloc, program) else {
+        return Err(NoMemory);
+    };
+    let faults = every(alloc, &tree)?;
+    if faults.is_empty() {
+        return Err(NoMemory);
+    }
+    part_by_part();
+    let comments = comments_of(alloc, program)?;
+    let told = fault_notes(alloc, program, &tree, &faults)?;
+    let (notes, between) = (&told.notes, "\n");
+    let mut lines = note_lines(alloc, path, program, notes, between, &comments, &faults)?;
+    add_more(&mut lines, between, "fault", told.more)?;
+    Ok(Some(lines))
+}
+
+/// The note on a fault of a program text, where it has a place: what stands there and what may stand there, or the words of
+/// the fault with what is wanted and what is found, the nearest name, and another place that has to do with it. Of a network each
+/// part that has a fault is told, but for those that seem to follow from another one. It refuses only where memory was refused.
+#[tactic(auto, using(crate::proofs::Refused::told_syntax))]
+fn refusal_note(
+    alloc: Global,
+    path: &str,
+    program: &str,
+    fault: WorkFault,
+) -> Result<Option<String>, NoMemory>
+    requires { IsUnchecked program.now fault }
+    ensures { IfOk result (λ note. MatchOption note (IsRefusal path.now program.now fault None) (IsNoteOn path.now program.now)) }
+{
+    match fault {
+        WorkFault::Syntax(fault) => {
+            let note = syntax_note(alloc, program, fault)?;
+            Ok(rendered(alloc, path, program, &note)?)
+        }
+        WorkFault::Check(fault) => network_note(alloc, path, program, fault),
+        WorkFault::Text(_) | WorkFault::Run(_) | WorkFault::Write(_) => Ok(None),
+    }
+}
+
+/// Adds a text as a string of JSON, behind what stands before it; a control character that no program has is U+FFFD.
+fn add_string(json: &mut String, before: &str, text: &str) -> Result<(), AllocError> {
+    add(json, &[before, "\""])?;
+    for character in text.chars() {
+        match character {
+            '"' => json.push_str("\\\"")?,
+            '\\' => json.push_str("\\\\")?,
+            '\n' => json.push_str("\\n")?,
+            '\r' => json.push_str("\\r")?,
+            '\t' => json.push_str("\\t")?,
+            '\0'..='\u{1F}' => json.push_str("\u{FFFD}")?,
+            _ => json.push(character)?,
+        }
+    }
+    json.push_str("\"")
+}
+
+fn add_number(json: &mut String, name: &str, number: usize) -> Result<(), AllocError> {
+    let mut digits = Buffer::new();
+    add(json, &[name, digits.format(number)])
+}
+
+/// Adds where a part of a text begins, and where what stands behind it does: by line and column, and by the byte.
+fn add_part(json: &mut String, before: &str, text: &str, span: Span) -> Result<(), AllocError> {
+    let from = span.from.min(text.len());
+    let to = span.to.min(text.len()).max(from);
+    let ((line, column), (last, behind)) = (place(text, from), place(text, to));
+    json.push_str(before)?;
+    add_number(json, "\"line\":", line)?;
+    add_number(json, ",\"column\":", column)?;
+    add_number(json, ",\"end_line\":", last)?;
+    add_number(json, ",\"end_column\":", behind)?;
+    add_number(json, ",\"from\":", from)?;
+    add_number(json, ",\"to\":", to)
+}
+
+/// Adds a note as an object of JSON and a line end. Lines and columns are counted from 1 and bytes from 0; what ends a part stands behind
+/// it. It refuses only where memory was refused.
+fn add_json(
+    json: &mut String,
+    alloc: Global,
+    path: &str,
+    text: &str,
+    note: &Note,
+) -> Result<(), AllocError> {
+    add_string(json, "{\"path\":", path)?;
+    let sort = match note.sort {
+        Sort::Error => ",\"sort\":\"error\",",
+        Sort::Warning => ",\"sort\":\"warning\",",
+        Sort::Note => ",\"sort\":\"note\",",
+    };
+    add_part(json, sort, text, note.span)?;
+    add_string(json, ",\"words\":", note.words.as_str())?;
+    if let Some(fix) = &note.fix {
+        add_part(json, ",\"fix\":{", text, fix.span)?;
+        add_string(json, ",\"put\":", padded(alloc, text, fix)?.as_str())?;
+        json.push_str("},\"below\":[")?;
+    } else {
+        json.push_str(",\"fix\":null,\"below\":[")?;
+    }
+    for (number, sentence) in note.below.iter().enumerate() {
+        add_string(json, if number == 0 { "" } else { "," }, sentence.as_str())?;
+    }
+    json.push_str("],\"others\":[")?;
+    for (number, other) in note.others.iter().enumerate() {
+        add_part(json, if number == 0 { "{" } else { ",{" }, text, other.span)?;
+        add_string(json, ",\"words\":", other.words.as_str())?;
+        json.push_str("}")?;
+    }
+    json.push_str("]}\n")
+}
+
+/// The notes on the texts: on why the program text is refused, or what is warned of; or why the input text is, and that they are on it.
+fn notes_on(
+    alloc: Global,
+    program: &str,
+    input: &str,
+    strict: bool,
+) -> Result<(Vec<Note>, bool), NoMemory> {
+    let mut notes = Vec::new(alloc);
+    let tree = match parse(alloc, program) {
+        Ok(tree) => tree,
+        Err(fault) => {
+            if let Some(note) = syntax_note(alloc, program, fault)? {
+                notes.push(note)?;
+            }
+            return Ok((notes, false));
+        }
+    };
+    let faults = every(alloc, &tree)?;
+    if !faults.is_empty() {
+        return Ok((fault_notes(alloc, program, &tree, &faults)?.notes, false));
+    }
+    let Ok(network) = check(alloc, tree) else {
+        return Err(NoMemory);
+    };
+    let warnings = warning_notes(alloc, program, network.program())?;
+    if strict && !warnings.is_empty() {
+        return Ok((warnings, false));
+    }
+    if let Err(fault) = read_input(alloc, input, &network) {
+        if let Some(note) = input_note(alloc, &network, input, fault)? {
+            notes.push(note)?;
+            return Ok((notes, true));
+        }
+    }
+    Ok((warnings, false))
+}
+
+fn data_lines(
+    alloc: Global,
+    paths: (&str, &str),
+    program: &str,
+    input: &str,
+    strict: bool,
+) -> Result<String, NoMemory> {
+    let (notes, is_on_input) = notes_on(alloc, program, input, strict)?;
+    let (path, text) = if is_on_input {
+        (paths.1, input)
+    } else {
+        (paths.0, program)
+    };
+    let mut lines = String::new(alloc);
+    for note in &notes {
+        add_json(&mut lines, alloc, path, text, note)?;
+    }
+    Ok(lines)
+}
+
+/// Writes the notes on a program text and on an input text for it as data, where they were looked at and that came to something: an object
+/// of JSON on a line for each. A fault that looking at them came to is answered.
+pub fn write_data<W: Write>(
+    alloc: Global,
+    paths: (&str, &str),
+    program: &str,
+    input: &str,
+    strict: bool,
+    came: Result<Came, WorkFault>,
+    writer: &mut W,
+) -> Result<Came, WorkFault>
+    ensures { HasToldData came (W.contents writer.old) (W.contents writer.new) result }
+{
+    match came {
+        Ok(came) => match data_lines(alloc, paths, program, input, strict) {
+            Ok(lines) => write_both("", lines.as_str(), came, writer),
+            Err(NoMemory) => Err(WorkFault::Run(RunFault::NoMemory)),
+        },
+        Err(fault) => Err(fault),
     }
 }

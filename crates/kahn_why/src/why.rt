@@ -2,6 +2,5 @@
 
 mod lines;
 mod told;
-mod words;
 
 pub use told::{Explanation, Finding, causes, explained, for_good};

@@ -6,8 +6,7 @@ ghost use Rattle.kahn_streams.specs.{Network.Schema, Network.network_of, Answers
 ghost use Rattle.kahn_chain.specs.Chain.{AreStandings, stands};
 ghost use Rattle.kahn_why.specs.{Why.AreCauses, Why.IsExplained, Why.LastForGood, Why.StayForGood, Why.came_to, Why.finding_lead, Why.has_fault, Why.has_ring, Why.is_fault, Why.is_ring, Why.is_silent, Why.standings_of, inner.Told.IsToldWhy};
 
-use crate::why::lines::add_causes;
-use crate::why::words::{Story, Wrote, add_count, add_those, is_fed, led_to};
+use crate::why::lines::{Story, add_causes, add_count, add_those, is_fed, led_to};
 use itoa::Buffer;
 use kahn_chain::{Cause, Reason, reasons};
 use kahn_marks::add;
@@ -72,7 +71,6 @@ fn came_to(verdict: Verdict, reasons: &[Reason]) -> Finding
     }
 }
 
-/// Whether nothing is told of a run that came to that.
 fn is_silent(finding: Finding) -> bool
     ensures { result ≡ is_silent finding }
 {
@@ -129,13 +127,11 @@ fn is_all_taken(story: &Story) -> bool {
 /// stopped too, and how many processes want more events.
 fn behind_lead(story: &Story, finding: Finding) -> Result<String, AllocError> {
     let mut text = String::new(story.alloc);
-    if let Finding::Stop(Verdict::Finished) = finding {
-        if is_all_taken(story) {
-            text.push_str("; all input was taken")?;
-        }
-        return Ok(text);
-    }
     let rings = count_of(story.reasons, Finding::Deadlock);
+    let stop = Finding::Stop(story.verdict);
+    if matches!(finding, Finding::Stop(Verdict::Finished)) && is_all_taken(story) {
+        text.push_str("; all input was taken")?;
+    }
     if rings > 0 && matches!(finding, Finding::Fault) {
         text.push_str("; ")?;
         add_lead(&mut text, Finding::Deadlock, rings)?;
@@ -143,15 +139,16 @@ fn behind_lead(story: &Story, finding: Finding) -> Result<String, AllocError> {
     let first = story.reasons.iter().find(|one| is_first_on_ring(one));
     if let (1, Some(first)) = (rings, first) {
         let those = led_to(story, first.instance, true)?;
-        let (one, several) = (" waits on itself", " wait on one another");
-        add_those(&mut text, story.network, &those, one, several)?;
+        add_those(&mut text, story, &those)?;
+        let is_own = those.len() == 1;
+        let whom = if is_own { "itself" } else { "one another" };
+        add(&mut text, &[" on ", whom])?;
     }
-    let is_stopped = !matches!(story.verdict, Verdict::Finished);
-    if is_stopped && !matches!(finding, Finding::Stop(_)) {
+    if !is_silent(stop) && !matches!(finding, Finding::Stop(_)) {
         text.push_str("; ")?;
-        add_lead(&mut text, Finding::Stop(story.verdict), 0)?;
+        add_lead(&mut text, stop, 0)?;
     }
-    let wanting = count_of(story.reasons, Finding::Stop(story.verdict));
+    let wanting = count_of(story.reasons, stop);
     if wanting > 0 {
         text.push_str(": ")?;
         let (one, several) = (" process wants more events", " processes want more events");
