@@ -1,7 +1,7 @@
 -- Believed. A run of the program, from the bytes of the two texts to the bytes that go out and the exit status (this project's profile).
 use Rattle.std.specs.Prelude.{◌≡◌, ℕ, List, Option, Result, Ok, Err, IfOk, string_bytes}
 use Rattle.kahn_streams.specs.{declared.config.Config.Config, Written.Writes, declared.answer.Verdict.Verdict}
-use Rattle.kahn_fault.specs.{Work.FinishesWithin, Work.IsWorked, declared.work.WorkFault.WorkFault, Status.status_of, Telling.told_text, declared.fault.Fault.Fault, declared.telling.Told.Told, declared.texts.Texts.Texts, declared.fault.Fault.TheVariants.Work}
+use Rattle.kahn_fault.specs.{Work.FinishesWithin, Work.IsWorked, declared.work.WorkFault.WorkFault, Status.status_of, Telling.told_text, declared.fault.Fault.Fault, declared.fault.Told.Told, declared.texts.Texts.Texts, declared.fault.Fault.TheVariants.Work}
 
 -- the result of the run of two texts that were read
 abbrev pub run_answer : Result Verdict WorkFault → Result Verdict Fault

@@ -1,7 +1,7 @@
 -- Believed. A run of the program, from the bytes of the two texts to the bytes that go out and the exit status (this project's profile).
 use Rattle.std.specs.Prelude.{◌≡◌, ℕ, List, Option, Some, None, Result, Ok, Err, string_bytes}
 use Rattle.kahn_streams.specs.{Written.Writes, declared.answer.Verdict.Verdict, declared.answer.Verdict.TheVariants.Finished}
-use Rattle.kahn_fault.specs.{declared.work.WorkFault.WorkFault, Status.status_of, Telling.WasWritten, Telling.pointer_text, Telling.told_text, declared.fault.Fault.Fault, declared.fault.Fault.TheVariants.Work, declared.telling.Told.Told, declared.texts.Texts.Texts}
+use Rattle.kahn_fault.specs.{declared.work.WorkFault.WorkFault, Status.status_of, Telling.WasWritten, Telling.pointer_text, Telling.told_text, declared.fault.Fault.Fault, declared.fault.Fault.TheVariants.Work, declared.fault.Told.Told, declared.texts.Texts.Texts}
 use Rattle.kahn_draw.specs.{Drawing.IsDrawn, declared.drawing.Drawn.Drawn}
 
 -- what drawing came to, in the words of a run

@@ -1,6 +1,6 @@
 -- What the parts of a sheet say of the whole.
 use Rattle.kahn_explain.proofs.Common.{◌≡◌, ℕ, List, [], ◌++◌, Option, Result, Ok, Err, inl, inr, refl, string_bytes, subst, sym, Appends, Appends-nil, Config, NoMemory, WorkFault, Syntax, Check, Text, Run, Write, HasRefused, HasWritten, IsAdmitted, Admitted, Came, Stopped, Refused, Request, IsUntraced, HasReplied, IsReplyFor, notes_for}
-use Rattle.kahn_explain.specs.{declared.replying.Reply.Reply, declared.request.Sheet.Sheet}
+use Rattle.kahn_explain.specs.{declared.running.Reply.Reply, declared.running.Sheet.Sheet}
 use Rattle.kahn_explain.proofs.Parts.{unfed, unrun}
 
 module _ (x : Request) (kind : Sheet) (config : Config) where

@@ -4,13 +4,13 @@ use Rattle.std.specs.Str.Parse.{IsNumeral, digits_value, without_leading_plus}
 use Rattle.kahn_streams.specs.{declared.answer.Stream.Stream, declared.answer.Verdict.Verdict, declared.answer.Verdict.TheVariants.Finished, declared.answer.Verdict.TheVariants.Bound, declared.answer.Verdict.TheVariants.Memory, declared.config.Config.Config, declared.tree.Program.Program, declared.value.Line.Line, declared.value.Line.TheVariants.Channel, declared.value.Line.TheVariants.Print, declared.value.Value.Value, Inputs.Lists, Inputs.inputs_of, Inputs.IsNameOf, Inputs.IsNoName, Network.Given, Network.Schema, Network.network_of, Solution.Inputs, Solution.source}
 use Rattle.kahn_needs.specs.{Finding.AreNeedsFound, Needs.AreNeeds, Needs.Cut, declared.needs.Found.Found, declared.needs.Needs.Needs}
 use Rattle.kahn_needs.specs.declared.needs.Found.TheVariants as found
-use Rattle.kahn_sequential.specs.declared.recorded.Recorded.{Recorded}
+use Rattle.kahn_sequential.specs.declared.counted.Recorded.{Recorded}
 use Rattle.kahn_texts.specs.Formats.{StandsFor}
 use Rattle.kahn_fault.specs.Work.{IsChecked}
 use Rattle.kahn_why.specs.{declared.why.told.Finding.Finding, declared.why.told.Finding.TheVariants.Stop}
 use Rattle.kahn_line.specs.Parts.{parted}
-use Rattle.kahn_explain.specs.{Histories.IsRecordedFor, declared.needing.asked.AskFault.AskFault, declared.needing.asked.Question.Question}
-use Rattle.kahn_explain.specs.declared.needing.asked.AskFault.TheVariants as ask
+use Rattle.kahn_explain.specs.{Histories.IsRecordedFor, declared.needing.AskFault.AskFault, declared.needing.Question.Question}
+use Rattle.kahn_explain.specs.declared.needing.AskFault.TheVariants as ask
 
 -- ---- what is asked
 

@@ -5,12 +5,12 @@ use Rattle.std.specs.Io.KnownBytes.{Appends}
 use Rattle.kahn_streams.specs.{Answers.IsUnrun, Inputs.Lists, Written.AppendsFront, declared.answer.Verdict.TheVariants.Finished, declared.answer.Verdict.TheVariants.Bound, declared.answer.Verdict.TheVariants.Memory, declared.config.Config.Config, declared.fault.RunFault.RunFault, declared.fault.RunFault.TheVariants.NoMemory, declared.tree.Program.Program}
 use Rattle.kahn_texts.specs.{Formats.StandsFor, Formats.IsInputTextFault, declared.input.TextFault.TextFault}
 use Rattle.kahn_fault.specs.{Status.status_of, Telling.WasWritten, Telling.told_text, Work.IsChecked, Work.IsUnchecked, declared.fault.Fault.TheVariants.Work, declared.work.WorkFault.WorkFault, declared.work.WorkFault.TheVariants.Syntax, declared.work.WorkFault.TheVariants.Check, declared.work.WorkFault.TheVariants.Text, declared.work.WorkFault.TheVariants.Run, declared.work.WorkFault.TheVariants.Write}
-use Rattle.kahn_sequential.specs.{Recordings.IsCountedRun, declared.counted.Counted.Counted, declared.recorded.Recorded.Recorded}
+use Rattle.kahn_sequential.specs.{Recordings.IsCountedRun, declared.counted.Counted.Counted, declared.counted.Recorded.Recorded}
 use Rattle.kahn_why.specs.{Data.HasToldData, Refusing.AreAllowed, Refusing.IsRefusal, Refusing.IsRefusedFor, Telling.HasToldInput, declared.explaining.Came.Came, declared.explaining.Came.TheVariants.Stopped, declared.explaining.Came.TheVariants.Refused, declared.why.told.Finding.Finding}
 use Rattle.kahn_why.specs.declared.why.told.Finding.TheVariants as told
-use Rattle.kahn_explain.specs.{Histories.IsRecordedFor, Needing.AreNeedsTold, Needing.IsUnaskedOf, Untaken.IsToldFor, declared.pipe.Pipe.Pipe, declared.request.Request.Request, declared.request.Sheet.Sheet, declared.request.Wish.Wish}
-use Rattle.kahn_explain.specs.declared.request.Sheet.TheVariants as sheet
-use Rattle.kahn_explain.specs.declared.request.Wish.TheVariants as wish
+use Rattle.kahn_explain.specs.{Histories.IsRecordedFor, Needing.AreNeedsTold, Needing.IsUnaskedOf, Untaken.IsToldFor, declared.running.Pipe.Pipe, declared.running.Request.Request, declared.running.Sheet.Sheet, declared.running.Wish.Wish}
+use Rattle.kahn_explain.specs.declared.running.Sheet.TheVariants as sheet
+use Rattle.kahn_explain.specs.declared.running.Wish.TheVariants as wish
 
 -- what is told beside a table of a run that came to that: its explanation, where the status isn't 0
 abbrev pub beside : Finding → List ℕ → List ℕ

@@ -2,20 +2,13 @@
 //! all that its channels carried.
 #![tactic(auto)]
 
-mod explaining;
 mod needing;
-mod pipe;
-mod replying;
-mod request;
 mod running;
 mod tracing;
-mod untaken;
 
 use kahn_fault::{read_texts, shown_path, tell_unread};
 use kahn_line::{ExplainOptions, read_explain_line, tell_line, tell_no_memory, tell_words};
-use pipe::Pipe;
-use request::{Request, Sheet, Wish};
-use running::ran;
+use running::{Pipe, Request, Sheet, Wish, ran};
 use std::alloc::{AllocError, Global};
 use std::io::Write;
 use std::process::ExitCode;

@@ -1,17 +1,21 @@
 //! What is asked for, from the bytes of the texts to the exit status.
 
-ghost use Rattle.std.specs.Prelude.{◌≡◌};
-ghost use Rattle.kahn_explain.specs.Running.{HasDone, HasDoneAsData, HasExplainedAs, IsFaultTold, IsOrRefused, end_status};
+ghost use Rattle.std.specs.Prelude.{◌≡◌, IfOk, string_bytes, MatchResult};
+ghost use Rattle.kahn_explain.specs.{Running.HasDone, Running.HasDoneAsData, Running.HasExplainedAs, Running.IsFaultTold, Running.IsOrRefused, Running.end_status, Running.HasExplained, Running.HasLooked, Untaken.IsToldFor, Histories.IsUntraced, Running.HasReplied, Running.beside, declared.running.Sheet.TheVariants.Table as TableSheet, inner.Told.IsReplyFor, inner.Told.notes_for};
+ghost use Rattle.kahn_streams.specs.Network.{network_of};
+ghost use Rattle.kahn_chain.specs.Chain.{AreStandings};
+ghost use Rattle.kahn_why.specs.{Why.standings_of, inner.Told.IsAdmitted};
 
-use crate::explaining::{explain, look};
-use crate::pipe::Pipe;
-use crate::replying::sheet_out;
-use crate::request::{Request, Wish};
+use crate::needing::{fault_text, replied, sought};
+use crate::tracing::{counts_text, recorded, trace_text, untaken_line, with_line};
 use kahn_fault::{Fault, WorkFault, tell};
-use kahn_streams::{Config, Verdict};
-use kahn_why::{Came, Finding, refuse_input, write_data};
+use kahn_sequential::{Count, run_counted};
+use kahn_streams::{Answer, Config, Network, NoMemory, RunFault, Verdict};
+use kahn_texts::{read_input, write_line};
+use kahn_why::{Admitted, Came, Finding, admit, explained, refuse_input, write_both, write_data};
 use std::alloc::Global;
-use std::io::Write;
+use std::io;
+use std::io::{ErrorKind, Write};
 
 /// What running and explaining came to; why the input text is refused is told to the writer, if that has a place.
 fn or_refused<W: Write>(
@@ -100,4 +104,268 @@ pub(crate) fn ran<W: Write, E: Write>(
 {
     let came = done(alloc, wish, of, config, out, errors);
     ended(came, of.program, out.gone, errors)
+}
+
+/// Which sheet is asked for.
+#[derive(Clone, Copy)]
+pub(crate) enum Sheet {
+    /// A table of a run: of how many values each channel carried, or else of all of them.
+    Table(bool),
+    /// What values need; or, the other way round, which are the first that need one.
+    Needs(bool),
+}
+
+/// What is asked for.
+#[derive(Clone, Copy)]
+pub(crate) enum Wish {
+    /// Why a run stopped.
+    Reasons,
+    /// What is wrong with the texts, without a run.
+    Look,
+    /// The same as data.
+    Data,
+    /// A sheet.
+    Sheet(Sheet),
+}
+
+/// The texts and what they are called in notes, and how they are looked at.
+#[derive(Clone, Copy)]
+pub(crate) struct Request<'t> {
+    pub(crate) path: &'t str,
+    pub(crate) program: &'t str,
+    pub(crate) input_path: &'t str,
+    pub(crate) input: &'t str,
+    /// The word of what values need, or of what needs one.
+    pub(crate) word: &'t str,
+    /// Whether a program with a warning is refused.
+    pub(crate) strict: bool,
+    /// Whether each process is told that hasn't ended, and not only each cause.
+    pub(crate) all: bool,
+}
+
+/// A writer, and whether one of its calls failed since nobody reads any more.
+#[derive(Drop)]
+pub(crate) struct Pipe<W: Write> {
+    pub(crate) writer: W,
+    pub(crate) gone: bool,
+}
+
+/// Whether a call failed since nobody reads any more.
+fn is_gone<T>(done: &io::Result<T>) -> bool {
+    matches!(done, Err(error) if error.kind() == ErrorKind::BrokenPipe)
+}
+
+impl<W: Write> Write for Pipe<W> {
+    ghost contents = { λ o. W.contents o.writer };
+
+    fn write(&mut self, buf: &[u8]) -> io::Result<usize> {
+        let done = self.writer.write(buf);
+        self.gone |= is_gone(&done);
+        done
+    }
+
+    fn flush(&mut self) -> io::Result<()> {
+        let done = self.writer.flush();
+        self.gone |= is_gone(&done);
+        done
+    }
+}
+
+/// What a run came to, and what is told of it: why it stopped, by its causes or for each process, and which values nobody took.
+pub(crate) fn told_of(
+    alloc: Global,
+    of: Request<'_>,
+    network: &Network,
+    answer: &Answer,
+    counts: &[Count],
+) -> Result<(Finding, String), NoMemory>
+    requires { AreStandings (network_of network.now) (standings_of answer.now) }
+    ensures { IfOk result (λ r. IsToldFor network.now answer.now r.0 (string_bytes r.1)) }
+{
+    let Ok(lists) = read_input(alloc, of.input, network) else {
+        return Err(NoMemory);
+    };
+    let fed = Some(&lists);
+    let explanation = explained(alloc, of.path, of.program, network, fed, answer, of.all)?;
+    let line = untaken_line(alloc, network, answer.verdict, counts)?;
+    let text = with_line(alloc, explanation.text.as_str(), line.as_str())?;
+    Ok((explanation.told, text))
+}
+
+/// Writes what is warned of in a program, runs it on an input, and writes why the run stopped; or why the program text is refused,
+/// where that has a place, and for a warning too where it is asked to be strict. What is warned of is written and flushed once the
+/// input text was read, before the run begins: so it stands where the run is refused, or memory for the explanation. Else nothing is
+/// written before all that is to be written stands. Faults are found in this order: of the program text, of the network, warnings,
+/// of the input text, of the writer at the warnings, of the run, want of memory, of the writer at the explanation.
+pub(crate) fn explain<W: Write>(
+    alloc: Global,
+    of: Request<'_>,
+    config: Config,
+    writer: &mut W,
+) -> Result<Came, WorkFault>
+    ensures { HasExplained of.entry config (W.contents writer.old) (W.contents writer.new) result }
+{
+    let it = match admit(alloc, of.path, of.program, of.strict, writer) {
+        Ok(it) => it,
+        Err(came) => return came,
+    };
+    let lists = match read_input(alloc, of.input, &it.network) {
+        Ok(lists) => lists,
+        Err(fault) => return Err(WorkFault::Text(fault)),
+    };
+    if let Err(fault) = write_line(writer, &[it.notes.as_bytes()]) {
+        return Err(WorkFault::Write(fault));
+    }
+    let run = match run_counted(alloc, &it.network, lists, config) {
+        Ok(run) => run,
+        Err(fault) => return Err(WorkFault::Run(fault)),
+    };
+    let Ok((told, text)) = told_of(alloc, of, &it.network, &run.answer, &run.counts) else {
+        return Err(WorkFault::Run(RunFault::NoMemory));
+    };
+    write_both("", text.as_str(), Came::Stopped(told), writer)
+}
+
+/// Looks at the texts, and runs nothing: writes what is warned of in the program, or why its text is refused, as `explain` does. Faults
+/// are found in the same order.
+pub(crate) fn look<W: Write>(
+    alloc: Global,
+    of: Request<'_>,
+    writer: &mut W,
+) -> Result<Came, WorkFault>
+    ensures { HasLooked of.entry (W.contents writer.old) (W.contents writer.new) result }
+{
+    let it = match admit(alloc, of.path, of.program, of.strict, writer) {
+        Ok(it) => it,
+        Err(came) => return came,
+    };
+    let _lists = match read_input(alloc, of.input, &it.network) {
+        Ok(lists) => lists,
+        Err(fault) => return Err(WorkFault::Text(fault)),
+    };
+    let came = Came::Stopped(Finding::Stop(Verdict::Finished));
+    write_both("", it.notes.as_str(), came, writer)
+}
+
+/// What goes out, the words beside it, and what it came to.
+#[derive(Drop)]
+pub(crate) struct Reply {
+    pub(crate) text: String,
+    pub(crate) words: String,
+    pub(crate) came: Came,
+}
+
+/// What is told beside a table: the explanation, where the status isn't 0.
+fn beside(alloc: Global, told: Finding, text: String) -> String
+    ensures { string_bytes result ≡ beside told (string_bytes text) }
+{
+    match told {
+        Finding::Stop(Verdict::Finished) => String::new(alloc),
+        _ => text,
+    }
+}
+
+/// The table of a run of an allowed program, which keeps all that is sent, and why it stopped.
+fn table_of(
+    alloc: Global,
+    of: Request<'_>,
+    it: &Admitted,
+    config: Config,
+    counts: bool,
+) -> Result<Reply, WorkFault>
+    requires { IsAdmitted of.path.now of.program.now of.strict it.now }
+    ensures { MatchResult result (IsReplyFor (TableSheet counts) of.entry config it.now) (IsUntraced it.now.network of.entry.input.now config) }
+{
+    let kept = recorded(alloc, &it.network, of.input, config)?;
+    let text = if counts {
+        counts_text(alloc, &it.network, &kept)
+    } else {
+        trace_text(alloc, &it.network, &kept)
+    };
+    let Ok(text) = text else {
+        return Err(WorkFault::Run(RunFault::NoMemory));
+    };
+    let Ok((told, words)) = told_of(alloc, of, &it.network, &kept.answer, &kept.counts) else {
+        return Err(WorkFault::Run(RunFault::NoMemory));
+    };
+    Ok(Reply {
+        text,
+        words: beside(alloc, told, words),
+        came: Came::Stopped(told),
+    })
+}
+
+/// A sheet of an allowed program; or why the word asks for none.
+fn sheet_of(
+    alloc: Global,
+    kind: Sheet,
+    of: Request<'_>,
+    it: &Admitted,
+    config: Config,
+) -> Result<Reply, WorkFault>
+    requires { IsAdmitted of.path.now of.program.now of.strict it.now }
+    ensures { MatchResult result (IsReplyFor kind of.entry config it.now) (IsUntraced it.now.network of.entry.input.now config) }
+{
+    let wakes = match kind {
+        Sheet::Table(counts) => return table_of(alloc, of, it, config, counts),
+        Sheet::Needs(wakes) => wakes,
+    };
+    let question = match sought(&it.network, of.word, wakes) {
+        Ok(question) => question,
+        Err(fault) => match fault_text(alloc, &it.network, of.word, wakes, fault) {
+            Ok(words) => {
+                return Ok(Reply {
+                    text: String::new(alloc),
+                    words,
+                    came: Came::Refused,
+                });
+            }
+            Err(_) => return Err(WorkFault::Run(RunFault::NoMemory)),
+        },
+    };
+    let (text, verdict) = replied(alloc, &it.network, of.input, config, wakes, question)?;
+    Ok(Reply {
+        text,
+        words: String::new(alloc),
+        came: Came::Stopped(Finding::Stop(verdict)),
+    })
+}
+
+/// What is warned of in a program, unless the word is refused.
+fn notes_for(came: Came, notes: &str) -> &str
+    ensures { result.now ≡ notes_for came notes.now }
+{
+    match came {
+        Came::Stopped(_) => notes,
+        Came::Refused => "",
+    }
+}
+
+/// Writes a sheet, and then to another writer what is warned of in the program, and why the run stopped where its status isn't 0; or to
+/// that writer why the program text or the word is refused, and for a warning too where it is asked to be strict. Nothing is written
+/// before all that is to be written stands. Faults are found in this order: of the program text, of the network, warnings, of the word, of
+/// the input text, of the run, want of memory, of the writers.
+pub(crate) fn sheet_out<T: Write, W: Write>(
+    alloc: Global,
+    kind: Sheet,
+    of: Request<'_>,
+    config: Config,
+    out: &mut T,
+    log: &mut W,
+) -> Result<Came, WorkFault>
+    ensures { HasReplied of.entry kind config (T.contents out.old) (T.contents out.new) (W.contents log.old) (W.contents log.new) result }
+{
+    let it = match admit(alloc, of.path, of.program, of.strict, log) {
+        Ok(it) => it,
+        Err(came) => return came,
+    };
+    let reply = match sheet_of(alloc, kind, of, &it, config) {
+        Ok(reply) => reply,
+        Err(fault) => return Err(fault),
+    };
+    if let Err(fault) = write_line(out, &[reply.text.as_bytes()]) {
+        return Err(WorkFault::Write(fault));
+    }
+    let notes = notes_for(reply.came, it.notes.as_str());
+    write_both(notes, reply.words.as_str(), reply.came, log)
 }

@@ -1,9 +1,273 @@
-//! Tables of a run that keeps all that is sent: of the histories of all channels by place, and of how many values each channel carried.
+//! Tables of a run that keeps all that is sent, of histories by place and of counts; and of which channel most values were left.
 
-mod histories;
-mod table;
+ghost use Rattle.std.specs.Prelude.{◌≡◌, ◌<◌, ◌++◌, IfOk, MatchResult, false, length, map, ◌+◌, string_bytes};
+ghost use Rattle.kahn_streams.specs.{Answers.HasStream, Answers.is_output, Network.network_of, Network.role_at, declared.value.Line.TheVariants.Channel};
+ghost use Rattle.kahn_fault.specs.Work.{IsUnanswered};
+ghost use Rattle.kahn_explain.specs.{Histories.IsRecordedFor, inner.Columns.AreAllHistories, inner.Columns.HasLine, inner.Columns.IsHistoryOf, Histories.IsRecord, inner.Columns.print_part, Untaken.IsFullest, Untaken.left_of, Untaken.put_line};
+ghost use Rattle.kahn_line.specs.Parts.{parted as parted_at};
 
-pub(crate) use histories::{columns_of, recorded};
-pub(crate) use table::{
-    TableText, add_line, add_numbers, add_side, add_value, counts_text, trace_text,
-};
+use itoa::Buffer;
+use kahn_fault::WorkFault;
+use kahn_line::parted;
+use kahn_marks::add;
+use kahn_sequential::{Count, Recorded, run_recorded};
+use kahn_streams::{Answer, Config, Line, Network, Role, Side, Stream, Value, Verdict};
+use kahn_texts::{channel_name, process_name, read_input};
+use std::alloc::{AllocError, Global};
+
+/// The run of a network for an input text, with all that was sent. It refuses as `read_input` and `run_recorded` do.
+pub(crate) fn recorded(
+    alloc: Global,
+    network: &Network,
+    text: &str,
+    config: Config,
+) -> Result<Recorded, WorkFault>
+    ensures { MatchResult result (IsRecordedFor network.now text.now config) (IsUnanswered network.now text.now config) }
+{
+    let input = read_input(alloc, text, network)?;
+    match run_recorded(alloc, network, input, config) {
+        Ok(run) => Ok(run),
+        Err(fault) => Err(WorkFault::Run(fault)),
+    }
+}
+
+fn streamed(answer: &Answer, line: Line) -> &Stream
+    requires { HasLine answer.now line }
+    ensures { HasStream answer.now result.now × (result.now.line ≡ line) }
+{
+    for stream in &answer.streams {
+        if stream.line == line {
+            return stream;
+        }
+    }
+    unreachable!()
+}
+
+/// The history of a channel that isn't an output.
+fn kept<'r>(_network: &Network, run: &'r Recorded, channel: usize) -> &'r Stream
+    requires here { channel < length (network_of _network.now).channels }
+    requires kept { is_output (role_at (network_of _network.now) channel) ≡ false }
+    requires run { IsRecord _network.now run.now }
+    ensures { IsHistoryOf _network.now run.now (Channel channel) result.now }
+{
+    &run.channels[channel]
+}
+
+/// The history of a channel: of the answer where it is an output, and else of what was kept.
+fn history<'r>(network: &Network, run: &'r Recorded, channel: usize) -> &'r Stream
+    requires here { channel < length (network_of network.now).channels }
+    requires run { IsRecord network.now run.now }
+    ensures { IsHistoryOf network.now run.now (Channel channel) result.now }
+{
+    match network.channel(channel).role {
+        Role::Output => streamed(&run.answer, Line::Channel(channel)),
+        Role::Inner | Role::Input => kept(network, run, channel),
+    }
+}
+
+fn add_print<'r>(columns: &mut Vec<&'r Stream>, stream: &'r Stream) -> Result<(), AllocError>
+    ensures { IfOk result (λ _. map (λ s. s.now) columns.new.items ≡ map (λ s. s.now) columns.old.items ++ print_part stream.now) }
+{
+    match stream.line {
+        Line::Channel(_) => Ok(()),
+        Line::Print(_) => Ok(columns.push(stream)?),
+    }
+}
+
+/// The histories of all channels and print streams of a run, from place 0 on, as far as they came. Each begins the history of its line, and
+/// where the answer has finished it is the whole of it.
+fn columns_of<'r>(
+    alloc: Global,
+    network: &Network,
+    run: &'r Recorded,
+) -> Result<Vec<&'r Stream>, AllocError>
+    requires { IsRecord network.now run.now }
+    ensures { IfOk result (λ xs. AreAllHistories network.now run.now (map (λ s. s.now) xs.items)) }
+{
+    let mut columns = Vec::new(alloc);
+    for channel in 0..network.channels() {
+        let stream = history(network, run, channel);
+        columns.push(stream)?;
+    }
+    for stream in &run.answer.streams {
+        add_print(&mut columns, stream)?;
+    }
+    Ok(columns)
+}
+
+/// The text of a table.
+pub(crate) type TableText = Result<String, AllocError>;
+
+pub(crate) fn add_numbers(text: &mut String, numbers: &[u64]) -> Result<(), AllocError> {
+    for number in numbers {
+        let mut digits = Buffer::new();
+        add(text, &[",", digits.format(*number)])?;
+    }
+    Ok(())
+}
+
+/// Adds the name of a channel, or the number and the name of a process.
+pub(crate) fn add_line(text: &mut String, network: &Network, line: Line) -> Result<(), AllocError> {
+    let mut digits = Buffer::new();
+    match line {
+        Line::Channel(channel) => text.push_str(channel_name(network, channel)),
+        Line::Print(instance) => {
+            let number = digits.format(instance as u128 + 1);
+            add(text, &[number, " ", process_name(network, instance)])
+        }
+    }
+}
+
+pub(crate) fn add_value(text: &mut String, value: Value) -> Result<(), AllocError> {
+    let mut buffer = Buffer::new();
+    match value {
+        Value::Integer(number) => text.push_str(buffer.format(number)),
+        Value::Logical(true) => text.push_str("true"),
+        Value::Logical(false) => text.push_str("false"),
+    }
+}
+
+/// The table of a run: a row that heads the columns of its channels and prints, the first with the word `place`, and a row for each place,
+/// from 1 to that of the last value of all, with the value of each column there, or nothing where it has none.
+pub(crate) fn trace_text(alloc: Global, network: &Network, run: &Recorded) -> TableText
+    requires { IsRecord network.now run.now }
+{
+    let columns = columns_of(alloc, network, run)?;
+    let mut text = String::from_str(alloc, "place")?;
+    let mut places = 0;
+    for column in &columns {
+        text.push_str(match column.line {
+            Line::Channel(_) => ",",
+            Line::Print(_) => ",print ",
+        })?;
+        add_line(&mut text, network, column.line)?;
+        places = places.max(column.tokens.len());
+    }
+    text.push_str("\n")?;
+    for place in 0..places {
+        let mut digits = Buffer::new();
+        text.push_str(digits.format(place as u128 + 1))?;
+        for column in &columns {
+            text.push_str(",")?;
+            if let Some(value) = column.tokens.values().get(place) {
+                add_value(&mut text, value)?;
+            }
+        }
+        text.push_str("\n")?;
+    }
+    Ok(text)
+}
+
+/// Adds the number and the name of the process on a side of a channel; nothing where none is there.
+fn add_side(text: &mut String, network: &Network, side: Option<Side>) -> Result<(), AllocError> {
+    match side {
+        Some(side) => add_line(text, network, Line::Print(side.instance)),
+        None => Ok(()),
+    }
+}
+
+/// The table of the counts of the channels of a run: a row that heads the columns, and for each channel a row with its name, the
+/// processes that write and read it, and how many values were sent, taken and left.
+pub(crate) fn counts_text(alloc: Global, network: &Network, run: &Recorded) -> TableText {
+    let mut text = String::from_str(alloc, "channel,from,to,sent,taken,left\n")?;
+    for number in 0..network.channels() {
+        if let Some(count) = run.counts.get(number) {
+            add(&mut text, &[channel_name(network, number), ","])?;
+            add_side(&mut text, network, network.writer(number))?;
+            text.push_str(",")?;
+            add_side(&mut text, network, network.reader(number))?;
+            let left = count.sent.saturating_sub(count.taken);
+            add_numbers(&mut text, &[count.sent, count.taken, left])?;
+            text.push_str("\n")?;
+        }
+    }
+    Ok(text)
+}
+
+/// How many values of a channel are left that a process reads.
+fn left_of(network: &Network, counts: &[Count], channel: usize) -> u64
+    requires { channel < length (network_of network.now).channels }
+    ensures { result ≡ left_of network.now counts.now channel }
+{
+    let Some(count) = counts.get(channel) else {
+        return 0;
+    };
+    match network.channel(channel).role {
+        Role::Output => 0,
+        Role::Input | Role::Inner => count.sent.saturating_sub(count.taken),
+    }
+}
+
+/// Of one channel and the next one that of which more values are left, and how many.
+fn fuller(network: &Network, counts: &[Count], one: (usize, u64), next: usize) -> (usize, u64)
+    requires here { next < length (network_of network.now).channels }
+    requires one { IsFullest network.now counts.now next one }
+    ensures { IsFullest network.now counts.now (next + 1) result }
+{
+    let most = one.1;
+    let left = left_of(network, counts, next);
+    if most < left {
+        return (next, left);
+    }
+    one
+}
+
+/// The channel of which most values are left, and how many, if of one some are.
+fn fullest(network: &Network, counts: &[Count]) -> (usize, u64)
+    ensures { IsFullest network.now counts.now (length (network_of network.now).channels) result }
+{
+    let mut one = (0, 0);
+    for next in 0..network.channels() {
+        one = fuller(network, counts, one, next);
+    }
+    one
+}
+
+/// The line on the channel of which most values are left; nothing where none is, or the run has more to do.
+pub(crate) fn untaken_line(
+    alloc: Global,
+    network: &Network,
+    verdict: Verdict,
+    counts: &[Count],
+) -> Result<String, AllocError> {
+    let mut text = String::new(alloc);
+    let (channel, left) = fullest(network, counts);
+    if left == 0 {
+        return Ok(text);
+    }
+    let name = channel_name(network, channel);
+    let sent = counts.get(channel).map_or(0, |count| count.sent);
+    let (mut first, mut second) = (Buffer::new(), Buffer::new());
+    let (some, all) = (first.format(left), second.format(sent));
+    match verdict {
+        Verdict::Finished if sent == 1 => {
+            add(&mut text, &["the value of ", name, " was never taken\n"])?;
+        }
+        Verdict::Finished if left == sent => {
+            let words = ["none of the ", all, " values of ", name, " was taken\n"];
+            add(&mut text, &words)?;
+        }
+        Verdict::Finished => {
+            let was = if left == 1 { " was" } else { " were" };
+            add(&mut text, &[some, " of the ", all, " values of ", name])?;
+            add(&mut text, &[was, " never taken\n"])?;
+        }
+        Verdict::Bound => {}
+        Verdict::Memory => {
+            add(&mut text, &[name, " holds ", some, " values that "])?;
+            add_side(&mut text, network, network.reader(channel))?;
+            text.push_str(" hasn't taken\n")?;
+        }
+    }
+    Ok(text)
+}
+
+/// A text with a line behind its first one.
+pub(crate) fn with_line(alloc: Global, text: &str, line: &str) -> Result<String, AllocError>
+    ensures { IfOk result (λ whole. string_bytes whole ≡ put_line line.now (parted_at 10 text.now)) }
+{
+    let (first, rest) = parted(text, '\n');
+    let mut whole = String::from_str(alloc, first)?;
+    add(&mut whole, &["\n", line, rest.unwrap_or("")])?;
+    Ok(whole)
+}

@@ -24,8 +24,8 @@ pub use Rattle.std.specs.List.{list_any, position_or_len}
 pub use Rattle.std.specs.Option.{unwrap_or}
 pub use Rattle.std.specs.Prelude.{codes, is_some, nat_lt, option_copied, string_bytes, ◌&&◌, ◌==◌, ◌||◌}
 pub use Rattle.kahn_fault.specs.declared.{fault.Fault.Fault}
-pub use Rattle.kahn_line.specs.declared.{parts.PlainNames.PlainNames}
+pub use Rattle.kahn_line.specs.declared.{live.PlainNames.PlainNames}
 pub use Rattle.kahn_live.specs.declared.{lines.Next.Next, lines.Next.TheVariants.End, lines.Next.TheVariants.Failed, lines.Next.TheVariants.Line, lines.Next.TheVariants.NoMemory}
-pub use Rattle.kahn_session.specs.declared.{fault.TakeFault.TakeFault}
+pub use Rattle.kahn_session.specs.declared.{refusal.TakeFault.TakeFault}
 pub use Rattle.kahn_streams.specs.declared.{answer.Verdict.Verdict, config.Config.Config, tree.Program.Program}
 pub use Rattle.std.specs.declared.{alloc.Global.Global, string.String.String, vec.Vec.Vec}

@@ -1,6 +1,6 @@
 -- What went out stays right, line by line.
 use Rattle.kahn_live.proofs.Common.{[], arith, ◌≡◌, ◌∙◌, ◌<◌, inl, inr, ℕ, zero, suc, Bool, true, false, true≢false, List, ◌∷◌, length, map, string_bytes, Global, String, take, Option, None, Some, Result, Ok, Err, sym, ap, subst, Verdict, Fault, list_any, ◌&&◌, nat_lt, HasLetGoAt, are_rows, next_of, row_count, HasTaken, IsTakenLine, Live, pace_after, pace_of, TakeFault, at_end_number, HasMissed, IsToldBy, LiveTelling, Point, WasAnswered, WasMet, AreFed, AreRead, AreTaken, IsAnyMet, IsReadBy, IsReadIn, is_idle, fed_text, most_kept, unmarked, bare_of, row_names, AreEachMet, IsAloneTold, IsShown}
-use Rattle.kahn_session.specs.{Pace.Pace, declared.fault.TakeFault.TheVariants.Write}
+use Rattle.kahn_session.specs.{Pace.Pace, declared.refusal.TakeFault.TheVariants.Write}
 
 -- ---- what went out is right after each line
 

@@ -1,5 +1,5 @@
 -- The lines of a row, one after the other.
-use Rattle.kahn_live.proofs.Common.{[], arith, not, ◌≡◌, ◌∙◌, ◌<◌, inl, ℕ, Bool, true, List, ◌∷◌, ◌++◌, length, map, take, drop, Option, None, Some, Result, Ok, Err, refl, sym, ap, ap₂, subst, Fault, HeldRun, IsMeantLine, Live, stream_of, TakeFault, IsAloneMet, IsBrokenOff, IsLineMet, Point, Global, Vec, length-drop, list_any, position_or_len, ◌==◌, AreCells, AreMeant, HaveStreams, IsRowFront, bare_of, behind_word, bytes_in, row_line, row_names, first_word, from_word, is_row_gap, is_wordless}
+use Rattle.kahn_live.proofs.Common.{[], arith, not, ◌≡◌, ◌∙◌, ◌<◌, inl, ℕ, Bool, List, ◌∷◌, ◌++◌, length, map, take, drop, Option, None, Some, Result, Ok, Err, refl, sym, ap, ap₂, subst, Fault, HeldRun, IsMeantLine, Live, stream_of, TakeFault, IsAloneMet, IsBrokenOff, IsLineMet, Point, Global, Vec, length-drop, list_any, position_or_len, ◌==◌, AreCells, AreMeant, HaveStreams, IsRowFront, bare_of, behind_word, bytes_in, row_line, first_word, from_word, is_row_gap, is_wordless}
 use Rattle.std.proofs.lemmas.List.{length-take}
 use Rattle.std.specs.Prelude.{if◌then◌else◌}
 
@@ -53,10 +53,6 @@ fewer bytes some =
     let start = position_or_len (λ b. not (is_row_gap b)) bytes in
     let less = split_less (position_or_len is_row_gap (from_word bytes)) (from_word bytes) some in
     omega (arith, less, length-drop start bytes)
-
--- several names
-pub several : (names : List ℕ) (b : Bool) → b ≡ true → b ≡ list_any (λ x. x == 44) names → (i : Option (List ℕ)) → i ≡ Some names → Some names ≡ row_names i
-several names b there is i are = sym (ap row_names are ∙ ap (λ (t : Bool). if t then Some names else None) (sym is ∙ there))
 
 -- the name of one
 pub bare_by : (i : Option (List ℕ)) (names : List ℕ) (b : Bool) → i ≡ Some names → b ≡ list_any (λ x. x == 44) names → bare_of i ≡ (if b then None else Some names)

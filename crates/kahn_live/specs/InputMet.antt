@@ -3,7 +3,7 @@ use Rattle.std.specs.Prelude.{◌≡◌, ◌⊎◌, ⊤, ℕ, zero, suc, ◌-◌
 use Rattle.std.specs.{Io.KnownBytes.IsAtEnd, declared.alloc.Global.Global, declared.string.String.String}
 use Rattle.kahn_streams.specs.{declared.answer.Verdict.Verdict, declared.answer.Verdict.TheVariants.Finished, declared.answer.Verdict.TheVariants.Memory}
 use Rattle.kahn_fault.specs.declared.fault.Fault.{Fault}
-use Rattle.kahn_session.specs.{Live.IsDeafNow, Live.IsFirstInput, Live.IsHearing, Live.IsMeantLine, Live.IsOtherInput, Live.IsUnfedBy, Live.Live, Refusals.at_end_number, Refusals.is_want, declared.fault.TakeFault.TakeFault, declared.refusal.Origin.TheVariants.File}
+use Rattle.kahn_session.specs.{Live.IsDeafNow, Live.IsFirstInput, Live.IsHearing, Live.IsMeantLine, Live.IsOtherInput, Live.IsUnfedBy, Live.Live, Refusals.at_end_number, Refusals.is_want, declared.refusal.TakeFault.TakeFault, declared.refusal.Origin.TheVariants.File}
 use Rattle.kahn_live.specs.{Lines.CutsLine, Lines.fed_text, Lines.most_kept, Lines.unmarked, declared.lines.Next.Next, declared.lines.Next.TheVariants.Line, declared.lines.Next.TheVariants.End, declared.lines.Next.TheVariants.Failed, declared.lines.Next.TheVariants.NoMemory, Rows.AreMeant, Rows.AreRowCells, Rows.IsBadRow, Rows.bare_of, Rows.row_names}
 use Rattle.kahn_live.specs.Course.{HasMissed, HasSent, HasWaited, IsAloneMet, IsBrokenOff, IsReadFailed, IsRefused, IsWriteFault, LiveTelling, Point, WasAnswered, WasMet, WasSaid, no_memory}
 

@@ -4,7 +4,7 @@ use Rattle.std.specs.{List.list_any, List.position_or_len, declared.alloc.Global
 use Rattle.kahn_texts.specs.Formats.{is_blank}
 use Rattle.kahn_streams.specs.{declared.fault.RunFault.RunFault, declared.fault.RunFault.TheVariants.NoMemory as NoMemoryRun, declared.fault.RunFault.TheVariants.UnknownWatch}
 use Rattle.kahn_sequential.specs.HeldRuns.{HeldRun}
-use Rattle.kahn_session.specs.{Live.IsMeantLine, Live.IsUnfedBy, Live.Live, Live.stream_of, declared.fault.TakeFault.TakeFault, declared.fault.TakeFault.TheVariants.BadRow, declared.fault.TakeFault.TheVariants.NoMemory}
+use Rattle.kahn_session.specs.{Live.IsMeantLine, Live.IsUnfedBy, Live.Live, Live.stream_of, declared.refusal.TakeFault.TakeFault, declared.refusal.TakeFault.TheVariants.BadRow, declared.refusal.TakeFault.TheVariants.NoMemory}
 
 -- the names of several channels, with commas (44) between them: then each line is a row
 abbrev pub row_names : Option (List ℕ) → Option (List ℕ)

@@ -4,10 +4,10 @@ use Rattle.std.specs.{List.before_first, declared.alloc.Global.Global, declared.
 use Rattle.kahn_streams.specs.{declared.config.Config.Config, declared.tree.Program.Program, declared.answer.Verdict.Verdict, declared.answer.Verdict.TheVariants.Finished, declared.fault.RunFault.RunFault, declared.fault.RunFault.TheVariants.NoMemory as NoMemoryRun, declared.fault.RunFault.TheVariants.UnknownWatch}
 use Rattle.kahn_sequential.specs.HeldRuns.{HeldRun}
 use Rattle.kahn_fault.specs.{Work.IsChecked, Work.IsUnchecked, declared.work.WorkFault.WorkFault, declared.work.WorkFault.TheVariants.Run as RunWork, declared.work.WorkFault.TheVariants.Write as WriteWork, Status.live_status_of, Telling.pointer_text, Telling.told_text, declared.fault.Fault.Fault, declared.fault.Fault.TheVariants.Work}
-use Rattle.kahn_line.specs.{declared.live.LiveOptions.LiveOptions, declared.parts.PlainNames.PlainNames}
+use Rattle.kahn_line.specs.{declared.live.LiveOptions.LiveOptions, declared.live.PlainNames.PlainNames}
 use Rattle.kahn_session.specs.{Live.HasOpened, Live.IsFaulty, Live.IsLastText, Live.IsRinged, Live.IsUnopened, Live.Live, Live.has_left, declared.refusal.Origin.Origin, declared.refusal.Origin.TheVariants.File, declared.refusal.Origin.TheVariants.Plain, declared.refusal.Origin.TheVariants.Watch}
 use Rattle.kahn_live.specs.Course.{AreCausesOf, HasSent, HasWaited, IsMoreTold, IsWriteFault, Point, LiveTelling, WasSaid, WasTold, no_memory, telling_of}
-use Rattle.kahn_live.specs.{InputMet.AreAllMet, Rows.AreNumbered, declared.serving.Amiss.Amiss, declared.serving.Amiss.TheVariants.Faulted, declared.serving.Amiss.TheVariants.Ringed, declared.serving.RunEnding.RunEnding, declared.serving.RunEnding.TheVariants.Reached, declared.serving.RunEnding.TheVariants.Gone, declared.serving.RunEnding.TheVariants.Refused, declared.telling.Teller.Teller}
+use Rattle.kahn_live.specs.{InputMet.AreAllMet, Rows.AreNumbered, declared.running.Amiss.Amiss, declared.running.Amiss.TheVariants.Faulted, declared.running.Amiss.TheVariants.Ringed, declared.running.RunEnding.RunEnding, declared.running.RunEnding.TheVariants.Reached, declared.running.RunEnding.TheVariants.Gone, declared.running.RunEnding.TheVariants.Refused, declared.telling.Teller.Teller}
 
 -- ---- the start
 

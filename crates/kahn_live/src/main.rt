@@ -1,19 +1,15 @@
 //! Runs a network of processes and channels on the lines of standard input, and shows after each line what is new.
 #![tactic(auto)]
 
-mod complaint;
 mod lines;
 mod outlet;
-mod patient;
-mod rows;
 mod running;
-mod serving;
 mod taking;
 mod telling;
 
 use kahn_fault::{read_texts, shown_path, tell, tell_reason, tell_unread};
 use kahn_line::{LiveOptions, read_live_line, tell_line, tell_no_memory, tell_words};
-use patient::Patient;
+use outlet::Patient;
 use running::ran;
 use std::io::{BufWriter, Write};
 use std::process::ExitCode;

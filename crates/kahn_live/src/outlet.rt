@@ -1,4 +1,4 @@
-//! The writer of what is new: it goes out before the next wait, and not line by line.
+//! The writer of what is new, which goes out before the next wait and not line by line; and streams that another program left so that they don't block.
 
 ghost use Rattle.std.specs.Prelude.{◌≡◌, ◌⊎◌, ◌↔◌, false, true, IfErr, IsErr, IsTrue};
 ghost use Rattle.std.specs.{Io.WritesAtMost, Io.KnownBytes.Keeps, Io.KnownBytes.WriteAppends};
@@ -6,8 +6,9 @@ ghost use Rattle.kahn_live.specs.Course.{IsGone, IsWriteFault};
 
 use kahn_fault::{Fault, WorkFault};
 use kahn_texts::WriteFault;
-use std::io;
-use std::io::{ErrorKind, Write};
+use std::io::{ErrorKind, Read, Write};
+use std::time::{Clock, Duration};
+use std::{io, thread};
 
 /// A writer that flushes at `send` alone, and remembers whether its reader is gone.
 #[derive(Drop)]
@@ -36,14 +37,10 @@ impl<W: Write> DeferredWriter<W> {
     }
 }
 
-/// Whether a call failed since nobody reads any more.
 fn is_gone<T>(done: &io::Result<T>) -> bool
     ensures { IsTrue result ↔ IsGone done.now }
 {
-    match done {
-        Ok(_) => false,
-        Err(error) => error.kind() == ErrorKind::BrokenPipe,
-    }
+    matches!(done, Err(error) if error.kind() == ErrorKind::BrokenPipe)
 }
 
 impl<W: Write> Write for DeferredWriter<W> {
@@ -65,5 +62,54 @@ impl<W: Write> Write for DeferredWriter<W> {
         ensures bytes { Keeps (W.contents self.old.writer) (W.contents self.new.writer) }
     {
         Ok(())
+    }
+}
+
+/// A stream whose calls wait until they can do something.
+#[derive(Drop)]
+pub(crate) struct Patient<'c, S, C> {
+    pub(crate) stream: S,
+    pub(crate) clock: &'c C,
+}
+
+fn would_wait<T>(done: &io::Result<T>) -> bool
+    ensures { IsTrue result → IsErr done.now }
+{
+    matches!(done, Err(error) if error.kind() == ErrorKind::WouldBlock)
+}
+
+impl<S: Read, C: Clock> Read for Patient<'_, S, C> {
+    ghost remaining = { λ p. S.remaining p.stream };
+
+    #[tactic(auto, using(crate::proofs::Kept::none_done))]
+    fn read(&mut self, buf: &mut [u8]) -> io::Result<usize> {
+        for _ in 0..u64::MAX {
+            let done = self.stream.read(buf);
+            if !would_wait(&done) {
+                return done;
+            }
+            thread::sleep(self.clock, Duration::from_millis(1));
+        }
+        self.stream.read(buf)
+    }
+}
+
+impl<S: Write, C: Clock> Write for Patient<'_, S, C> {
+    ghost contents = { λ p. S.contents p.stream };
+
+    #[tactic(auto, using(crate::proofs::Kept::none_done))]
+    fn write(&mut self, buf: &[u8]) -> io::Result<usize> {
+        for _ in 0..u64::MAX {
+            let done = self.stream.write(buf);
+            if !would_wait(&done) {
+                return done;
+            }
+            thread::sleep(self.clock, Duration::from_millis(1));
+        }
+        self.stream.write(buf)
+    }
+
+    fn flush(&mut self) -> io::Result<()> {
+        self.stream.flush()
     }
 }

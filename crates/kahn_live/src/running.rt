@@ -1,21 +1,21 @@
 //! A run on lines, from the program text to the status.
 
-ghost use Rattle.std.specs.Prelude.{◌≡◌, option_copied, option_map, string_bytes};
-ghost use Rattle.kahn_live.specs.{Course.telling_of, Running.IsEndingTold, Running.IsUnstartedTold, Running.ending_status, Running.input_of};
-ghost use Rattle.kahn_live.specs.Running.{EndsAs, Gives, HasRunAs, HasRunNetwork, HasRunText, ArePlainStreams, IsSetUp, Tells, name_watched, unknown_shown};
+ghost use Rattle.std.specs.Prelude.{◌≡◌, option_copied, option_map, string_bytes, false};
+ghost use Rattle.kahn_live.specs.{Course.telling_of, Running.IsEndingTold, Running.IsUnstartedTold, Running.ending_status, Running.input_of, Running.EndsAs, Running.Gives, Running.HasRunAs, Running.HasRunNetwork, Running.HasRunText, Running.ArePlainStreams, Running.IsSetUp, Running.Tells, Running.name_watched, Running.unknown_shown, Course.AcrossStage, Running.HasServed, Running.IsEndWanted, Running.IsJudged, Running.WasSent, Running.is_unwritten, Running.reached_status};
+ghost use Rattle.std.specs.Io.KnownBytes.{Keeps};
+ghost use Rattle.kahn_session.specs.Live.{HasVerdict};
 
+use crate::lines::stream_numbers;
 use crate::outlet::DeferredWriter;
-use crate::rows::stream_numbers;
-use crate::serving::{RunEnding, reached_status, sent, work};
-use crate::taking::{LiveStage, wants_memory};
+use crate::taking::{LiveStage, take_all, wants_memory};
 use crate::telling::Teller;
-use kahn_fault::{Fault, WorkFault, checked};
+use kahn_fault::{Fault, WorkFault, checked, live_status};
 use kahn_hints::add_unknown_channel;
 use kahn_line::{LiveOptions, PlainNames, copied, parted};
 use kahn_session::{Origin, Session};
 use kahn_streams::{Config, Network, RunFault, Verdict};
 use std::alloc::Global;
-use std::io::{Read, Write};
+use std::io::{BufReader, Read, Write};
 
 /// The name of the channel that is watched: where values stand alone, of the first one whose values are shown, which so has a stream.
 fn name_watched(options: &LiveOptions) -> Option<&str>
@@ -74,10 +74,7 @@ fn unknown_shown(fault: RunFault, options: &LiveOptions) -> Option<(Origin, &str
     match (&options.plain, &options.config.watch) {
         (None, None) => None,
         (None, Some(name)) => Some((Origin::Watch, name.as_str())),
-        (Some(plain), _) => match &plain.output {
-            Some(names) => Some((Origin::Plain, names.as_str())),
-            None => None,
-        },
+        (Some(plain), _) => plain.output.as_deref().map(|names| (Origin::Plain, names)),
     }
 }
 
@@ -140,18 +137,16 @@ fn run_network<I: Read + Drop, W: Write + Drop, E: Write + Drop>(
     (ending, output, teller)
 }
 
-/// The name of the channel whose values stand alone in the lines of input, where one is named.
 fn input_of(plain: &Option<PlainNames>) -> Option<&str>
     ensures { option_copied result ≡ input_of plain.now }
 {
-    let Some(plain) = plain else {
-        return None;
-    };
-    let name = plain.input.as_str();
-    if name.is_empty() { None } else { Some(name) }
+    match plain {
+        Some(plain) if !plain.input.is_empty() => Some(plain.input.as_str()),
+        Some(_) => None,
+        None => None,
+    }
 }
 
-/// Runs a program text on the input, and writes what is new to the output, which it gives back.
 fn run<I: Read + Drop, W: Write + Drop, E: Write + Drop>(
     program: &str,
     options: LiveOptions,
@@ -165,10 +160,8 @@ fn run<I: Read + Drop, W: Write + Drop, E: Write + Drop>(
         return (Err(wants_memory()), output, teller);
     };
     let config = Config {
-        workers: options.config.workers,
-        quantum: options.config.quantum,
-        bound: options.config.bound,
         watch,
+        ..options.config
     };
     match checked(teller.alloc, program) {
         Ok(network) => run_network(program, &network, config, &options, input, output, teller),
@@ -176,7 +169,6 @@ fn run<I: Read + Drop, W: Write + Drop, E: Write + Drop>(
     }
 }
 
-/// Tells a fault of the run, and gives the status.
 fn told<E: Write>(ending: Result<RunEnding, Fault>, program: &str, teller: &mut Teller<E>) -> u8
     ensures status { result ≡ ending_status teller.old.refused ending }
     ensures told { IsEndingTold program.now ending (telling_of E.contents teller.old) (telling_of E.contents teller.new) }
@@ -209,4 +201,120 @@ pub(crate) fn ran<I: Read + Drop, W: Write + Drop, E: Write + Drop>(
     let (ending, output, mut teller) = run(program, options, input, out, teller);
     let status = told(ending, program, &mut teller);
     (status, output, teller)
+}
+
+/// What is amiss with a run that is judged.
+#[derive(Clone, Copy)]
+pub(crate) enum Amiss {
+    /// A process has a fault of arithmetic.
+    Faulted,
+    /// None has, and processes wait on one another in a ring.
+    Ringed,
+}
+
+/// How a run ended.
+#[derive(Drop)]
+pub(crate) enum RunEnding {
+    /// The end of the input was reached, and that is amiss.
+    Reached(Verdict, Option<Amiss>),
+    /// Nobody reads what is new any more.
+    Gone,
+    /// There is no channel of a name of `--plain`, or it is no input where its values stand in the lines; or a line of `--at-end` isn't
+    /// meant for an input channel.
+    Refused,
+}
+
+fn judged(session: &Session<'_>, strict: bool) -> Option<Amiss>
+    requires { HasVerdict session.now }
+    ensures { IsJudged strict session.now.flow.run result }
+{
+    if !strict {
+        return None;
+    }
+    if session.first_fault().is_some() {
+        return Some(Amiss::Faulted);
+    }
+    if session.has_ring() {
+        return Some(Amiss::Ringed);
+    }
+    None
+}
+
+pub(crate) fn reached_status(amiss: Option<Amiss>, refused: bool, verdict: Verdict) -> u8
+    ensures { result ≡ reached_status amiss refused verdict }
+{
+    match amiss {
+        Some(Amiss::Faulted) => 8,
+        Some(Amiss::Ringed) => 7,
+        None => live_status(&Ok(verdict), refused),
+    }
+}
+
+/// Whether it is told how a run with this verdict ended: the status isn't 0, a process has a fault, or processes wait on one another.
+#[tactic(auto, using(crate::proofs::Ends::by_ring))]
+pub(crate) fn is_end_wanted(
+    session: &Session<'_>,
+    amiss: Option<Amiss>,
+    refused: bool,
+    verdict: Verdict,
+) -> bool
+    requires { HasVerdict session.now }
+    ensures { IsEndWanted session.now.flow.run amiss refused verdict result }
+{
+    if reached_status(amiss, refused, verdict) != 0 {
+        return true;
+    }
+    if session.first_fault().is_some() {
+        return true;
+    }
+    session.has_ring()
+}
+
+/// Takes the lines of the input, and then those behind them, judges the run where it is to be, sends what is new, and tells what is left,
+/// and how the run of the program ended where it isn't as it should be.
+pub(crate) fn work<I: Read + Drop, W: Write, E: Write>(
+    program: &str,
+    stage: &mut LiveStage<'_, W, E>,
+    text: I,
+    input: Option<&str>,
+    at_end: &[String],
+    strict: bool,
+) -> Result<RunEnding, Fault>
+    requires { stage.old.session.broken ≡ false }
+    ensures { AcrossStage W.contents E.contents stage.old stage.new (HasServed strict (option_copied input.entry) at_end.now result (I.remaining text)) }
+{
+    let Ok(mut reader) = BufReader::new(stage.teller.alloc, text) else {
+        return Err(wants_memory());
+    };
+    if !take_all(stage, &mut reader, input, at_end)? {
+        return Ok(RunEnding::Refused);
+    }
+    let amiss = judged(&stage.session, strict);
+    stage.outlet.send()?;
+    stage.teller.tell_left(&stage.session);
+    let verdict = stage.teller.tell_end(&stage.session, program, amiss);
+    Ok(RunEnding::Reached(verdict, amiss))
+}
+
+fn is_unwritten(ending: &Result<RunEnding, Fault>) -> bool
+    ensures { result ≡ is_unwritten ending.now }
+{
+    matches!(ending, Err(Fault::Work(WorkFault::Write(_))))
+}
+
+/// Sends what is new in the end, and gives how a run ended whose lines ended so: nobody reads it any more if that is why a write failed.
+pub(crate) fn sent<W: Write>(
+    outlet: &mut DeferredWriter<W>,
+    ending: Result<RunEnding, Fault>,
+) -> Result<RunEnding, Fault>
+    ensures kept { Keeps (W.contents outlet.old.writer) (W.contents outlet.new.writer) }
+    ensures sent { WasSent ending result }
+{
+    let sent = outlet.send();
+    if outlet.gone && (sent.is_err() || is_unwritten(&ending)) {
+        return Ok(RunEnding::Gone);
+    }
+    let ending = ending?;
+    sent?;
+    Ok(ending)
 }

@@ -2,16 +2,16 @@
 
 ghost use Rattle.std.specs.Prelude.{◌≡◌, ◌&&◌, IfErr, IfOk, IsTrue, None, false, map, option_copied, string_bytes, true};
 ghost use Rattle.std.specs.Io.Buffered.{reader_buffer, reader_remaining};
-ghost use Rattle.kahn_session.specs.{Live.HasVerdict, Live.breaks, Pace.MayBeSlow};
+ghost use Rattle.kahn_session.specs.{Live.HasVerdict, Pace.MayBeSlow};
 ghost use Rattle.kahn_live.specs.Course.{Across, AcrossStage, HasSent, IsAloneMet, IsAnswerTold, IsLineMet, IsRefusalTold, IsPartMet, IsWriteFault, Through, no_memory, point_of, telling_of};
 ghost use Rattle.kahn_live.specs.InputMet.{AreAllMet, AreCellsMet, AreEachMet, AreLastMet, AreLastTried, IsFirstPart, IsInputMet, IsAloneTold, IsCome, IsNextMet, IsReadMet, IsRowMet, is_idle, lacks_memory};
 ghost use Rattle.kahn_live.specs.{Histories.HasHistories, Lines.IsReadyToRead, Lines.fed_text, Rows.bare_of, Rows.bytes_in};
 
-use crate::complaint::tell_refused;
-use crate::lines::{Next, fed_line, has_line, read_line, without_mark};
+use crate::lines::{
+    Next, fed_line, has_line, is_several, read_line, row_cells, row_names, without_mark,
+};
 use crate::outlet::DeferredWriter;
-use crate::rows::{is_several, row_cells, row_names};
-use crate::telling::Teller;
+use crate::telling::{Teller, tell_refused};
 use kahn_fault::{Fault, WorkFault};
 use kahn_session::{AT_END, Origin, Session, TakeFault, is_want};
 use kahn_streams::{Failure, Open, RunFault, Verdict};
@@ -26,34 +26,16 @@ pub(crate) struct LiveStage<'n, W: Write, E: Write> {
     pub(crate) teller: Teller<E>,
 }
 
-/// Want of memory, as a fault of the run.
 pub(crate) fn wants_memory() -> Fault
     ensures { result ≡ no_memory }
 {
     Fault::Work(WorkFault::Run(RunFault::NoMemory))
 }
 
-/// A fault of a line, where the run ends with it.
-pub(crate) fn last_fault(fault: TakeFault) -> Fault
-    ensures { breaks fault ≡ true → IsWriteFault result }
-{
-    match fault {
-        TakeFault::Write(fault) => Fault::Work(WorkFault::Write(fault)),
-        _ => wants_memory(),
-    }
-}
-
-/// Whether nothing is told of a part: neither of its verdict nor of a fault or a ring.
 fn is_quiet(wanted: bool, first: Option<(usize, Failure)>, ringed: bool) -> bool
     ensures { IsTrue result → (wanted ≡ false) × (first ≡ None) }
 {
-    if wanted || ringed {
-        return false;
-    }
-    match first {
-        None => true,
-        Some(_) => false,
-    }
+    !wanted && !ringed && first.is_none()
 }
 
 /// Whether a line of that number changes nothing: an empty one, where the run has finished.
@@ -63,7 +45,6 @@ fn is_idle(session: &Session<'_>, number: u64, line: &[u8]) -> bool
     number != 0 && line.is_empty() && matches!(session.verdict(), Some(Verdict::Finished))
 }
 
-/// Whether memory was refused for the last part.
 fn lacks_memory(session: &Session<'_>) -> bool
     ensures { result ≡ lacks_memory session.now.flow.run.verdict }
 {
@@ -156,7 +137,6 @@ impl<W: Write, E: Write> LiveStage<'_, W, E> {
         Ok(())
     }
 
-    /// Tells what there is to tell of the line of that number by its answer, and gives why it was refused.
     fn tell_answer(
         &mut self,
         answer: Result<Verdict, TakeFault>,
@@ -171,17 +151,14 @@ impl<W: Write, E: Write> LiveStage<'_, W, E> {
                 self.tell_part(verdict, number, line)?;
                 Ok(None)
             }
+            Err(TakeFault::Write(fault)) => Err(Fault::Work(WorkFault::Write(fault))),
             Err(fault) => {
-                if fault.breaks() {
-                    return Err(last_fault(fault));
-                }
                 self.tell_behind(fault, number, line)?;
                 Ok(Some(fault))
             }
         }
     }
 
-    /// Takes a line of that number, tells what there is to tell of it, and gives why it was refused.
     fn take_line(&mut self, line: &[u8], number: u64) -> Result<Option<TakeFault>, Fault>
         requires { self.old.session.broken ≡ false }
         ensures broken { IfOk result (λ _. self.new.session.broken ≡ false) }
@@ -226,7 +203,6 @@ impl<W: Write, E: Write> LiveStage<'_, W, E> {
         Ok(())
     }
 
-    /// Takes a row of values of these channels, or tells why it isn't taken, and gives that.
     fn take_row(&mut self, names: &str, row: &[u8], number: u64) -> Result<Option<TakeFault>, Fault>
         requires { self.old.session.broken ≡ false }
         ensures broken { IfOk result (λ _. self.new.session.broken ≡ false) }
@@ -244,7 +220,6 @@ impl<W: Write, E: Write> LiveStage<'_, W, E> {
         }
     }
 
-    /// Takes a line of the input, and gives why it was refused.
     fn take_read(
         &mut self,
         input: Option<&str>,
@@ -335,7 +310,6 @@ impl<W: Write, E: Write> LiveStage<'_, W, E> {
         Ok(())
     }
 
-    /// Takes the lines that are fed at the end.
     fn take_last(&mut self, lines: &[String]) -> Result<(), Fault>
         requires { self.old.session.broken ≡ false }
         ensures broken { IfOk result (λ _. self.new.session.broken ≡ false) }

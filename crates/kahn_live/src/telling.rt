@@ -1,37 +1,33 @@
-//! What is told of lines that aren't taken, and of the end.
+//! What is told of lines that are refused, and of the end.
 
 ghost use Rattle.std.specs.Prelude.{◌≡◌, ◌∷◌, [], IfOk, IsTrue, false, option_copied, string_bytes, true};
 ghost use Rattle.kahn_session.specs.Live.{HasVerdict, IsRinged, has_left};
 ghost use Rattle.kahn_fault.specs.{Status.live_status_of, Telling.pointer_text, Telling.told_text};
-ghost use Rattle.kahn_live.specs.Course.{AreCausesOf, IsFaultPut, IsMoreTold, IsNewFault, IsNextTold, IsRingTold, IsTallied, IsVerdictTold, WasSaid, WasTold, is_again, is_alike, is_verdict_new, telling_of};
-ghost use Rattle.kahn_live.specs.Running.{IsEndPut, IsLastTold, IsLeftTold, IsVerdictMet, IsWhyTold, untold};
+ghost use Rattle.kahn_live.specs.{Course.AreCausesOf, Course.IsFaultPut, Course.IsMoreTold, Course.IsNewFault, Course.IsNextTold, Course.IsRingTold, Course.IsTallied, Course.IsVerdictTold, Course.WasSaid, Course.WasTold, Course.is_again, Course.is_alike, Course.is_verdict_new, Course.telling_of, Running.IsEndPut, Running.IsLastTold, Running.IsLeftTold, Running.IsVerdictMet, Running.IsWhyTold, Running.untold, Course.IsHintBy, Course.IsRefused, Course.IsRefusedPart, Course.is_bare, Course.wants_hint};
 
-use crate::serving::{Amiss, is_end_wanted};
+use crate::running::{Amiss, is_end_wanted};
 use itoa::Buffer;
 use kahn_fault::{Fault, live_status, tell, tell_explain};
-use kahn_inputs::RefusedPart;
+use kahn_inputs::{
+    RefusedPart, head_part, inputs_words, kind_part, name_part, unknown_words, value_part,
+};
 use kahn_line::parted;
 use kahn_session::{
     Origin, Session, TakeFault, failure_words, is_want, like_words, refused_origin, take_words,
     write_said,
 };
-use kahn_streams::{Failure, Verdict};
+use kahn_streams::{Failure, FeedFault, Network, Verdict};
 use kahn_texts::{process_name, write_line};
 use kahn_why::causes;
 use std::alloc::{AllocError, Global};
 use std::io::Write;
 
-/// Whether a fault is told in the words of another.
 fn is_alike(last: Option<TakeFault>, fault: TakeFault) -> bool
     ensures { result ≡ is_alike last fault }
 {
-    match last {
-        None => false,
-        Some(last) => take_words(last) == take_words(fault),
-    }
+    last.is_some_and(|last| take_words(last) == take_words(fault))
 }
 
-/// What came of the run of a session and its causes, in words.
 fn cause_words(
     alloc: Global,
     path: &str,
@@ -59,7 +55,6 @@ pub(crate) struct Teller<E: Write> {
     pub(crate) keep_going: bool,
     pub(crate) refused: bool,
     pub(crate) path: String,
-    // Why the last line that was refused was.
     pub(crate) last: Option<TakeFault>,
     // The number of the line that was told to be refused, and that of the last one that was, for the same reason.
     pub(crate) first: u64,
@@ -100,13 +95,9 @@ impl<E: Write> Teller<E> {
     pub(crate) fn is_again(&self, number: u64, fault: TakeFault, input: Option<&str>) -> bool
         ensures { result ≡ is_again (telling_of E.contents self.now) number fault (option_copied input.entry) }
     {
-        match input {
-            None => number != 0 && number - 1 == self.number && is_alike(self.last, fault),
-            Some(_) => false,
-        }
+        input.is_none() && number != 0 && number - 1 == self.number && is_alike(self.last, fault)
     }
 
-    /// Tells what comes from there: words, a part of a line, and more words.
     pub(crate) fn say(
         &mut self,
         from: Origin,
@@ -213,7 +204,6 @@ impl<E: Write> Teller<E> {
         session.first_fault()
     }
 
-    /// Tells that it has one since the part of the line of that number.
     pub(crate) fn tell_faulty(
         &mut self,
         number: u64,
@@ -274,7 +264,6 @@ impl<E: Write> Teller<E> {
         self.say(Origin::File, words, b"", "", "", "");
     }
 
-    /// Tells lines that are made.
     fn put_lines(&mut self, lines: &str)
         ensures { WasTold lines.now (telling_of E.contents self.old) (telling_of E.contents self.new) }
     {
@@ -296,7 +285,6 @@ impl<E: Write> Teller<E> {
         }
     }
 
-    /// Tells how the run of a session ended, in the last lines of a report.
     fn put_end(&mut self, session: &Session<'_>)
         requires { HasVerdict session.now }
         ensures { IsEndPut session.now.flow.run (telling_of E.contents self.old) (telling_of E.contents self.new) }
@@ -328,7 +316,6 @@ impl<E: Write> Teller<E> {
         verdict
     }
 
-    /// Tells why a run has no answer, where it has none. The fault's place is one of the program text.
     fn tell_fault(&mut self, answer: &Result<Verdict, Fault>, program: &str)
         ensures { WasTold (told_text program.now answer.now) (telling_of E.contents self.old) (telling_of E.contents self.new) }
     {
@@ -336,7 +323,6 @@ impl<E: Write> Teller<E> {
         self.failed |= told.line.is_err();
     }
 
-    /// Tells which program says more of that.
     fn tell_more_of(&mut self, answer: &Result<Verdict, Fault>)
         ensures { WasTold (pointer_text (string_bytes self.old.path) answer.now) (telling_of E.contents self.old) (telling_of E.contents self.new) }
     {
@@ -355,4 +341,84 @@ impl<E: Write> Teller<E> {
         self.tell_more_of(answer);
         status
     }
+}
+
+fn is_bare(line: &[u8]) -> bool
+    ensures { result ≡ is_bare line.now }
+{
+    line.first()
+        .is_some_and(|byte| byte.is_ascii_digit() || *byte == b'-')
+}
+
+/// Whether it is told now how bare numbers are taken: once, where one is refused, or the line of number 0, which names a channel alone.
+fn wants_hint(hinted: bool, number: u64, line: &[u8], fault: TakeFault) -> bool
+    ensures { result ≡ wants_hint hinted number line.now fault }
+{
+    if hinted {
+        return false;
+    }
+    match fault {
+        TakeFault::BadLine => number == 0 || is_bare(line),
+        _ => number == 0 && !is_want(fault),
+    }
+}
+
+fn hint_of<'s>(session: &'s Session<'_>, wanted: bool) -> Option<&'s str>
+    ensures { IsHintBy wanted session.now (option_copied result) }
+{
+    if wanted { session.first_input() } else { None }
+}
+
+/// What is said of the name of a line that no input channel has, or nothing where memory is refused for it.
+fn words_of(alloc: Global, network: &Network, line: &[u8], fault: TakeFault) -> String {
+    let words = match fault {
+        TakeFault::Feed(FeedFault::UnknownName) => unknown_words(alloc, network, line),
+        TakeFault::Feed(FeedFault::NotAnInput) => inputs_words(alloc, network),
+        _ => Ok(String::new(alloc)),
+    };
+    words.unwrap_or(String::new(alloc))
+}
+
+/// The part of a line that is at fault where it isn't taken, and what is wanted there; of a name these words.
+fn refused_part<'l>(
+    network: &Network,
+    line: &'l [u8],
+    fault: TakeFault,
+    words: &'l str,
+) -> RefusedPart<'l>
+    ensures { IsRefusedPart network.now line.entry.now fault result.word.now result.words.now }
+{
+    match fault {
+        TakeFault::BadLine => head_part(line),
+        TakeFault::BadValue => value_part(line),
+        TakeFault::Feed(FeedFault::UnknownName) => name_part(line, words),
+        TakeFault::Feed(FeedFault::NotAnInput) => name_part(line, words),
+        TakeFault::Feed(FeedFault::WrongKind) => kind_part(network, line),
+        _ => RefusedPart {
+            word: b"",
+            words: "",
+        },
+    }
+}
+
+/// Tells a fault of the line of that number, and the part at fault; or counts the line where it is refused as the one before it.
+pub(crate) fn tell_refused<E: Write>(
+    session: &Session<'_>,
+    teller: &mut Teller<E>,
+    number: u64,
+    line: &[u8],
+    fault: TakeFault,
+)
+    ensures { IsRefused session.now number line.now fault (telling_of E.contents teller.old) (telling_of E.contents teller.new) }
+{
+    let wanted = wants_hint(teller.hinted, number, line, fault);
+    let input = hint_of(session, wanted);
+    if teller.is_again(number, fault, input) {
+        teller.count(number, fault);
+        return;
+    }
+    let network = session.network();
+    let words = words_of(teller.alloc, network, line, fault);
+    let part = refused_part(network, line, fault, words.as_str());
+    teller.tell(number, fault, part, input);
 }

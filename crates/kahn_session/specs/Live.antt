@@ -7,7 +7,7 @@ use Rattle.kahn_chain.specs.Chain.{HasRing, stands}
 use Rattle.kahn_sequential.specs.{HeldRuns.GoesOn, HeldRuns.HeldRun, HeldRuns.IsRightSoFar, HeldRuns.IsUnstarted, HeldRuns.so_far, Flows.Flowing, Flows.HasFlowed, Flows.HasPouredIn, Flows.IsUnpoured, Flows.flow_lines}
 use Rattle.kahn_streams.specs.declared.fault.RunFault.TheVariants as fault
 use Rattle.kahn_texts.specs.{Formats.AreBlanks, Formats.IsEntry, Formats.HasNoHead, Formats.HasNoValues, Formats.content, Formats.most_input_bytes, Formats.channel_name, News.closing_text, News.joined, declared.bytes.WriteFault.WriteFault}
-use Rattle.kahn_session.specs.{Forms.HasLetGoBehind, Forms.form_text, Forms.is_uneven, Forms.news_of, Forms.next_of, Forms.row_count, Pace.Pace, Pace.events_of, Pace.part_bound, declared.fault.TakeFault.TakeFault, declared.fault.TakeFault.TheVariants.TooLong, declared.fault.TakeFault.TheVariants.NotUtf8, declared.fault.TakeFault.TheVariants.BadLine, declared.fault.TakeFault.TheVariants.BadValue, declared.fault.TakeFault.TheVariants.BadRow, declared.fault.TakeFault.TheVariants.Feed, declared.fault.TakeFault.TheVariants.NoMemory, declared.fault.TakeFault.TheVariants.Write}
+use Rattle.kahn_session.specs.{Forms.HasLetGoBehind, Forms.form_text, Forms.is_uneven, Forms.news_of, Forms.next_of, Forms.row_count, Pace.Pace, Pace.events_of, Pace.part_bound, declared.refusal.TakeFault.TakeFault, declared.refusal.TakeFault.TheVariants.TooLong, declared.refusal.TakeFault.TheVariants.NotUtf8, declared.refusal.TakeFault.TheVariants.BadLine, declared.refusal.TakeFault.TheVariants.BadValue, declared.refusal.TakeFault.TheVariants.BadRow, declared.refusal.TakeFault.TheVariants.Feed, declared.refusal.TakeFault.TheVariants.NoMemory, declared.refusal.TakeFault.TheVariants.Write}
 
 pub record Live : Type 0 where
   -- the run, and what was let go of each stream: all of it went out, but for what waits

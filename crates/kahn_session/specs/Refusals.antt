@@ -4,8 +4,8 @@ use Rattle.std.specs.List.{concat}
 use Rattle.kahn_streams.specs.{declared.value.Failure.Failure, declared.value.Failure.TheVariants.Overflow, declared.value.Failure.TheVariants.Division, Written.Writes}
 use Rattle.kahn_streams.specs.declared.feeds.FeedFault.TheVariants as feed
 use Rattle.kahn_marks.specs.Shown.{shown_part}
-use Rattle.kahn_session.specs.declared.fault.TakeFault.{TakeFault}
-use Rattle.kahn_session.specs.declared.fault.TakeFault.TheVariants as take
+use Rattle.kahn_session.specs.declared.refusal.TakeFault.{TakeFault}
+use Rattle.kahn_session.specs.declared.refusal.TakeFault.TheVariants as take
 use Rattle.kahn_session.specs.declared.refusal.Origin.{Origin}
 use Rattle.kahn_session.specs.declared.refusal.Origin.TheVariants.{File, Plain, Watch, Line}
 

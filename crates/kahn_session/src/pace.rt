@@ -1,26 +1,29 @@
-//! A run that is fed as it goes, each part of which may take so many events.
+//! A run that is fed as it goes, each part of which may take so many events, and what is new on its streams, in the form of a session.
 
-ghost use Rattle.std.specs.Prelude.{◌≡◌, ◌↔◌, ℕ, ◌+◌, ◌≤◌, [], Some, IfErr, IfOk, IsTrue, MatchResult};
+ghost use Rattle.std.specs.Prelude.{◌≡◌, ℕ, ◌+◌, ◌≤◌, [], Some, IfErr, IfOk, MatchResult, ◌==◌, ◌-◌, ◌<◌, MatchOption, drop, if◌then◌else◌, length, map, nat_lt, slice_get};
 ghost use Rattle.kahn_sequential.specs.{HeldRuns.IsLineOf, HeldRuns.IsRightSoFar, HeldRuns.IsUnstarted, Flows.AreNew, Flows.HasFlowed, Flows.HasPouredIn, Flows.IsUnpoured, Flows.flow_lines};
+ghost use Rattle.kahn_session.specs.{Forms.let_go_but, Forms.news_on, inner.Kept.AreStale, inner.Kept.kept_values, Pace.IsPart, Pace.events_of, Pace.part_bound, Forms.HasLetGoBehind, Forms.are_rows, Forms.cell_news, Forms.fewest, Forms.form_text, Forms.is_uneven, Forms.news_of, Forms.next_of, Forms.row_count, Forms.row_news, Forms.row_stop, Forms.rows_news, Forms.waiting_from, Live.OutBegins, inner.Kept.lines_text};
+ghost use Rattle.std.specs.List.{list_any};
+ghost use Rattle.kahn_streams.specs.{Tokens.token_value, Written.Writes, Written.value_text};
 ghost use Rattle.kahn_streams.specs.declared.answer.Verdict.{Verdict as VerdictOf};
-ghost use Rattle.kahn_session.specs.{Forms.let_go_but, Forms.news_on, inner.Kept.AreStale, inner.Kept.kept_values, Pace.IsPart, Pace.MayBeSlow, Pace.events_of, Pace.part_bound};
 
+use itoa::Buffer;
 use kahn_sequential::Flow;
 use kahn_streams::{
-    Config, End, FeedFault, Gate, Input, Line, MOST_BOUND, Network, RunFault, Tokens, Value,
-    Verdict,
+    Config, End, FeedFault, Gate, Input, Line, MOST_BOUND, Network, NoMemory, RunFault, Tokens,
+    Value, Values, Verdict,
 };
+use kahn_texts::{WriteFault, write_line, write_news, write_plain};
 use std::alloc::Global;
+use std::io::Write;
 use std::marker::Model;
 
 /// A run that is fed as it goes, each part of which may take so many events.
 #[derive(Drop)]
 pub(crate) struct Paced<'n> {
-    flow: Flow<'n>,
-    step: u64,
-    // The sum of all bounds so far.
+    pub(crate) flow: Flow<'n>,
+    pub(crate) step: u64,
     allowed: u64,
-    // The lines of its streams, in order.
     lines: Vec<Line>,
     // Of each stream the values that wait for the others of their rows, of those that the run let go of.
     kept: Vec<Vec<Value>>,
@@ -43,7 +46,6 @@ impl<'n> Model for Paced<'n> {
 }
 
 impl<'n> Paced<'n> {
-    /// A run whose parts may take as many events as the configuration's bound.
     pub(crate) fn start(
         alloc: Global,
         network: &'n Network,
@@ -64,7 +66,6 @@ impl<'n> Paced<'n> {
         })
     }
 
-    /// How many events more the next part is allowed.
     fn more(&self) -> u64
         ensures { self.now.flow.run.bound + result ≡ part_bound self.now.step self.now.flow.run }
     {
@@ -82,14 +83,6 @@ impl<'n> Paced<'n> {
         verdict
     }
 
-    /// Whether the next part may take long: each may be of more than a million events, or the last one was of more than ten thousand.
-    pub(crate) fn may_be_slow(&self) -> bool
-        ensures { IsTrue result ↔ MayBeSlow self.now.step self.now.flow.run }
-    {
-        self.step > 1_000_000 || self.flow.budget() < self.step.saturating_sub(10_000)
-    }
-
-    /// Puts values behind those of an input channel.
     pub(crate) fn feed(&mut self, channel: &str, values: &[Value]) -> Result<(), FeedFault>
         ensures fed { IfOk result (λ _. HasPouredIn (channel.now, values.now) self.old.flow self.new.flow) }
         ensures unfed { IfErr result (IsUnpoured (channel.now, values.now) self.old.flow self.new.flow) }
@@ -113,7 +106,6 @@ impl<'n> Paced<'n> {
         self.kept[number].as_slice()
     }
 
-    /// What is new on the stream of a line since it was last let go of.
     pub(crate) fn fresh(&self, line: Line) -> &Tokens
         requires { IsLineOf self.now.flow.run line }
         ensures { AreNew self.now.flow line result.now.items }
@@ -121,27 +113,11 @@ impl<'n> Paced<'n> {
         self.flow.fresh(line)
     }
 
-    /// A number from this one on: no stream of a number from this one on and below that has anything new.
-    pub(crate) fn next_fresh(&self, from: usize) -> usize
-        ensures from { from ≤ result }
-        ensures stale { AreStale self.now.flow from result }
-    {
-        self.flow.next_fresh(from)
-    }
-
-    /// Lets go of what there is of each stream, and keeps this of it.
     pub(crate) fn forget(&mut self, kept: Vec<Vec<Value>>)
         ensures { self.new ≡ let_go_but self.old (kept_values kept.items) }
     {
         self.flow.forget();
         self.kept = kept;
-    }
-
-    /// The verdict of the last part, where nothing changed since.
-    pub(crate) fn verdict(&self) -> Option<Verdict>
-        ensures { result ≡ self.now.flow.run.verdict }
-    {
-        self.flow.verdict()
     }
 
     pub(crate) fn ends(&self) -> &[End]
@@ -155,5 +131,265 @@ impl<'n> Paced<'n> {
         ensures { result ≡ events_of self.now.flow.run }
     {
         self.flow.events()
+    }
+}
+
+fn next_stream(run: &Paced<'_>, from: usize, count: usize) -> Option<usize>
+    ensures { MatchOption result (AreStale run.now.flow from count) (λ n. (from ≤ n) × (n < count) × AreStale run.now.flow from n) }
+{
+    let next = run.flow.next_fresh(from);
+    if next >= count {
+        return None;
+    }
+    Some(next)
+}
+
+type WriteResult = Result<(), WriteFault>;
+
+fn put_news<W: Write>(
+    writer: &mut W,
+    network: &Network,
+    run: &Paced<'_>,
+    lines: &[Line],
+) -> WriteResult
+    requires network { run.now.flow.run.network ≡ network.now }
+    requires lines { lines.now ≡ flow_lines run.now.flow.run }
+    ensures { Writes (W.contents writer.old) (W.contents writer.new) result (lines_text network.now run.now.flow lines.now) }
+{
+    let _program = network.program();
+    let mut from = 0;
+    'streams: while let Some(number) = next_stream(run, from, lines.len()) {
+        let line = lines[number];
+        write_news(writer, network, line, &run.fresh(line).values())?;
+        from = number + 1;
+    }
+    Ok(())
+}
+
+fn fresh_of<'r>(run: &'r Paced<'_>, number: usize) -> Values<'r>
+    ensures { result ≡ news_on number (news_of run.now.flow) }
+{
+    let lines = run.lines();
+    if number >= lines.len() {
+        return Values::none();
+    }
+    run.fresh(lines[number]).values()
+}
+
+fn value_text<'b>(buffer: &'b mut Buffer, value: Value) -> &'b str
+    ensures { result.now ≡ value_text value }
+{
+    match value {
+        Value::Integer(number) => buffer.format(number),
+        Value::Logical(true) => "true",
+        Value::Logical(false) => "false",
+    }
+}
+
+fn put_cell<W: Write>(writer: &mut W, value: Option<Value>, stop: &str) -> WriteResult
+    ensures { Writes (W.contents writer.old) (W.contents writer.new) result (cell_news value stop.now) }
+{
+    let Some(value) = value else {
+        return Ok(());
+    };
+    let mut buffer = Buffer::new();
+    let text = value_text(&mut buffer, value);
+    write_line(writer, &[text.as_bytes(), stop.as_bytes()])
+}
+
+fn next_count(run: &Paced<'_>, number: usize) -> usize
+    ensures { result ≡ length (next_of run.now number) }
+{
+    run.kept(number).len() + fresh_of(run, number).len()
+}
+
+fn next_at(run: &Paced<'_>, number: usize, place: usize) -> Option<Value>
+    ensures { result ≡ slice_get (next_of run.now number) place }
+{
+    let kept = run.kept(number);
+    if place < kept.len() {
+        return Some(kept[place]);
+    }
+    fresh_of(run, number).get(place - kept.len())
+}
+
+fn row_stop(behind: &[usize]) -> &'static str
+    ensures { result.now ≡ row_stop behind.now }
+{
+    if behind.is_empty() { "\n" } else { "," }
+}
+
+fn put_row<W: Write>(
+    writer: &mut W,
+    run: &Paced<'_>,
+    columns: &[usize],
+    place: usize,
+) -> WriteResult
+    ensures { Writes (W.contents writer.old) (W.contents writer.new) result (row_news (next_of run.now) place columns.now) }
+{
+    let mut rest = columns;
+    'columns: while let Some((number, behind)) = rest.split_first() {
+        let value = next_at(run, *number, place);
+        put_cell(writer, value, row_stop(behind))?;
+        rest = behind;
+    }
+    Ok(())
+}
+
+fn put_rows<W: Write>(
+    writer: &mut W,
+    run: &Paced<'_>,
+    columns: &[usize],
+    from: usize,
+    to: usize,
+) -> WriteResult
+    ensures { Writes (W.contents writer.old) (W.contents writer.new) result (rows_news (next_of run.now) columns.now from (to - from)) }
+{
+    for place in from..to {
+        put_row(writer, run, columns, place)?;
+    }
+    Ok(())
+}
+
+fn fewest(run: &Paced<'_>, first: usize, columns: &[usize]) -> usize
+    ensures { result ≡ fewest (next_of run.now) first columns.now }
+{
+    let mut least = first;
+    let mut rest = columns;
+    'columns: while let Some((number, behind)) = rest.split_first() {
+        least = least.min(next_count(run, *number));
+        rest = behind;
+    }
+    least
+}
+
+pub(crate) fn row_count(run: &Paced<'_>, columns: &[usize]) -> usize
+    ensures { result ≡ row_count (next_of run.now) columns.now }
+{
+    match columns.split_first() {
+        None => 0,
+        Some((number, behind)) => fewest(run, next_count(run, *number), behind),
+    }
+}
+
+pub(crate) fn show<W: Write>(
+    writer: &mut W,
+    network: &Network,
+    run: &Paced<'_>,
+    columns: &[usize],
+    from: usize,
+    to: usize,
+) -> WriteResult
+    requires network { run.now.flow.run.network ≡ network.now }
+    requires count { to ≡ row_count (next_of run.now) columns.now }
+    ensures { Writes (W.contents writer.old) (W.contents writer.new) result (form_text columns.now from network.now run.now) }
+{
+    let Some((number, behind)) = columns.split_first() else {
+        return put_news(writer, network, run, run.lines());
+    };
+    if behind.is_empty() {
+        return write_plain(writer, &fresh_of(run, *number));
+    }
+    put_rows(writer, run, columns, from, to)
+}
+
+fn are_rows(columns: &[usize]) -> bool
+    ensures { result ≡ are_rows columns.now }
+{
+    columns.len() > 1
+}
+
+fn has_more(run: &Paced<'_>, columns: &[usize], count: usize) -> bool
+    ensures { result ≡ list_any (λ c. nat_lt count (length (next_of run.now c))) columns.now }
+{
+    columns
+        .iter()
+        .any(|number| next_count(run, *number) > count)
+}
+
+pub(crate) fn is_uneven(run: &Paced<'_>, columns: &[usize], count: usize) -> bool
+    ensures { result ≡ is_uneven (next_of run.now) count columns.now }
+{
+    are_rows(columns) && has_more(run, columns, count)
+}
+
+fn waiting_of(
+    alloc: Global,
+    run: &Paced<'_>,
+    columns: &[usize],
+    number: usize,
+    count: usize,
+) -> Result<Vec<Value>, NoMemory>
+    ensures { IfOk result (λ left. left.items ≡ (if list_any (λ c. c == number) columns.now then drop count (next_of run.now number) else [])) }
+{
+    let mut left = Vec::new(alloc);
+    if !columns.contains(&number) {
+        return Ok(left);
+    }
+    for place in count..usize::MAX {
+        let Some(value) = next_at(run, number, place) else {
+            return Ok(left);
+        };
+        left.push(value)?;
+    }
+    Err(NoMemory)
+}
+
+fn all_waiting(
+    alloc: Global,
+    run: &Paced<'_>,
+    columns: &[usize],
+    count: usize,
+) -> Result<Vec<Vec<Value>>, NoMemory>
+    ensures { IfOk result (λ left. kept_values left.items ≡ waiting_from (next_of run.now) count columns.now 0 (flow_lines run.now.flow.run)) }
+{
+    let lines = run.lines();
+    let mut left = Vec::new(alloc);
+    for number in 0..lines.len() {
+        left.push(waiting_of(alloc, run, columns, number, count)?)?;
+    }
+    Ok(left)
+}
+
+/// Whether no more values wait behind so many rows than are new on all streams: then no value is copied more often than one comes.
+fn is_worth(run: &Paced<'_>, columns: &[usize], count: usize) -> bool {
+    let mut new: usize = 0;
+    for number in 0..run.lines().len() {
+        new = new.saturating_add(fresh_of(run, number).len());
+    }
+    let mut left: usize = 0;
+    for number in columns {
+        left = left.saturating_add(next_count(run, *number).saturating_sub(count));
+    }
+    left <= new
+}
+
+/// Lets go of what went out behind so many rows, and gives how many of them went out of what stays. Where a value waits for the others of its
+/// row, all may stay for now, as where memory is refused.
+pub(crate) fn let_go(alloc: Global, run: &mut Paced<'_>, columns: &[usize], count: usize) -> usize
+    ensures gone { HasLetGoBehind count columns.now run.old run.new result }
+    ensures run { run.new.flow.run ≡ run.old.flow.run }
+{
+    if !is_uneven(run, columns, count) {
+        run.forget(Vec::new(alloc));
+        return 0;
+    }
+    if !is_worth(run, columns, count) {
+        return count;
+    }
+    let Ok(left) = all_waiting(alloc, run, columns, count) else {
+        return count;
+    };
+    run.forget(left);
+    0
+}
+
+/// What went out of each stream begins what there is of it, as each stream says. It changes nothing.
+pub(crate) fn begun(run: &Paced<'_>, lines: &[Line])
+    requires { lines.now ≡ flow_lines run.now.flow.run }
+    ensures { OutBegins run.now.flow }
+{
+    for line in lines {
+        let _fresh = run.fresh(*line);
     }
 }

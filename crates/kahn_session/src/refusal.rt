@@ -1,14 +1,14 @@
-//! What is said of a run on lines: from where, in which words, and of which part of a line.
+//! What is said of a run on lines: why a line isn't taken, from where, in which words, and of which part of a line.
 
 ghost use Rattle.std.specs.Prelude.{◌≡◌, ◌++◌, ◌∷◌, []};
-ghost use Rattle.kahn_session.specs.Refusals.{Says, before_part, behind_part, failure_words, is_want, like_words, origin, refused_origin, take_words};
+ghost use Rattle.kahn_session.specs.{Refusals.Says, Refusals.before_part, Refusals.behind_part, Refusals.failure_words, Refusals.is_want, Refusals.like_words, Refusals.origin, Refusals.refused_origin, Refusals.take_words};
 
-use crate::fault::TakeFault;
 use itoa::Buffer;
 use kahn_marks::shown_part;
 use kahn_streams::{Failure, FeedFault};
 use kahn_texts::{WriteFault, write_line};
 use std::io::Write;
+use thiserror::Error;
 
 /// The number of each line of `--at-end`. No line of the input has it.
 pub const AT_END: u64 = u64::MAX;
@@ -88,7 +88,6 @@ pub fn refused_origin(number: u64, fault: TakeFault) -> Origin
     }
 }
 
-/// Where what is said comes from, in words, and the digits of a line's number.
 fn origin_words<'b>(room: &'b mut Buffer, from: Origin) -> (&'b str, &'b str)
     ensures { result.0.now ++ result.1.now ≡ origin from }
 {
@@ -106,7 +105,6 @@ fn origin_words<'b>(room: &'b mut Buffer, from: Origin) -> (&'b str, &'b str)
     }
 }
 
-/// What stands before so many bytes of a part of a line, and behind them.
 fn around_part(part: &[u8], shown: usize) -> (&str, &str)
     ensures before { result.0.now ≡ before_part part.now }
     ensures behind { result.1.now ≡ behind_part part.now shown }
@@ -120,7 +118,6 @@ fn around_part(part: &[u8], shown: usize) -> (&str, &str)
     }
 }
 
-/// Writes what is said, where it comes from in two parts.
 fn put<'a, W: Write>(
     out: &mut W,
     path: &'a str,
@@ -164,4 +161,33 @@ pub fn write_said<W: Write>(
     let mut room = Buffer::new();
     let (from, number) = origin_words(&mut room, from);
     put(out, path, from, number, words, part, first, next, last)
+}
+
+/// Why a line of input isn't taken. After each but `Write` the session goes on with the next line.
+#[derive(Clone, Copy, Debug, PartialEq, Eq, Drop, Error)]
+pub enum TakeFault {
+    /// The line has more than 16,777,216 bytes. Nothing changed.
+    #[error("line is too long")]
+    TooLong,
+    /// The line isn't UTF-8. Nothing changed.
+    #[error("not UTF-8")]
+    NotUtf8,
+    /// The line isn't blank and doesn't begin with a name and a colon. Nothing changed.
+    #[error("not a name and a colon")]
+    BadLine,
+    /// A word after the colon is no value. Nothing changed.
+    #[error("not a value")]
+    BadValue,
+    /// The line is a row, and hasn't one value for each of its channels. A session takes no rows, and never says so.
+    #[error("not one value for each channel")]
+    BadRow,
+    /// The values aren't fed to the channel of the name. Nothing changed.
+    #[error("{0}")]
+    Feed(FeedFault),
+    /// Memory was refused while the line was read. Nothing changed.
+    #[error("no memory")]
+    NoMemory,
+    /// The part was run, and what is new couldn't be written whole. A prefix of it was, and the session is broken.
+    #[error("news could not be written")]
+    Write(WriteFault),
 }

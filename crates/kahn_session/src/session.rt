@@ -6,13 +6,10 @@ ghost use Rattle.kahn_streams.specs.{Network.network_of, declared.answer.Verdict
 ghost use Rattle.kahn_chain.specs.Chain.{AreStandings, stands};
 ghost use Rattle.kahn_sequential.specs.{Flows.Flowing, HeldRuns.IsRightSoFar};
 ghost use Rattle.kahn_texts.specs.Formats.{IsReadLine, channel_name, content};
-ghost use Rattle.kahn_session.specs.Live.{HasOpened, IsClosed, IsDeafNow, IsFaulty, IsFedBy, IsFirstFault, IsFirstInput, IsMeantLine, IsOtherInput, HasVerdict, IsRinged, IsTakenLine, IsText, IsUnfedBy, IsUnopened, breaks, first_faulted, has_left, is_finished, is_input, bears_name, is_other_input, stream_of, waits_on_input, wants_input};
-ghost use Rattle.kahn_session.specs.Pace.{MayBeSlow};
+ghost use Rattle.kahn_session.specs.{Live.HasOpened, Live.IsClosed, Live.IsDeafNow, Live.IsFedBy, Live.IsFirstFault, Live.IsFirstInput, Live.IsMeantLine, Live.IsOtherInput, Live.HasVerdict, Live.IsRinged, Live.IsTakenLine, Live.IsText, Live.IsUnfedBy, Live.IsUnopened, Live.breaks, Live.first_faulted, Live.has_left, Live.is_finished, Live.is_input, Live.bears_name, Live.is_other_input, Live.stream_of, Live.waits_on_input, Live.wants_input, Pace.MayBeSlow};
 
-use crate::fault::TakeFault;
-use crate::forms::{begun, is_uneven, let_go, row_count, show};
-use crate::pace::Paced;
-use crate::ringing::RingHint;
+use crate::pace::{Paced, begun, is_uneven, let_go, row_count, show};
+use crate::refusal::TakeFault;
 use kahn_chain::has_ring;
 use kahn_streams::{
     Config, End, Failure, Gate, Input, Line, Network, Outcome, Role, RunFault, Value, Verdict,
@@ -30,7 +27,6 @@ pub struct Session<'n> {
     alloc: Global,
     network: &'n Network,
     paced: Paced<'n>,
-    // The name of the first input channel.
     input: Option<&'n str>,
     // Whether a write failed, after which nothing tells what went out.
     broken: bool,
@@ -58,7 +54,6 @@ impl<'n> Model for Session<'n> {
     ghost invariant = { λ s. AreKept s.paced.flow.run s.network.now (option_copied s.input) };
 }
 
-/// The entry of a line, or nothing where the line is blank.
 fn entry_of_line(alloc: Global, line: &[u8]) -> Result<Option<(String, Vec<Value>)>, TakeFault>
     ensures { MatchResult result (λ read. IsText line.now × IsReadLine (content line.now) read) (λ f. (h : Flowing) → IsUnfedBy line.now h f) }
 {
@@ -99,7 +94,6 @@ fn bears_name(network: &Network, name: &[u8], line: Line) -> bool
     }
 }
 
-/// The number of the first line that is that of a channel of that name.
 fn line_of(network: &Network, lines: &[Line], name: &[u8]) -> Option<usize>
     ensures { result ≡ position (bears_name network.now name.now) lines.now }
 {
@@ -108,7 +102,6 @@ fn line_of(network: &Network, lines: &[Line], name: &[u8]) -> Option<usize>
         .position(|line| bears_name(network, name, *line))
 }
 
-/// The number from 1 of the first instance whose end is a fault, and which one.
 fn first_fault(ends: &[End]) -> Option<(usize, Failure)>
     ensures { result ≡ first_faulted 1 ends.now }
 {
@@ -130,20 +123,12 @@ fn is_input(role: Role) -> bool
     matches!(role, Role::Input)
 }
 
-/// Whether a channel of that role and name is an input of another name than this, where there is one.
 fn is_other_input(role: Role, channel: &str, but: Option<&str>) -> bool
     ensures { result ≡ is_other_input (option_copied but.entry) role channel.now }
 {
-    if !is_input(role) {
-        return false;
-    }
-    match but {
-        None => true,
-        Some(name) => channel != name,
-    }
+    is_input(role) && but != Some(channel)
 }
 
-/// The name of the first such channel.
 fn other_input<'t>(network: &'t Network, but: Option<&str>) -> Option<&'t str>
     ensures { IsOtherInput network.now (option_copied but.entry) (option_copied result) }
 {
@@ -156,7 +141,6 @@ fn other_input<'t>(network: &'t Network, but: Option<&str>) -> Option<&'t str>
     None
 }
 
-/// Whether an instance that ended so waits on an input channel.
 fn wants_input(network: &Network, outcome: Outcome) -> bool
     ensures { result ≡ wants_input (network_of network.now) outcome }
 {
@@ -174,7 +158,6 @@ fn has_input_wait(network: &Network, ends: &[End]) -> bool
     ends.iter().any(|end| wants_input(network, end.outcome))
 }
 
-/// Whether a run with this verdict and these ends is over: it has finished, and no end is a wait on an input channel.
 fn is_over(network: &Network, verdict: Verdict, ends: &[End]) -> bool
     ensures { result ≡ (is_finished verdict && not (list_any (waits_on_input (network_of network.now)) ends.now)) }
 {
@@ -182,10 +165,8 @@ fn is_over(network: &Network, verdict: Verdict, ends: &[End]) -> bool
 }
 
 impl<'n> Session<'n> {
-    /// A session of a network before its first part, whose input channels have no values. The bound of the configuration is
-    /// how many events each part may take.
-    ///
-    /// It refuses with `BadConfig` where a number of the configuration is out of its limit, with `UnknownWatch` where no
+    /// A session of a network before its first part, whose input channels have no values. The bound of the configuration is how many events
+    /// each part may take. It refuses with `BadConfig` where a number of the configuration is out of its limit, with `UnknownWatch` where no
     /// channel has the name that is to be watched, and with `NoMemory` where memory was refused.
     pub fn start(
         alloc: Global,
@@ -204,7 +185,11 @@ impl<'n> Session<'n> {
             broken: false,
             columns: Vec::new(alloc),
             shown: 0,
-            ring: RingHint::new(alloc),
+            ring: RingHint {
+                seen: false,
+                from: 0,
+                walked: Vec::new(alloc),
+            },
         })
     }
 
@@ -241,14 +226,12 @@ impl<'n> Session<'n> {
         }
     }
 
-    /// Feeds the values of a line of input, which stands without its line feed, runs a part, and writes what is new: a line
-    /// for each stream that has grown, its heading as in a report and then the values behind those that went out, or after
-    /// `show_columns` the values alone of its streams. The caller flushes. A blank line feeds nothing. The part goes on until
-    /// nothing can, or until it took as many events as each part may, or memory was refused.
-    ///
-    /// The line is refused with `TooLong`, `NotUtf8`, `BadLine`, `BadValue`, `Feed` and `NoMemory`, in this order: then
-    /// nothing changed and nothing was written. With `Write` the part was run, and a prefix of what is new was written: the
-    /// session is broken, and takes no further line.
+    /// Feeds the values of a line of input, which stands without its line feed, runs a part, and writes what is new: a line for each stream
+    /// that has grown, its heading as in a report and then the values behind those that went out, or after `show_columns` the values alone of
+    /// its streams. The caller flushes. A blank line feeds nothing. The part goes on until nothing can, or until it took as many events as
+    /// each part may, or memory was refused.
+    /// The line is refused with `TooLong`, `NotUtf8`, `BadLine`, `BadValue`, `Feed` and `NoMemory`, in this order: then nothing changed and
+    /// nothing was written. With `Write` the part was run, and a prefix of what is new was written: the session is broken, and takes no more.
     pub fn take<G: Gate, W: Write>(
         &mut self,
         line: &[u8],
@@ -265,8 +248,7 @@ impl<'n> Session<'n> {
         }
         let verdict = self.paced.part(gate);
         let ends = self.paced.ends();
-        self.ring
-            .ask(self.alloc, self.network, self.paced.events(), ends);
+        self.ring.ask(self.network, self.paced.events(), ends);
         begun(&self.paced, self.paced.lines());
         let count = row_count(&self.paced, &self.columns);
         let run = &self.paced;
@@ -279,16 +261,14 @@ impl<'n> Session<'n> {
         Ok(verdict)
     }
 
-    /// The verdict of the last part, where nothing changed since. With one, and if no write failed, the session is settled: it may
-    /// be closed.
+    /// The verdict of the last part, where nothing changed since. With one, and if no write failed, the session is settled: it may be closed.
     pub fn verdict(&self) -> Option<Verdict>
         ensures { result ≡ self.now.flow.run.verdict }
     {
-        self.paced.verdict()
+        self.paced.flow.verdict()
     }
 
-    /// The number from 1 of the first process that has a fault of arithmetic, and which one. It is asked only where the session is
-    /// settled.
+    /// The number from 1 of the first process that has a fault of arithmetic, and which one. Only a settled session is asked.
     pub fn first_fault(&self) -> Option<(usize, Failure)>
         requires { HasVerdict self.now }
         ensures { IsFirstFault self.now.flow.run result }
@@ -296,23 +276,14 @@ impl<'n> Session<'n> {
         first_fault(self.paced.ends())
     }
 
-    /// Whether a process has a fault of arithmetic. It is asked only where the session is settled.
-    pub fn has_fault(&self) -> bool
-        requires { HasVerdict self.now }
-        ensures { IsFaulty self.now.flow.run result }
-    {
-        self.first_fault().is_some()
-    }
-
-    /// Whether no line can change the run any more: the session is settled, the run has finished, and no process waits on an input
-    /// channel.
+    /// Whether no line can change the run any more: the session is settled, the run has finished, and no process waits on an input channel.
     pub fn is_deaf(&self) -> bool
         ensures { IsDeafNow self.now result }
     {
         if self.broken {
             return false;
         }
-        let Some(verdict) = self.paced.verdict() else {
+        let Some(verdict) = self.verdict() else {
             return false;
         };
         is_over(self.network, verdict, self.paced.ends())
@@ -345,7 +316,8 @@ impl<'n> Session<'n> {
     pub fn may_be_slow(&self) -> bool
         ensures { IsTrue result ↔ MayBeSlow self.now.step self.now.flow.run }
     {
-        self.paced.may_be_slow()
+        let (step, left) = (self.paced.step, self.paced.flow.budget());
+        step > 1_000_000 || left < step.saturating_sub(10_000)
     }
 
     /// The name of the first input channel, where there is one.
@@ -382,7 +354,7 @@ impl<'n> Session<'n> {
         requires { HasVerdict self.now }
         ensures { IsClosed self.now.flow.run (W.contents writer.old) (W.contents writer.new) result }
     {
-        let Some(verdict) = self.paced.verdict() else {
+        let Some(verdict) = self.verdict() else {
             unreachable!()
         };
         let ends = self.paced.ends();
@@ -390,6 +362,61 @@ impl<'n> Session<'n> {
         match write_closing(writer, self.network, verdict, ends, events) {
             Ok(()) => Ok(verdict),
             Err(fault) => Err(fault),
+        }
+    }
+}
+
+/// Whether processes may have come to wait on one another in a ring, and from how many events on that is asked again. No clause speaks of it.
+#[derive(Drop)]
+struct RingHint {
+    seen: bool,
+    from: u64,
+    // Of each process the number from 1 of the first one whose waits led to it.
+    walked: Vec<usize>,
+}
+
+fn awaited(network: &Network, ends: &[End], instance: usize) -> Option<usize> {
+    match ends.get(instance)?.outcome {
+        Outcome::Waits(channel) if channel < network.channels() => {
+            Some(network.writer(channel)?.instance)
+        }
+        _ => None,
+    }
+}
+
+impl RingHint {
+    /// Whether the waits of a process lead to one to which they led before, and not to one to which others did.
+    fn leads_back(&mut self, network: &Network, ends: &[End], first: usize) -> bool {
+        let number = first.saturating_add(1);
+        let mut at = first;
+        for _ in 0..ends.len().saturating_add(1) {
+            let Some(walk) = self.walked.get_mut(at) else {
+                return false;
+            };
+            if *walk > 0 {
+                return *walk == number;
+            }
+            *walk = number;
+            let Some(next) = awaited(network, ends, at) else {
+                return false;
+            };
+            at = next;
+        }
+        false
+    }
+
+    /// Asks the processes behind a part with so many events so far: if they are many, not before as many were done as there are processes.
+    fn ask(&mut self, network: &Network, events: u64, ends: &[End]) {
+        if self.seen || (ends.len() > 8 && events < self.from) {
+            return;
+        }
+        self.from = events.saturating_add(ends.len() as u64);
+        self.walked.clear();
+        if self.walked.resize(ends.len(), 0).is_err() {
+            return;
+        }
+        for instance in 0..ends.len() {
+            self.seen = self.seen || self.leads_back(network, ends, instance);
         }
     }
 }

@@ -2,7 +2,7 @@
 use Rattle.std.specs.Prelude.{◌≡◌, ℕ, zero, suc, List, [], ◌∷◌, ◌++◌, Option, None, Some, codes, decimal, length, slice_get}
 use Rattle.std.specs.List.{concat}
 use Rattle.kahn_streams.specs.{declared.tree.Program.Program, declared.config.Config.Config, declared.answer.Stream.Stream, declared.value.Line.TheVariants.Channel, Answers.values_of, Inputs.Lists, Network.network_of, Written.line_feed}
-use Rattle.kahn_sequential.specs.{Recordings.IsRecordedRun, declared.counted.Count.Count, declared.recorded.Recorded.Recorded}
+use Rattle.kahn_sequential.specs.{Recordings.IsRecordedRun, declared.counted.Count.Count, declared.counted.Recorded.Recorded}
 use Rattle.kahn_texts.specs.{Formats.StandsFor, Formats.channel_name, Formats.report_text, News.more_text}
 use Rattle.kahn_fault.specs.Work.{IsChecked}
 use Rattle.kahn_web.specs.Alone.{alone}

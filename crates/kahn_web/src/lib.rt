@@ -4,11 +4,9 @@
 
 ghost use Rattle.kahn_web.specs.{Explained.IsReason, Page.IsPut, Page.IsPutIf, Page.IsRunInto, Picture.IsNetworkPicture, Whole.IsWholeText};
 
-mod explaining;
 mod whole;
 
-use crate::explaining::reason;
-use crate::whole::{kept, run_texts};
+use crate::whole::{kept, reason, run_texts};
 use kahn_fault::checked;
 use kahn_graph::picture_text;
 use std::alloc::Global;

@@ -1,16 +1,12 @@
 -- Inner. What the calls do that put columns together.
 use Rattle.std.specs.Prelude.{◌≡◌, List, [], ◌∷◌, All, length, map}
 use Rattle.kahn_streams.specs.{declared.tree.Program.Program, declared.value.Line.Line, Network.network_of, declared.value.Line.TheVariants.Channel, declared.value.Line.TheVariants.Print, Inputs.Lists, Inputs.inputs_of, Answers.HasStream, Answers.stream_line, declared.answer.Answer.Answer, declared.answer.Stream.Stream, declared.config.Config.Config}
-use Rattle.kahn_sequential.specs.{Recordings.IsRecordedRun, declared.recorded.Recorded.Recorded}
+use Rattle.kahn_sequential.specs.{Recordings.IsRecordedRun, declared.counted.Recorded.Recorded}
 use Rattle.kahn_explain.specs.Histories.{AreHistories, IsHistory, all_channels}
 
 -- the answer has a stream of the line
 abbrev pub HasLine : Answer → Line → Type 0
 HasLine a c = (s : Stream) × HasStream a s × (s.line ≡ c)
-
--- a run that keeps all that is sent
-abbrev pub IsRecord : Program → Recorded → Type 0
-IsRecord t x = (lists : Lists) × (config : Config) × IsRecordedRun t lists config x
 
 -- a history, whatever it was run on
 abbrev pub IsAny : Program → Recorded → Stream → Type 0

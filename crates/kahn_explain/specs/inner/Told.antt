@@ -4,7 +4,7 @@ use Rattle.kahn_streams.specs.{declared.value.Line.Line, declared.config.Config.
 use Rattle.kahn_needs.specs.declared.needs.Found.{Found}
 use Rattle.kahn_needs.specs.declared.needs.Found.TheVariants as found
 use Rattle.kahn_why.specs.{declared.explaining.Admitted.Admitted, declared.explaining.Came.Came, declared.explaining.Came.TheVariants.Stopped, declared.explaining.Came.TheVariants.Refused}
-use Rattle.kahn_explain.specs.{Needing.IsPlaceGiven, Needing.values_on, Running.Replies, declared.replying.Reply.Reply, declared.request.Request.Request, declared.request.Sheet.Sheet}
+use Rattle.kahn_explain.specs.{Needing.IsPlaceGiven, Needing.values_on, Running.Replies, declared.running.Reply.Reply, declared.running.Request.Request, declared.running.Sheet.Sheet}
 
 -- beside what a word asks for the notes are told, and not where it is refused
 abbrev pub notes_for : Came → List ℕ → List ℕ

@@ -2,7 +2,7 @@
 use Rattle.std.specs.Prelude.{◌≡◌, ◌≢◌, ◌⊎◌, ℕ, ◌<◌, ⊤, List, [], ◌∷◌, ◌++◌, length, take, All, Option, None, Some, IfSome, Result, Ok, Err}
 use Rattle.std.specs.{Io.KnownBytes.Consumes, Io.KnownBytes.IsAtEnd, Io.KnownBytes.Keeps, declared.alloc.Global.Global, declared.vec.Vec.Vec}
 use Rattle.kahn_live.specs.{Lines.most_kept, Rows.bytes_in, declared.lines.Next.Next}
-use Rattle.kahn_session.specs.{Live.IsMeantLine, Live.IsUnfedBy, Live.Live, declared.fault.TakeFault.TakeFault, declared.fault.TakeFault.TheVariants.NoMemory as NoMemoryTake}
+use Rattle.kahn_session.specs.{Live.IsMeantLine, Live.IsUnfedBy, Live.Live, declared.refusal.TakeFault.TakeFault, declared.refusal.TakeFault.TheVariants.NoMemory as NoMemoryTake}
 use Rattle.kahn_live.specs.declared.lines.Next.TheVariants as next
 
 -- bytes without a line feed were read, and kept within the limit

@@ -7,7 +7,7 @@ returns-in-Err g c =
     let h = i.paced.flow.run in
     let v = c.in-Some.verdict in
     let ends = c.ends-ends.result.now in
-    let is : h.verdict ≡ Some v = sym c.verdict.ensures ∙ c.in-Some.is in
+    let is : h.verdict ≡ Some v = ap (λ (s : Live). s.flow.run.verdict) c.self.view_is ∙ sym c.verdict.ensures ∙ c.in-Some.is in
     let text = closing_text i.network.now v ends c.events-events.result in
     let same = ap (λ t. closing_text t v ends c.events-events.result) (sym c.self.invariant.0) ∙ ap (λ n. closing_text h.network v ends n) c.events-events.ensures in
     subst

@@ -1,6 +1,6 @@
 use Rattle.kahn_session.proofs.Common.{inr, string_bytes, subst, sym, IsMeantFor, IsNotMeant, Entry, IsEntry, content, IsText, IsMeantLine, IsUnfedBy, Live, Program}
 use Rattle.kahn_session.proofs.Steps.{unmeant}
-use Rattle.kahn_session.specs.declared.fault.TakeFault.TheVariants.{Feed}
+use Rattle.kahn_session.specs.declared.refusal.TakeFault.TheVariants.{Feed}
 use Rattle.kahn_session.proofs.session.Session.try_line.Goals as goal
 
 pub returns-in-Ok : goal.returns-in-Ok
