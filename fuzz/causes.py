@@ -144,11 +144,9 @@ def line_of(checked, text, inputs, ends, p):
     out += ", an input" + taken(len(inputs.get(channel, [])), any(inputs.values())) if writer is None else f" from {who(writer)}"
     if is_round:
         return f"{out}, in a deadlock: for ever"
-    if why == "an input":
-        return out if z == p else f"{out}, as {who(z)} waits on {checked.channels[ends[z][1]][0]}, an input"
-    if why == "wants more":
-        return f"{out}, as {who(z)} wants more events"
-    return f"{out}, as {who(z)} " + {"ring": "is in a deadlock", "ended": "has ended"}.get(why, "has a fault") + ": for ever"
+    if why == "an input" and z == p:
+        return out
+    return f"{out}, as {who(z)} {'has ended' if why == 'ended' else 'goes no further'}" + ": for ever" * (why in FOR_EVER)
 
 
 def below(checked, ends, causes, p, waiting):
