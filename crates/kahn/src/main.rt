@@ -10,13 +10,14 @@ use kahn_streams::RunFault;
 use running::ran;
 use std::io::{BufWriter, Write};
 use std::process::ExitCode;
+use std::random::RandomSource;
 use std::rt::Runtime;
 use std::sync::Wait;
 use std::thread::Threads;
 use std::{env, io};
 
 /// Does what the command line asks for, and returns the status. Faults are reported to the writer.
-fn answered<R: Runtime + AllocGlobal + Threads + Wait + Sync, W: Write>(
+fn answered<R: Runtime + AllocGlobal + RandomSource + Threads + Wait + Sync, W: Write>(
     rt: &R,
     options: Options,
     errors: &mut W,

@@ -31,7 +31,8 @@ pub(crate) fn ran<R: Runtime + AllocGlobal + Threads + Wait + Sync, W: Write, E:
 ) -> Told
     ensures { HasRunTexts texts.now config (W.contents writer.old) (W.contents writer.new) (E.contents errors.old) (E.contents errors.new) result }
 {
+    let (alloc, seed) = (rt.alloc(), texts.seed);
     let (program, input) = (texts.program.as_str(), texts.input.as_str());
-    let answer = run_answer(work(rt, rt.alloc(), program, input, config, &Open, writer));
+    let answer = run_answer(work(rt, alloc, seed, program, input, config, &Open, writer));
     tell(&answer, program, errors)
 }

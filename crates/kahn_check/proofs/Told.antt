@@ -1,5 +1,5 @@
 -- What is told of each part in turn.
-use Rattle.kahn_check.proofs.Common.{Ok, Err, Result, slice_get, AllByRecursion, IsMade, IsWellWired, faults, ◌≡◌, inl, inr, ℕ, zero, suc, ◌+◌, ◌-◌, List, [], ◌∷◌, ◌++◌, map, length, Option, None, Some, refl, ap, sym, ◌∙◌, subst, append_assoc, bytes_eq, arith, nat_tests, false, option_or, append-nil, map-append, lookup, ◌==◌, Name, Kind, Role, Direction, Process, Parameter, Argument, Declaration, Instance, Program, In, Out, bytes_of, Vec, Wire, shown, lines_of, entries, IsChannel, IsProcess, declared_of, declared_channels, handed, handed_in, parameters_of, side_at, CheckFault, NoMemory, TooMany, Span, verdict, IsMet, most_channels, most_instances, too_many, repeated, process_faults, miscounted, name_parts, parts, side_parts, firsts, first_alone, faults_by_part, unless_empty, HaveGot, HasTold, no_room, first_fault, fault_alone, first_then, seat_faults, seats_parts, sides_parts, Ends, taken, place_faults, places_faults, made_in, meant, handed_to, handed_all, side_in, as_lines, line_in, lines_in, HasWired, made_of, made_all, process_at, Table, as_channels}
+use Rattle.kahn_check.proofs.Common.{Ok, Err, Result, slice_get, AllByRecursion, IsMade, IsWellWired, faults, ◌≡◌, inl, inr, ℕ, zero, suc, ◌+◌, ◌-◌, List, [], ◌∷◌, ◌++◌, map, length, Option, None, Some, refl, ap, sym, ◌∙◌, subst, append_assoc, bytes_eq, arith, nat_tests, false, option_or, append-nil, map-append, lookup, ◌==◌, Name, Kind, Role, Direction, Process, Parameter, Argument, Declaration, Instance, Program, In, Out, bytes_of, Vec, NamedWire, shown, lines_of, entries, IsChannel, IsProcess, declared_of, declared_channels, handed, handed_in, parameters_of, side_at, CheckFault, NoMemory, TooMany, Span, verdict, IsMet, most_channels, most_instances, too_many, repeated, process_faults, miscounted, name_parts, parts, side_parts, firsts, first_alone, faults_by_part, unless_empty, HaveGot, HasTold, no_room, first_fault, fault_alone, first_then, seat_faults, seats_parts, sides_parts, Ends, taken, place_faults, places_faults, made_in, meant, handed_to, handed_all, side_in, as_lines, line_in, lines_in, HasWired, made_of, made_all, process_at, Table, as_channels}
 use Rattle.std.specs.Prelude.{OnOk}
 use Rattle.std.specs.{Bool.then_some, Result.result_err, declared.alloc.Global.Global}
 use Rattle.kahn_streams.specs.declared.tree.Declaration.TheVariants as D
@@ -214,12 +214,12 @@ seats_onward g i x xs w r w' r' fs fs' xs0 w0 r0 fs0 h more grown =
 -- ---- the sides of channels
 
 -- the wires and the faults of sides come out with the channels that are left as those with 0 do with all
-pub record AreWired (w r : Ends) (left : List (Name × (Kind × Role))) (ws : List Wire) (fs : List CheckFault) (all : List (Name × (Kind × Role))) (ws0 : List Wire) (fs0 : List CheckFault) : Type 0 where
+pub record AreWired (w r : Ends) (left : List (Name × (Kind × Role))) (ws : List NamedWire) (fs : List CheckFault) (all : List (Name × (Kind × Role))) (ws0 : List NamedWire) (fs0 : List CheckFault) : Type 0 where
   pub lines : (rest : List (Name × (Kind × Role))) → map shown ws ++ lines_in w r (left ++ rest) ≡ map shown ws0 ++ lines_in w r (all ++ rest)
   pub sides : (rest : List (Name × (Kind × Role))) → fs ++ firsts (sides_parts w r (left ++ rest)) ≡ fs0 ++ firsts (sides_parts w r (all ++ rest))
 
-pub wired_step : (w r : Ends) (kind : Kind) (role : Role) (x : Name) (xs : List Name) (ws : List Wire) (one : Wire) (fs fs' : List CheckFault) (found : Option CheckFault)
-    (all : List (Name × (Kind × Role))) (ws0 : List Wire) (fs0 : List CheckFault) → AreWired w r (as_lines kind role (x ∷ xs)) ws fs all ws0 fs0 → found ≡ first_fault (side_in w r x role) →
+pub wired_step : (w r : Ends) (kind : Kind) (role : Role) (x : Name) (xs : List Name) (ws : List NamedWire) (one : NamedWire) (fs fs' : List CheckFault) (found : Option CheckFault)
+    (all : List (Name × (Kind × Role))) (ws0 : List NamedWire) (fs0 : List CheckFault) → AreWired w r (as_lines kind role (x ∷ xs)) ws fs all ws0 fs0 → found ≡ first_fault (side_in w r x role) →
     fs' ≡ fs ++ fault_alone found → shown one ≡ line_in w r (x, (kind, role)) → AreWired w r (as_lines kind role xs) (ws ++ one ∷ []) fs' all ws0 fs0
 wired_step w r kind role x xs ws one fs fs' found all ws0 fs0 h is more line =
     record {
@@ -231,14 +231,14 @@ wired_step w r kind role x xs ws one fs fs' found all ws0 fs0 h is more line =
       sides = λ rest. one_told fs fs' (side_in w r x role) (sides_parts w r (as_lines kind role xs ++ rest)) found is more ∙ h.sides rest;
     }
 
-pub wired_begin : (w r : Ends) (all : List (Name × (Kind × Role))) (ws : List Wire) (fs : List CheckFault) → AreWired w r all ws fs all ws fs
+pub wired_begin : (w r : Ends) (all : List (Name × (Kind × Role))) (ws : List NamedWire) (fs : List CheckFault) → AreWired w r all ws fs all ws fs
 wired_begin w r all ws fs = record { lines = λ rest. refl; sides = λ rest. refl }
 
-pub channels_wired : (w r : Ends) (kind : Kind) (role : Role) (names : Vec Name Global) (ws ws0 : List Wire) (fs fs0 : List CheckFault) → AreWired w r [] ws fs (as_lines kind role names.items) ws0 fs0 →
+pub channels_wired : (w r : Ends) (kind : Kind) (role : Role) (names : Vec Name Global) (ws ws0 : List NamedWire) (fs fs0 : List CheckFault) → AreWired w r [] ws fs (as_lines kind role names.items) ws0 fs0 →
     HasWired w r (D.Channels kind role names) ws fs ws0 fs0
 channels_wired w r kind role names ws ws0 fs fs0 h = record { lines = λ rest. h.lines (declared_channels rest); sides = λ rest. h.sides (declared_channels rest) }
 
-pub process_wired : (w r : Ends) (p : Process) (ws : List Wire) (fs : List CheckFault) → HasWired w r (D.Process p) ws fs ws fs
+pub process_wired : (w r : Ends) (p : Process) (ws : List NamedWire) (fs : List CheckFault) → HasWired w r (D.Process p) ws fs ws fs
 process_wired w r p ws fs = record { lines = λ rest. refl; sides = λ rest. refl }
 
 -- ---- the whole program

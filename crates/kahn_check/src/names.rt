@@ -5,16 +5,17 @@ ghost use Rattle.std.specs.Map.{lookup};
 ghost use Rattle.std.proofs.Common.{bytes_eq};
 ghost use Rattle.kahn_streams.specs.{View.bytes_of, Faults.Declares};
 
+use indexmap::IndexMap;
 use kahn_streams::{About, CheckFault, Kind, Name, NoMemory, Process, Role, Side, Taking};
 use std::alloc::Global;
-use std::collections::BTreeMap;
+use std::hash::RandomState;
 use std::marker::{Model, PhantomData};
 
 /// What each name stands for. Contracts see the names in the order in which they were added.
 #[derive(Drop)]
 pub struct NameTable<V> {
-    // In the order of their texts: chosen names can't make a look-up slow, as they can in a hash table.
-    by_text: BTreeMap<String, V>,
+    // Hashed under a secret, so chosen names can't make a look-up slow. The order is that of insertion.
+    by_text: IndexMap<String, V, RandomState>,
     listed: About<NameList<V>>,
 }
 
@@ -49,7 +50,7 @@ impl<V> Model for NameList<V> {
 
 impl<V> Model for NameTable<V> {
     ghost use Rattle.std.specs.Prelude.{List, ℕ};
-    ghost use Rattle.std.specs.BTreeMap.{get_by_text};
+    ghost use Rattle.indexmap.specs.IndexMap.{get_by_text};
     ghost use Rattle.kahn_check.specs.inner.Names.{AreFound};
 
     ghost Value = { List (List ℕ × V) };
@@ -68,12 +69,12 @@ fn in_order<V>(_names: &NameTable<V>, _name: &Name, _what: &V) -> About<NameList
 }
 
 impl<V: Copy> NameTable<V> {
-    /// Starts with no names.
-    pub fn new(alloc: Global) -> NameTable<V>
+    /// Starts with no names, which are hashed under `seed`.
+    pub fn new(alloc: Global, seed: RandomState) -> NameTable<V>
         ensures { result ≡ [] }
     {
         NameTable {
-            by_text: BTreeMap::new(alloc),
+            by_text: IndexMap::with_hasher(alloc, seed),
             listed: About::named(),
         }
     }

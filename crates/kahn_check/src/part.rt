@@ -16,6 +16,7 @@ use kahn_streams::{
     Parameter, Process, Program, Role, Side, Span, Taking, Wire, kept,
 };
 use std::alloc::Global;
+use std::hash::RandomState;
 
 /// The most channels of a program.
 const MOST_CHANNELS: usize = 1024;
@@ -54,10 +55,15 @@ fn twice(globals: &Globals, name: &Name) -> Option<CheckFault>
 }
 
 #[tactic(auto, using(crate::proofs::Told::body_right, crate::proofs::Told::body_wrong))]
-fn add_body(alloc: Global, faults: &mut Vec<CheckFault>, process: &Process) -> Result<(), NoMemory>
+fn add_body(
+    alloc: Global,
+    seed: RandomState,
+    faults: &mut Vec<CheckFault>,
+    process: &Process,
+) -> Result<(), NoMemory>
     ensures { IfOk result (λ u. HasAddedFirst (process_faults process.now) faults.old.items faults.new.items) }
 {
-    match check_process(alloc, process) {
+    match check_process(alloc, seed, process) {
         Ok(()) => Ok(()),
         Err(CheckFault::NoMemory) => Err(NoMemory),
         Err(fault) => add(faults, Some(fault)),
@@ -68,6 +74,7 @@ fn add_body(alloc: Global, faults: &mut Vec<CheckFault>, process: &Process) -> R
 #[tactic(auto, using(crate::proofs::Told::names_begin, crate::proofs::Told::channels_told, crate::proofs::Told::process_told))]
 fn add_declaration<'p>(
     alloc: Global,
+    seed: RandomState,
     globals: &mut Globals<'p>,
     faults: &mut Vec<CheckFault>,
     room: usize,
@@ -91,7 +98,7 @@ fn add_declaration<'p>(
         Declaration::Process(process) => {
             add(faults, twice(globals, &process.name))?;
             globals.keep(&process.name, Entry::Process(number, process))?;
-            add_body(alloc, faults, process)?;
+            add_body(alloc, seed, faults, process)?;
             Ok(room)
         }
     }
@@ -252,7 +259,7 @@ fn side(
 /// Adds the wires of the channels of a declaration, and the first fault of the sides of each.
 #[tactic(auto, using(crate::proofs::Told::wired_step, crate::proofs::Told::wired_begin, crate::proofs::Told::channels_wired, crate::proofs::Told::process_wired))]
 fn add_wires(
-    wires: &mut Vec<Wire>,
+    wires: &mut Vec<(String, Wire)>,
     faults: &mut Vec<CheckFault>,
     writers: &ChannelSides,
     readers: &ChannelSides,
@@ -265,13 +272,13 @@ fn add_wires(
     };
     for name in names {
         add(faults, side(writers, readers, name, *role))?;
-        wires.push(Wire {
-            name: name.text.clone()?,
+        let wire = Wire {
             kind: *kind,
             role: *role,
             writer: writers.find(name),
             reader: readers.find(name),
-        })?;
+        };
+        wires.push((name.text.clone()?, wire))?;
     }
     Ok(())
 }
@@ -282,7 +289,7 @@ struct CheckWalk {
     /// The first fault of each part.
     faults: Vec<CheckFault>,
     /// The declared channels, each with its first writer and its first reader.
-    wires: Vec<Wire>,
+    wires: Vec<(String, Wire)>,
     /// Where the processes of the instances are declared.
     processes: Vec<usize>,
 }
@@ -295,17 +302,25 @@ fn unless_empty(faults: Vec<CheckFault>, sides: Vec<CheckFault>) -> Vec<CheckFau
 }
 
 /// Returns the first fault of each part of a program, and its tables. The sides of channels are told of only if nothing else is wrong.
-fn walk(alloc: Global, program: &Program) -> Result<CheckWalk, NoMemory>
+fn walk(alloc: Global, seed: RandomState, program: &Program) -> Result<CheckWalk, NoMemory>
     ensures { IfOk result (IsWalkOf program.now) }
 {
-    let mut globals = Globals::new(alloc);
+    let mut globals = Globals::new(alloc, seed);
     let mut faults = Vec::new(alloc);
     let mut room = MOST_CHANNELS;
     for (number, declaration) in program.declarations.iter().enumerate() {
-        room = add_declaration(alloc, &mut globals, &mut faults, room, number, declaration)?;
+        room = add_declaration(
+            alloc,
+            seed,
+            &mut globals,
+            &mut faults,
+            room,
+            number,
+            declaration,
+        )?;
     }
-    let mut writers = ChannelSides::new(alloc);
-    let mut readers = ChannelSides::new(alloc);
+    let mut writers = ChannelSides::new(alloc, seed);
+    let mut readers = ChannelSides::new(alloc, seed);
     let mut processes = Vec::new(alloc);
     for (seat, instance) in program.instances.iter().enumerate() {
         add_instance(
@@ -332,24 +347,32 @@ fn walk(alloc: Global, program: &Program) -> Result<CheckWalk, NoMemory>
 
 /// Returns what is wrong with a program: the first fault of each declared name, of each body and of each instance, in text
 /// order; and if all these are right, of each declared channel that lacks a writer or a reader. The first of them is the one
-/// that `check` returns. Fails only if memory was refused.
-pub fn every(alloc: Global, program: &Program) -> Result<Vec<CheckFault>, NoMemory>
+/// that `check` returns. Names are hashed under `seed`, on which no answer depends. Fails only if memory was refused.
+pub fn every(
+    alloc: Global,
+    seed: RandomState,
+    program: &Program,
+) -> Result<Vec<CheckFault>, NoMemory>
     ensures { IfOk result (λ faults. faults.items ≡ faults_by_part program.now) }
 {
-    Ok(walk(alloc, program)?.faults)
+    Ok(walk(alloc, seed, program)?.faults)
 }
 
 /// Makes the network of a program, or returns the first thing that is wrong with it, in this order: the declarations in
-/// text order, then the instances, then each declared channel that lacks a writer or a reader. Fails with `NoMemory` if
-/// memory was refused.
-pub fn check(alloc: Global, program: Program) -> Result<Network, CheckFault>
+/// text order, then the instances, then each declared channel that lacks a writer or a reader. Names are hashed under `seed`,
+/// on which no answer depends. Fails with `NoMemory` if memory was refused.
+pub fn check(alloc: Global, seed: RandomState, program: Program) -> Result<Network, CheckFault>
     ensures { MatchResult result (λ n. (n ≡ program) × IsWellWired program) (λ f. IsMet (faults program) f) }
 {
-    let Ok(walked) = walk(alloc, &program) else {
+    let Ok(walked) = walk(alloc, seed, &program) else {
         return Err(CheckFault::NoMemory);
     };
     match walked.faults.first().copied() {
         Some(fault) => Err(fault),
-        None => Ok(kept(program, walked.wires, walked.processes)),
+        None => {
+            kept(alloc, seed, program, walked.wires, walked.processes).map_err(
+                |_| CheckFault::NoMemory,
+            )
+        }
     }
 }

@@ -7,6 +7,7 @@ use crate::expression::{agree, channel, expect, kind, variable};
 use crate::names::Scope;
 use kahn_streams::{Action, CheckFault, Direction, Kind, Process, Statement, Taking};
 use std::alloc::Global;
+use std::hash::RandomState;
 
 /// Finds the first thing that is wrong in a statement.
 #[tactic(auto, using(crate::proofs::Walk::verdict_ok, crate::proofs::Walk::verdict_err, crate::proofs::Walk::verdict_none, crate::proofs::Walk::verdict_same))]
@@ -64,10 +65,10 @@ fn body(scope: &Scope, statements: &[Statement]) -> Result<(), CheckFault>
 
 /// Returns the names of a process, its parameters first and then its variables.
 #[tactic(auto, using(crate::proofs::Twice::twice_new, crate::proofs::Twice::twice_known, crate::proofs::Twice::more_entries))]
-fn locals(alloc: Global, process: &Process) -> Result<Scope, CheckFault>
+fn locals(alloc: Global, seed: RandomState, process: &Process) -> Result<Scope, CheckFault>
     ensures { Checks (twice [] (locals_of process.now)) (λ s. s ≡ scope_of process.now) result }
 {
-    let mut scope = Scope::new(alloc);
+    let mut scope = Scope::new(alloc, seed);
     for parameter in &process.parameters {
         scope.declare(&parameter.name, parameter.taking)?;
     }
@@ -79,9 +80,9 @@ fn locals(alloc: Global, process: &Process) -> Result<Scope, CheckFault>
 
 /// Finds the first thing that is wrong in a process.
 #[tactic(auto, using(crate::proofs::Walk::verdict_ok, crate::proofs::Walk::verdict_err))]
-pub fn check_process(alloc: Global, process: &Process) -> Result<(), CheckFault>
+pub fn check_process(alloc: Global, seed: RandomState, process: &Process) -> Result<(), CheckFault>
     ensures { MatchResult result (λ u. process_faults process.now ≡ []) (λ f. IsMet (process_faults process.now) f) }
 {
-    let scope = locals(alloc, process)?;
+    let scope = locals(alloc, seed, process)?;
     body(&scope, &process.statements)
 }

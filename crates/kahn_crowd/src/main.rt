@@ -11,8 +11,10 @@ use kahn_line::{Options, read_line, tell_line, tell_no_memory, tell_words};
 use kahn_pool::{Answer, Config, Gate, Held, HeldFault, RunFault, Verdict};
 use kahn_report::{WorkFault, checked, read_input, work, write_report};
 use kahn_streams::{Line, Network};
+use std::hash::RandomState;
 use std::io::{BufWriter, Write};
 use std::process::ExitCode;
+use std::random::RandomSource;
 use std::rt::Runtime;
 use std::sync::Wait;
 use std::thread::Threads;
@@ -49,13 +51,14 @@ fn has_its_lines(network: &Network, answer: &Answer) -> bool
 /// Runs the program on the input in a part, and writes the report. After a refusal, which is told, it goes on once.
 fn work_in_parts<R: Runtime + AllocGlobal + Threads + Wait + Sync, W: Write, E: Write>(
     rt: &R,
+    seed: RandomState,
     program: &str,
     input: &str,
     config: Config,
     writer: &mut W,
     errors: &mut E,
 ) -> Result<Verdict, WorkFault> {
-    let network = checked(rt.alloc(), program)?;
+    let network = checked(rt.alloc(), seed, program)?;
     let input = read_input(rt.alloc(), input, &network)?;
     let mut held = match Held::start(rt.alloc(), &network, input, config) {
         Ok(held) => held,
@@ -91,7 +94,7 @@ fn work_in_parts<R: Runtime + AllocGlobal + Threads + Wait + Sync, W: Write, E: 
 }
 
 /// Does what the command line asks for, and returns the status. Faults are reported to the writer.
-fn answered<R: Runtime + AllocGlobal + Threads + Wait + Sync, W: Write>(
+fn answered<R: Runtime + AllocGlobal + RandomSource + Threads + Wait + Sync, W: Write>(
     rt: &R,
     options: Options,
     held: bool,
@@ -108,9 +111,18 @@ fn answered<R: Runtime + AllocGlobal + Threads + Wait + Sync, W: Write>(
         return tell(&Err(refused), "", errors).status;
     };
     let worked = if held {
-        work_in_parts(rt, program, input, config, &mut writer, errors)
+        work_in_parts(rt, texts.seed, program, input, config, &mut writer, errors)
     } else {
-        work(rt, alloc, program, input, config, &Through, &mut writer)
+        work(
+            rt,
+            alloc,
+            texts.seed,
+            program,
+            input,
+            config,
+            &Through,
+            &mut writer,
+        )
     };
     let answer = match worked {
         Ok(verdict) => Ok(verdict),

@@ -28,7 +28,7 @@ pub record AreWithin (path : Option (String Global)) (texts : Texts) : Type 0 wh
   pub input : length (string_bytes texts.input) ≤ most_input_bytes
   pub empty : path ≡ None → string_bytes texts.input ≡ []
 
--- a fault of the program text names the path that was given
+-- a fault of the program text names the path that was given; so does a failed read that stands for a secret that the system didn't give
 abbrev pub IsOfProgram : Option (String Global) → Fault → Type 0
 IsOfProgram given (Open path) = given ≡ Some path
 IsOfProgram given (Program path fault) = given ≡ path

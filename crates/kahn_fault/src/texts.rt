@@ -11,7 +11,9 @@ use kahn_marks::add_shown_text;
 use kahn_texts::{ReadFault, WriteFault, read_text, write_line};
 use std::alloc::{AllocError, Global};
 use std::fs;
+use std::hash::RandomState;
 use std::io::{ErrorKind, Read, Write};
+use std::random::RandomSource;
 use std::rt::Runtime;
 
 /// The most bytes of a program text.
@@ -20,9 +22,11 @@ pub const MOST_PROGRAM_BYTES: usize = 1_048_576;
 /// The most bytes of an input text.
 pub const MOST_INPUT_BYTES: usize = 16_777_216;
 
-/// The texts of a run.
+/// The texts of a run, and the secret for its hashes.
 #[derive(Drop)]
 pub struct Texts {
+    /// The secret under which the names of the program are hashed.
+    pub seed: RandomState,
     /// The program text.
     pub program: String,
     /// The input text, which is empty if no file is named.
@@ -74,17 +78,25 @@ fn input_text<R: Runtime + AllocGlobal>(rt: &R, path: Option<String>) -> Result<
     input_of(rt.alloc(), &mut file, path)
 }
 
-/// Opens and reads the program text, and then the input text, each within its limit. A fault names the path that was given.
-pub fn read_texts<R: Runtime + AllocGlobal>(
+/// Takes a secret from the system, and opens and reads the program text and then the input text, each within its limit. A
+/// fault names the path that was given. If the system has no secret, the program text counts as one that can't be read.
+pub fn read_texts<R: Runtime + AllocGlobal + RandomSource>(
     rt: &R,
     program: Option<String>,
     input: Option<String>,
 ) -> Result<Texts, Fault>
     ensures { MatchResult result (AreWithin input) (IsOfTexts program input) }
 {
+    let Ok(seed) = RandomState::new(rt) else {
+        return Err(Fault::Program(program, ReadFault::Failed));
+    };
     let program = program_text(rt, program)?;
     let input = input_text(rt, input)?;
-    Ok(Texts { program, input })
+    Ok(Texts {
+        seed,
+        program,
+        input,
+    })
 }
 
 /// Returns why the system opens or reads no file, in words.

@@ -8,6 +8,7 @@ use kahn_streams::{Network, RunFault};
 use kahn_syntax::{SyntaxFault, parse};
 use kahn_texts::{TextFault, WriteFault};
 use std::alloc::Global;
+use std::hash::RandomState;
 use thiserror::Error;
 
 /// Why no report was written, or not the whole of it. But for `Write`, nothing was written.
@@ -42,14 +43,15 @@ impl From<TextFault> for WorkFault {
 }
 
 /// Parses and checks a program text. Fails with `Syntax` if it isn't of the language, and with `Check` if it isn't well wired.
-pub fn checked(alloc: Global, program: &str) -> Result<Network, WorkFault>
+/// Names are hashed under `seed`, on which no answer depends.
+pub fn checked(alloc: Global, seed: RandomState, program: &str) -> Result<Network, WorkFault>
     ensures { MatchResult result (IsChecked program.now) (IsUnchecked program.now) }
 {
     let tree = match parse(alloc, program) {
         Ok(tree) => tree,
         Err(fault) => return Err(WorkFault::Syntax(fault)),
     };
-    match check(alloc, tree) {
+    match check(alloc, seed, tree) {
         Ok(network) => Ok(network),
         Err(fault) => Err(WorkFault::Check(fault)),
     }

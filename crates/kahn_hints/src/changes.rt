@@ -13,6 +13,7 @@ use kahn_streams::{CheckFault, Kind, NoMemory, Span};
 use kahn_syntax::Keyword::{Channel, In, Input, Integer, Logical, Out, Output};
 use kahn_syntax::{Class, Lexeme, SyntaxFault, parse};
 use std::alloc::Global;
+use std::hash::RandomState;
 
 /// Whether memory was there for trying a change.
 type Tried = Result<(), NoMemory>;
@@ -59,11 +60,15 @@ fn are_known(text: &str, faults: &[CheckFault], other: &str, left: &[CheckFault]
 }
 
 /// The faults of a text, if it spells a program.
-fn faults_in(alloc: Global, text: &str) -> Result<Option<Vec<CheckFault>>, NoMemory>
+fn faults_in(
+    alloc: Global,
+    seed: RandomState,
+    text: &str,
+) -> Result<Option<Vec<CheckFault>>, NoMemory>
     ensures { IfOk result (λ found. IfSome found (λ fs. AreFaultsOf text.now fs.items)) }
 {
     match parse(alloc, text) {
-        Ok(tree) => Ok(Some(every(alloc, &tree)?)),
+        Ok(tree) => Ok(Some(every(alloc, seed, &tree)?)),
         Err(SyntaxFault::NoMemory) => Err(NoMemory),
         Err(_) => Ok(None),
     }
@@ -79,6 +84,7 @@ fn are_fewer(text: &str, faults: &[CheckFault], other: &str, left: &[CheckFault]
 /// How many faults of a text a change leaves, if these are fewer and none wasn't there, and one isn't there any more.
 pub(crate) fn left_by(
     alloc: Global,
+    seed: RandomState,
     text: &str,
     faults: &[CheckFault],
     fault: CheckFault,
@@ -90,7 +96,7 @@ pub(crate) fn left_by(
         return Ok(None);
     };
     let other = changed.as_str();
-    let Some(left) = faults_in(alloc, other)? else {
+    let Some(left) = faults_in(alloc, seed, other)? else {
         return Ok(None);
     };
     if is_known(other, &left, text, fault) {
@@ -112,7 +118,7 @@ pub(crate) fn found_kind(place: NetworkPlace) -> Result<Option<Kind>, NoMemory> 
     let Some(other) = applied(alloc, place.text, &Fix { span, put, beside })? else {
         return Ok(None);
     };
-    let Some(faults) = faults_in(alloc, other.as_str())? else {
+    let Some(faults) = faults_in(alloc, place.seed, other.as_str())? else {
         return Ok(None);
     };
     let is_wrong = faults.iter().any(|fault| {
@@ -209,7 +215,14 @@ impl<'p> Trial<'p> {
         let (from, to) = (parts.0.from, parts.1.to);
         let (span, beside) = (Span { from, to }, parts.1);
         let fix = Fix { span, put, beside };
-        if let Some(left) = left_by(place.alloc, place.text, place.faults, self.fault, &fix)? {
+        if let Some(left) = left_by(
+            place.alloc,
+            place.seed,
+            place.text,
+            place.faults,
+            self.fault,
+            &fix,
+        )? {
             let change = Edit {
                 way,
                 fix,

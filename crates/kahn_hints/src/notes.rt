@@ -14,6 +14,7 @@ use kahn_marks::{Fix, MOST_NOTES, Note, Sort};
 use kahn_streams::{CheckFault, NoMemory, Program, Span};
 use kahn_syntax::lex;
 use std::alloc::Global;
+use std::hash::RandomState;
 
 /// What is told of the faults of a network.
 #[derive(Drop)]
@@ -59,6 +60,7 @@ fn span_of(fault: CheckFault) -> Span
 /// The change that is told apart from the words of a fault.
 fn fix_of(
     alloc: Global,
+    seed: RandomState,
     text: &str,
     faults: &[CheckFault],
     fault: CheckFault,
@@ -69,7 +71,7 @@ fn fix_of(
     let Some(change) = change else {
         return Ok(None);
     };
-    match left_by(alloc, text, faults, fault, &change.fix)? {
+    match left_by(alloc, seed, text, faults, fault, &change.fix)? {
         Some(_) if change.way == EditKind::Fix => Ok(Some(change.fix)),
         _ => Ok(None),
     }
@@ -94,7 +96,7 @@ fn found_at(
         sort: Sort::Error,
         span: span_of(fault),
         words,
-        fix: fix_of(alloc, text, faults, fault, change)?,
+        fix: fix_of(alloc, place.seed, text, faults, fault, change)?,
         below: Vec::new(alloc),
         others: others_of(place, fault, &facts)?,
     };
@@ -153,6 +155,7 @@ impl ToldNotes {
 /// refused.
 pub fn fault_notes(
     alloc: Global,
+    seed: RandomState,
     text: &str,
     program: &Program,
     faults: &[CheckFault],
@@ -165,7 +168,9 @@ pub fn fault_notes(
     };
     let bodies = bodies_in(alloc, program)?;
     let handed = handed_in(alloc, program, &bodies)?;
-    let begin = beginning(alloc, text, &lexemes, program, &bodies, &handed, faults);
+    let begin = beginning(
+        alloc, seed, text, &lexemes, program, &bodies, &handed, faults,
+    );
     let notes = Vec::new(alloc);
     let told = Vec::new(alloc);
     let mut telling = ToldNotes {

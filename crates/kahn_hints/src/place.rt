@@ -10,6 +10,7 @@ use kahn_streams::{
 };
 use kahn_syntax::{Class, Keyword, Lexeme, Sign};
 use std::alloc::{AllocError, Global};
+use std::hash::RandomState;
 
 /// Of so many instances the arguments are looked at: as many as a program may have.
 const MOST_INSTANCES: usize = 256;
@@ -149,6 +150,7 @@ pub(crate) fn handed_in<'p>(
 #[derive(Clone, Copy)]
 pub(crate) struct NetworkPlace<'p> {
     pub(crate) alloc: Global,
+    pub(crate) seed: RandomState,
     pub(crate) text: &'p str,
     pub(crate) lexemes: &'p [Lexeme],
     pub(crate) program: &'p Program,
@@ -169,6 +171,7 @@ pub(crate) struct NetworkPlace<'p> {
 /// That at the beginning of a text.
 pub(crate) fn beginning<'p>(
     alloc: Global,
+    seed: RandomState,
     text: &'p str,
     lexemes: &'p [Lexeme],
     program: &'p Program,
@@ -178,6 +181,7 @@ pub(crate) fn beginning<'p>(
 ) -> NetworkPlace<'p> {
     NetworkPlace {
         alloc,
+        seed,
         text,
         lexemes,
         program,

@@ -8,6 +8,7 @@ use kahn_pool::{Answer, Config, Gate, Verdict, run};
 use kahn_streams::Network;
 use kahn_texts::{read_input, write_for};
 use std::alloc::Global;
+use std::hash::RandomState;
 use std::io::Write;
 use std::sync::Wait;
 use std::thread::Threads;
@@ -32,7 +33,8 @@ fn answered<R: Threads + Wait + Sync, G: Gate + Sync>(
 
 /// Reads a program and an input, runs the program, and writes the report of its answer: from the bytes of the texts to
 /// the bytes of the report. Nothing is written before the answer is complete; if a write fails, a prefix of the report
-/// went out. A long report is formatted by as many threads as work.
+/// went out. A long report is formatted by as many threads as work. Names are hashed under `seed`, on which no answer
+/// depends.
 ///
 /// The verdict, if it isn't `Memory`, is `Finished` exactly if the size of the solution is at most the bound.
 ///
@@ -40,6 +42,7 @@ fn answered<R: Threads + Wait + Sync, G: Gate + Sync>(
 pub fn work<R: Threads + Wait + Sync, G: Gate + Sync, W: Write>(
     rt: &R,
     alloc: Global,
+    seed: RandomState,
     program: &str,
     input: &str,
     config: Config,
@@ -50,7 +53,7 @@ pub fn work<R: Threads + Wait + Sync, G: Gate + Sync, W: Write>(
     ensures exact { IfOk result (FinishesWithin program.now input.now config) }
 {
     let workers = config.workers;
-    let network = match checked(alloc, program) {
+    let network = match checked(alloc, seed, program) {
         Ok(network) => network,
         Err(fault) => return Err(fault),
     };

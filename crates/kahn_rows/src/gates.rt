@@ -63,7 +63,7 @@ fn one_worker_takes_turns(rt: HostRuntime) -> Result<(), Fail> {
 #[test]
 fn a_flow_takes_turns(rt: HostRuntime) -> Result<(), Fail> {
     let alloc = rt.alloc();
-    let network = network_of(alloc, TWO_COUNTS)?;
+    let network = network_of(&rt, alloc, TWO_COUNTS)?;
     let input = Input::none(alloc, &network)?;
     let mut flow = Flow::start(alloc, &network, input, config(1, 2, AMPLE))?;
     let gate = Counting::of(Hold::Inside(0), false);
@@ -108,7 +108,11 @@ fn workers_at_once(rt: HostRuntime) -> Result<(), Fail> {
 #[test]
 fn workers_at_once_in_parts(rt: HostRuntime) -> Result<(), Fail> {
     let alloc = rt.alloc();
-    let network = network_of(alloc, instances(alloc, 16, "repeat begin end")?.as_str())?;
+    let network = network_of(
+        &rt,
+        alloc,
+        instances(alloc, 16, "repeat begin end")?.as_str(),
+    )?;
     for workers in 1..17u64 {
         for (quantum, bound) in [(1, 64), (2, 128), (7, 448), (2000, 128_000)] {
             let input = Input::none(alloc, &network)?;

@@ -164,7 +164,7 @@ fn parts_at_random(rt: HostRuntime) -> Result<(), Fail> {
     ];
     let mut number = 74;
     for (program, input, watch) in rows {
-        let network = network_of(alloc, program)?;
+        let network = network_of(&rt, alloc, program)?;
         let once = watching(alloc, watch, 1, 1000, AMPLE)?;
         let whole = run(
             &rt,

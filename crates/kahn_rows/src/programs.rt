@@ -5,6 +5,8 @@ use kahn_pool::{Config, Gate};
 use kahn_report::work;
 use kahn_syntax::parse;
 use std::alloc::{AllocError, Global};
+use std::hash::RandomState;
+use std::random::RandomSource;
 use std::sync::Wait;
 use std::test::Fail;
 use std::thread::Threads;
@@ -23,12 +25,12 @@ pub fn config(workers: u64, quantum: u64, bound: u64) -> Config {
 }
 
 /// Returns the network of a program text.
-pub fn network_of(alloc: Global, program: &str) -> Result<Network, Fail> {
-    Ok(check(alloc, parse(alloc, program)?)?)
+pub fn network_of<R: RandomSource>(rt: &R, alloc: Global, program: &str) -> Result<Network, Fail> {
+    Ok(check(alloc, RandomState::new(rt)?, parse(alloc, program)?)?)
 }
 
 /// Returns the report of a program without an input, by so many workers with a quantum and a bound.
-pub fn reported<R: Threads + Wait + Sync, G: Gate + Sync>(
+pub fn reported<R: RandomSource + Threads + Wait + Sync, G: Gate + Sync>(
     rt: &R,
     alloc: Global,
     program: &str,
@@ -37,7 +39,8 @@ pub fn reported<R: Threads + Wait + Sync, G: Gate + Sync>(
 ) -> Result<String, Fail> {
     let config = config(workers, quantum, bound);
     let mut written = Vec::new(alloc);
-    work(rt, alloc, program, "", config, gate, &mut written)?;
+    let seed = RandomState::new(rt)?;
+    work(rt, alloc, seed, program, "", config, gate, &mut written)?;
     Ok(String::from_utf8(written)?)
 }
 

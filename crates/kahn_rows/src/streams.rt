@@ -14,6 +14,7 @@ use kahn_report::{
 use kahn_streams::{Input, Network};
 use kahn_syntax::Span;
 use std::alloc::Global;
+use std::hash::RandomState;
 use std::io;
 use std::io::{Error, ErrorKind, Read, Write};
 use std::process::Abort;
@@ -108,11 +109,12 @@ fn a_write_of_the_report_fails(rt: HostRuntime) -> Result<(), Fail> {
         (Some(ErrorKind::Interrupted), WriteFault::Failed),
         (None, WriteFault::Zero),
     ];
+    let seed = RandomState::new(&rt)?;
     for (error, fault) in rows {
         for sent in 0..47usize {
             let config = config(4, 1000, AMPLE);
             let mut writer = Slow::new(rt.alloc(), sent + 1, error, false);
-            let told = work(&rt, rt.alloc(), COUNT, "", config, &Open, &mut writer);
+            let told = work(&rt, rt.alloc(), seed, COUNT, "", config, &Open, &mut writer);
             assert_eq!(rt; told, Err(WorkFault::Write(fault)));
             assert_eq!(rt; writer.taken.as_slice(), &REPORT[..sent]);
         }
@@ -143,7 +145,7 @@ fn writes_by_several<R: Abort + Threads + Sync>(
 #[test]
 fn several_threads_write_a_report(rt: HostRuntime) -> Result<(), Fail> {
     let alloc = rt.alloc();
-    let network = network_of(alloc, COUNT)?;
+    let network = network_of(&rt, alloc, COUNT)?;
     let answer = run_one(alloc, &network, Input::none(alloc, &network)?, 100)?;
     right_lines();
     writes_by_several(&rt, alloc, &network, &answer)
@@ -153,7 +155,7 @@ fn several_threads_write_a_report(rt: HostRuntime) -> Result<(), Fail> {
 #[test]
 fn the_flush_alone_fails(rt: HostRuntime) -> Result<(), Fail> {
     let alloc = rt.alloc();
-    let network = network_of(alloc, COUNT)?;
+    let network = network_of(&rt, alloc, COUNT)?;
     let answer = run_one(alloc, &network, Input::none(alloc, &network)?, 100)?;
     let fault = Fault::Work(WorkFault::Check(CheckFault::NoWriter(Span { from: 8, to: 9 })));
     let failed = WriteFault::Failed;
@@ -164,7 +166,16 @@ fn the_flush_alone_fails(rt: HostRuntime) -> Result<(), Fail> {
     for (fails, report_told, told) in rows {
         let config = config(4, 1000, AMPLE);
         let mut writer = Slow::new(alloc, 0, None, fails);
-        let worked = work(&rt, alloc, COUNT, "", config, &Open, &mut writer);
+        let worked = work(
+            &rt,
+            alloc,
+            network.seed(),
+            COUNT,
+            "",
+            config,
+            &Open,
+            &mut writer,
+        );
         assert_eq!(rt;
             (worked, writer.calls, writer.flushes),
             (report_told, 47, 1)

@@ -1,5 +1,5 @@
 -- Entries, one by one: the number of a name, what is given, and the lists.
-use Rattle.kahn_streams.proofs.Common.{ne_eqb, arith, ◌≡◌, ◌≢◌, ◌⊎◌, inl, inr, ℕ, zero, suc, ◌+◌, ◌<◌, ◌==◌, Bool, true, false, List, ◌∷◌, ◌++◌, length, map, take, drop, replicate, set, get_or, Some, refl, sym, ap, ◌∙◌, subst, slice_get, slice_index_or, if◌then◌else◌, Result, Ok, Err, add-one, bytes_eq, eq-eqb, length-set, get_or-set_same, get_or-set_other, MatchResult, cases_eq, length-map, take-append-le, take-map, slice_get_read, slice_get-map, Program, InputFault, Input, Scope, place_of, network_of, kind_at, role_at, channels_of, channel_names, AreOfKind, IsInputFor, Lists, inputs_of, Entry, FailsFirst, asked_of_entry, channel_of, is_given, list_for, AreFit, IsFirstRefused, IsInputOf, IsFitHere, []}
+use Rattle.kahn_streams.proofs.Common.{ne_eqb, arith, ◌≡◌, ◌≢◌, ◌⊎◌, inl, inr, ℕ, zero, suc, ◌+◌, ◌<◌, ◌==◌, Bool, true, false, List, ◌∷◌, ◌++◌, length, map, take, drop, replicate, set, get_or, Some, refl, sym, ap, ◌∙◌, subst, slice_get, slice_index_or, if◌then◌else◌, Result, Ok, Err, eq-eqb, length-set, get_or-set_same, get_or-set_other, MatchResult, cases_eq, length-map, take-append-le, take-map, slice_get_read, slice_get-map, Program, InputFault, Input, network_of, kind_at, role_at, channels_of, channel_names, AreOfKind, IsInputFor, Lists, inputs_of, Entry, FailsFirst, asked_of_entry, channel_of, is_given, list_for, AreFit, IsFirstRefused, IsInputOf, IsFitHere, []}
 use Rattle.std.proofs.{lemmas.Bool.eqb-true, Math.Seq.take-append_seam}
 use Rattle.std.specs.Option.{option_map}
 use Rattle.kahn_streams.specs.declared.entries.InputFault.TheVariants.{NoMemory}
@@ -10,21 +10,6 @@ pub drop_some : {A : Type 0} (xs : List A) (k : ℕ) (x : A) → slice_get xs k 
 drop_some [] k x e = absurd cc
 drop_some (y ∷ xs) zero x e = let f : y ≡ x = cc in ap (λ z. z ∷ xs) f
 drop_some (y ∷ xs) (suc k) x e = drop_some xs k x e
-
-place_there : (names : Scope) (k : ℕ) (x y : List ℕ) → slice_get names k ≡ Some y →
-    place_of (drop k names) x ≡ (if bytes_eq x y then 0 else suc (place_of (drop (suc k) names) x))
-place_there names k x y e = ap (λ l. place_of l x) (drop_some names k y e)
-
-pub place_found : (names : Scope) (k n : ℕ) (x y : List ℕ) → slice_get names k ≡ Some y → n ≡ k + place_of (drop k names) x → bytes_eq x y ≡ true → k ≡ n
-place_found names k n x y e f g =
-    let h : place_of (drop k names) x ≡ 0 = place_there names k x y e ∙ ap (λ b. if b then 0 else suc (place_of (drop (suc k) names) x)) g in
-    omega (arith, f, h)
-
-pub place_missed : (names : Scope) (k n : ℕ) (x y : List ℕ) → slice_get names k ≡ Some y → n ≡ k + place_of (drop k names) x → bytes_eq x y ≡ false → n ≡ k + 1 + place_of (drop (k + 1) names) x
-place_missed names k n x y e f g =
-    let h : place_of (drop k names) x ≡ suc (place_of (drop (suc k) names) x) = place_there names k x y e ∙ ap (λ b. if b then 0 else suc (place_of (drop (suc k) names) x)) g in
-    let i : place_of (drop (suc k) names) x ≡ place_of (drop (k + 1) names) x = ap (λ j. place_of (drop j names) x) (sym (add-one k)) in
-    omega (arith, f, h, i)
 
 -- as many names as channels
 pub names_count : (t : Program) → length (channel_names t) ≡ length (network_of t).channels

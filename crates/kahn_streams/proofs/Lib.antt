@@ -4,6 +4,7 @@ pub mod Sided
 pub mod Fitted
 pub mod Sourced
 pub mod Kept_network
+pub mod Kept_names
 pub mod Handed
 pub mod Noted
 pub mod Printing

@@ -55,16 +55,10 @@ impl From<NoMemory> for InputFault {
 
 /// Returns the number of the channel of that name, counted from 0 in order of declaration. None if no channel has it.
 /// Never allocates.
-#[tactic(auto, using(crate::proofs::Entered::place_found, crate::proofs::Entered::place_missed, crate::proofs::Entered::names_count))]
 pub fn channel_named(network: &Network, name: &str) -> Option<usize>
     ensures { MatchOption result (IsNoName network.now name.now) (IsNameOf network.now name.now) }
 {
-    for channel in 0..network.channels() {
-        if name == network.channel(channel).name {
-            return Some(channel);
-        }
-    }
-    None
+    network.channel_named(name)
 }
 
 pub(crate) fn are_of_kind(values: &[Value], kind: Kind) -> bool

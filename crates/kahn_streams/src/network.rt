@@ -1,19 +1,24 @@
 //! A checked network.
 
-ghost use Rattle.std.specs.Prelude.{◌≡◌, ◌<◌, Some, length, slice_get, slice_index_or, ℕ};
-ghost use Rattle.kahn_streams.specs.{View.bytes_of, Made.IsMadeOf, Wires.IsKept, Wires.process_at, Wiring.IsWellWired, inner.Sources.IsWire};
+ghost use Rattle.std.specs.Prelude.{◌≡◌, ◌<◌, IfOk, List, MatchOption, Some, length, slice_get, slice_index_or, string_bytes, ℕ};
+ghost use Rattle.kahn_streams.specs.{View.bytes_of, Inputs.IsNameOf, Inputs.IsNoName, Made.IsMadeOf, Wires.IsKept, Wires.process_at, Wiring.IsWellWired, inner.Sources.IsWire};
 ghost use Rattle.kahn_streams.specs.Network.{network_of, instance_at, instance_from, kind_at, role_at, channel_source, process_of, IsOnly, IsWriter, IsReader, source_of, channel_names};
 
+use crate::memory::NoMemory;
 use crate::sides::Side;
 use crate::tree::{Argument, Declaration, Kind, Process, Program, Role};
 use crate::wires::Wire;
+use indexmap::IndexMap;
+use std::alloc::Global;
+use std::hash::RandomState;
 use std::marker::Model;
 
 /// A well wired program. Contracts see the program that it was made from.
 #[derive(Drop)]
 pub struct Network {
     program: Program,
-    wires: Vec<Wire>,
+    // By the name of each channel, in order of declaration.
+    wires: IndexMap<String, Wire, RandomState>,
     processes: Vec<usize>,
 }
 
@@ -30,7 +35,7 @@ impl Model for Network {
 
     ghost view = { λ n. n.program };
 
-    ghost invariant = { λ n. IsKept n.program n.wires.items n.processes.items };
+    ghost invariant = { λ n. IsKept n.program n.wires.entries n.processes.items };
 }
 
 /// A channel of a network.
@@ -55,16 +60,25 @@ pub struct NetworkInstance<'n> {
     pub arguments: &'n [Argument],
 }
 
-/// Makes the network of a well wired program, with its tables.
-pub fn kept(program: Program, wires: Vec<Wire>, processes: Vec<usize>) -> Network
+/// Makes the network of a well wired program, with its tables. Channels are looked up under `seed`. Fails only if memory is
+/// refused.
+pub fn kept(
+    alloc: Global,
+    seed: RandomState,
+    program: Program,
+    wires: Vec<(String, Wire)>,
+    processes: Vec<usize>,
+) -> Result<Network, NoMemory>
     requires { IsKept program wires.items processes.items }
-    ensures { result ≡ program }
+    ensures { IfOk result (λ n. n ≡ program) }
 {
-    Network {
+    let mut by_name = IndexMap::with_hasher(alloc, seed);
+    by_name.extend(wires)?;
+    Ok(Network {
         program,
-        wires,
+        wires: by_name,
         processes,
-    }
+    })
 }
 
 impl Network {
@@ -91,12 +105,35 @@ impl Network {
         self.program.instances.len()
     }
 
+    /// Returns the secret under which names are hashed. Nothing that a network says depends on it.
+    pub fn seed(&self) -> RandomState {
+        *self.wires.hasher()
+    }
+
+    /// Returns the number of the channel of that name, counted from 0 in order of declaration. None if no channel has it.
+    pub(crate) fn channel_named(&self, name: &str) -> Option<usize>
+        ensures { MatchOption result (IsNoName self.now name.now) (IsNameOf self.now name.now) }
+    {
+        self.wires.get_index_of(name)
+    }
+
     #[tactic(auto, using(crate::proofs::Kept_network::wire_count))]
     fn wire(&self, channel: usize) -> &Wire
         requires { channel < length (network_of self.now).channels }
-        ensures { IsWire self.now channel result.now }
+        ensures { (name : List ℕ) × IsWire self.now channel name result.now }
     {
         &self.wires[channel]
+    }
+
+    #[tactic(auto, using(crate::proofs::Kept_network::wire_count))]
+    fn named_wire(&self, channel: usize) -> (&String, &Wire)
+        requires { channel < length (network_of self.now).channels }
+        ensures { IsWire self.now channel (string_bytes result.0.now) result.1.now }
+    {
+        let Some((name, wire)) = self.wires.get_index(channel) else {
+            unreachable!()
+        };
+        (name, wire)
     }
 
     /// Returns the channel with that number, counted from 0 in order of declaration.
@@ -106,9 +143,9 @@ impl Network {
         ensures kind { result.kind ≡ kind_at (network_of self.now) channel }
         ensures role { result.role ≡ role_at (network_of self.now) channel }
     {
-        let wire = self.wire(channel);
+        let (name, wire) = self.named_wire(channel);
         Channel {
-            name: wire.name.as_str(),
+            name: name.as_str(),
             kind: wire.kind,
             role: wire.role,
         }

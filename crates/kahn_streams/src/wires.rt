@@ -1,12 +1,11 @@
-//! A declared channel with its two sides.
+//! What a network keeps of a declared channel beside its name.
 
 use crate::sides::Side;
 use crate::tree::{Kind, Role};
 
-/// A declared channel, and where its two sides are.
-#[derive(Drop)]
+/// The kind and role of a declared channel, and where its two sides are.
+#[derive(Clone, Copy)]
 pub struct Wire {
-    pub name: String,
     pub kind: Kind,
     pub role: Role,
     pub writer: Option<Side>,

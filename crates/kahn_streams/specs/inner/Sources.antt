@@ -1,5 +1,5 @@
 -- Inner. Where the values of a channel come from, and what the wire of a channel says.
-use Rattle.std.specs.Prelude.{◌≡◌, ◌⊎◌, ◌<◌, ℕ, Some, length, slice_get, string_bytes}
+use Rattle.std.specs.Prelude.{◌≡◌, ◌⊎◌, ◌<◌, ℕ, Some, length, slice_get, List}
 use Rattle.kahn_streams.specs.{declared.tree.Role.TheVariants.Inner, declared.tree.Role.TheVariants.Input, declared.tree.Role.TheVariants.Output, declared.tree.Program.Program, declared.wires.Wire.Wire, Network.Schema, Network.Writes, Network.Given, Network.Written, Network.instance_at, Network.actual_at, Network.role_at, Network.kind_at, Network.channel_source, Network.channel_names, Network.network_of, Network.source_of, Network.IsOnly, Network.IsReader, Network.IsWriter}
 
 -- an instance sends them
@@ -20,9 +20,9 @@ IsFed N c =
     ((channel_source N c ≡ Given) × (role_at N c ≡ Input))
     ⊎ ((w : ℕ) × (o : ℕ) × (channel_source N c ≡ Written w) × (actual_at (instance_at N w) o ≡ Writes c) × (role_at N c ≡ Inner))
 
--- what a network says of the channel of a wire
-pub record IsWire (t : Program) (c : ℕ) (w : Wire) : Type 0 where
-  pub name : slice_get (channel_names t) c ≡ Some (string_bytes w.name)
+-- what a network says of the channel of a wire, and of its name
+pub record IsWire (t : Program) (c : ℕ) (text : List ℕ) (w : Wire) : Type 0 where
+  pub name : slice_get (channel_names t) c ≡ Some text
   pub kind : w.kind ≡ kind_at (network_of t) c
   pub role : w.role ≡ role_at (network_of t) c
   pub writer : IsOnly (IsWriter (network_of t) c) w.writer

@@ -11,6 +11,3 @@ kept-requires c =
 
 pub returns-in-Some : goal.returns-in-Some
 returns-in-Some c = first_met c.args.program c.in-Some.fault c.in-Ok.walked.faults.items c.in-Ok.ensures.told (search rules)
-
-pub returns-in-None : goal.returns-in-None
-returns-in-None c = (c.kept.ensures, sound c.args.program c.in-Ok.walked.faults.items c.in-Ok.ensures.told (search rules))

@@ -1,6 +1,6 @@
 use Rattle.kahn_check.proofs.Common.{rules, ◌≡◌, ◌++◌, ◌∷◌, [], ap, ◌∙◌, sym, is_some, true, Some, None, bytes_eq, string_bytes, lookup, update, bytes_of}
-use Rattle.std.proofs.lemmas.Map.Text.{btree_map_updates_text}
-use Rattle.std.specs.BTreeMap.{get_by_text}
+use Rattle.std.proofs.lemmas.Map.Text.{hash_map_updates_text}
+use Rattle.indexmap.specs.IndexMap.{get_by_text}
 use Rattle.kahn_check.proofs.Listed.{new_found, still_found}
 use Rattle.kahn_check.proofs.names.NameTable.keep.Goals as goal
 
@@ -25,4 +25,4 @@ invariant_of-self-2 g c =
     let named : string_bytes text ≡ y = c.in_ok-text.ensures.cases in
     rw (← listed)
     (new_found old.listed.value (get_by_text old.by_text) y what free c.self.invariant (get_by_text c.insert.new.self)
-    (λ x. btree_map_updates_text (string_bytes text) old.by_text c.insert.new.self (Some what) c.in_ok-insert.ensures.updates x ∙ ap (λ z. update bytes_eq (get_by_text old.by_text) z (Some what) x) named))
+    (λ x. hash_map_updates_text (string_bytes text) old.by_text c.insert.new.self (Some what) c.in_ok-insert.ensures.updates x ∙ ap (λ z. update bytes_eq (get_by_text old.by_text) z (Some what) x) named))
