@@ -1,5 +1,5 @@
 -- The names of the crates below and of this crate's definitions that proofs cite, passed on from one place.
-pub use Rattle.kahn_marks.specs.Marks.{columns, is_near, near_piece, piece_of, shown_character, shown_row, shown_text, times_over, with_places}
+pub use Rattle.kahn_marks.specs.Marks.{columns, is_within, near_piece, piece_of, shown_character, shown_row, shown_text, times_over, with_places}
 pub use Rattle.kahn_marks.specs.Notes.{below_text, other_text}
 pub use Rattle.kahn_marks.specs.Shown.{ends_before, shown_length}
 pub use Rattle.std.proofs.Common.{Bool, Bor, IsUtf8, List, None, Option, Some, [], add-one, ap, append-nil, append_assoc, arith, chars, codes, drop, encode_utf8, false, flat_map, if◌then◌else◌, inl, inr, length, length-append, count_by, min, nat_le, nat_lt, not, option_map, refl, slice_get, slice_index_or, string_bytes, subst, suc, sym, take, true, unwrap_or, zero, ℕ, ◌&&◌, ◌++◌, ◌+◌, ◌-◌, ◌<◌, ◌==◌, ⊎_elim, ◌∙◌, ◌∷◌, ◌≡◌, ◌≤◌, ◌⊎◌}

@@ -1,3 +1,5 @@
+mod Counted
+mod Ends
 mod Fronts
 mod Rows
 pub mod Common

@@ -3,3 +3,4 @@ pub mod Near
 pub mod Notes
 pub mod Shown
 pub mod Told
+pub mod inner

@@ -1,14 +1,16 @@
 //! A note on a part of a text, as lines: where it stands and what is said, the source line, and carets under the part.
 #![tactic(auto)]
 
+mod lines;
 mod near;
 mod pieces;
 mod rendering;
 
 // For the crates above.
+pub use lines::Lines;
 pub use near::is_within;
 pub use pieces::{
     MOST_NOTES, add, add_more, add_repeated, add_shown_text, add_spot, first_ones, place,
     shown_part,
 };
-pub use rendering::{Fix, Note, Other, Sort, applied, padded, part_of, render, simple};
+pub use rendering::{Fix, Note, Other, Sort, applied, padded, part_of, render, render_in, simple};

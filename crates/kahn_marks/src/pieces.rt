@@ -3,7 +3,7 @@
 
 ghost use Rattle.std.specs.Prelude.{◌≡◌, ◌++◌, IfOk, drop, flat_map, string_bytes, take, ◌≤◌, chars, length};
 ghost use Rattle.kahn_streams.specs.Place.{line_of, column_of};
-ghost use Rattle.kahn_marks.specs.{Marks.spot_text, Marks.times_over, Told.more_ending, Told.unsaid_text, Marks.columns, Marks.is_kept_back, Marks.piece_of, Marks.shown_character, Marks.shown_row, Marks.shown_text, Shown.ends_before, Shown.shown_length, Shown.shown_part};
+ghost use Rattle.kahn_marks.specs.{Marks.spot_text, Marks.counted_text, Marks.times_over, Told.more_ending, Told.unsaid_text, Marks.columns, Marks.is_kept_back, Marks.is_within, Marks.piece_of, Marks.shown_character, Marks.shown_row, Marks.shown_text, Shown.ends_before, Shown.shown_length, Shown.shown_part};
 ghost use Rattle.std.specs.Str.Lossy.{utf8_valid_len};
 
 use itoa::Buffer;
@@ -48,6 +48,18 @@ pub fn add_spot(words: &mut String, before: &str, text: &str, from: usize) -> Re
     ensures { IfOk result (λ _. string_bytes words.new ≡ string_bytes words.old ++ spot_text before.now text.now from) }
 {
     let (line, column) = place(text, from);
+    add_counted(words, before, line, column)
+}
+
+/// Adds a line and a column behind a word.
+pub(crate) fn add_counted(
+    words: &mut String,
+    before: &str,
+    line: usize,
+    column: usize,
+) -> Result<(), AllocError>
+    ensures { IfOk result (λ _. string_bytes words.new ≡ string_bytes words.old ++ counted_text before.now line column) }
+{
     let mut first = Buffer::new();
     let mut second = Buffer::new();
     let (line, column) = (first.format(line), second.format(column));
@@ -86,9 +98,6 @@ pub fn add_more<'a>(
     add(text, &[before, "and ", count, " ", what])?;
     text.push_str(more_ending(more))
 }
-
-/// How many bytes before and behind a place are shown of its line.
-const NEAR: usize = 80;
 
 /// How many bytes of a part of a line are shown in a sentence, and the rest of a character there.
 const MOST_SHOWN: usize = 40;
@@ -141,43 +150,52 @@ fn add_shown(text: &mut String, character: char) -> Result<(), AllocError>
     }
 }
 
-/// Adds what one row has of the character that begins at a byte of the line, where the part begins at another and has so
-/// many bytes.
+fn is_within(part: Span, at: usize) -> bool
+    ensures { result ≡ is_within part at }
+{
+    part.from <= at && at < part.to
+}
+
+/// Adds what one row has of the character that begins at byte `at` of the text.
 fn add_piece(
     text: &mut String,
     row: Row,
-    from: usize,
-    bytes: usize,
+    near: Span,
+    part: Span,
     at: usize,
     character: char,
 ) -> Result<(), AllocError>
-    ensures { IfOk result (λ _. string_bytes text.new ≡ string_bytes text.old ++ piece_of row from bytes at character) }
+    ensures { IfOk result (λ _. string_bytes text.new ≡ string_bytes text.old ++ piece_of row near part at character) }
 {
-    let is_near = from.saturating_sub(NEAR) <= at && at.saturating_sub(from) < NEAR;
-    if !is_near {
+    if !is_within(near, at) {
         return Ok(());
     }
     match row {
         Row::Source => add_shown(text, character),
-        Row::Blanks if at < from => add_repeated(text, " ", columns(character)),
-        Row::Carets if from <= at && at - from < bytes => {
-            add_repeated(text, "^", columns(character))
-        }
+        Row::Blanks if at < part.from => add_repeated(text, " ", columns(character)),
+        Row::Carets if is_within(part, at) => add_repeated(text, "^", columns(character)),
         Row::Blanks | Row::Carets => Ok(()),
     }
 }
 
+/// Adds a row of what is shown of a text, in the time of that.
 pub(crate) fn add_row(
     text: &mut String,
-    line: &str,
+    source: &str,
     row: Row,
-    from: usize,
-    bytes: usize,
+    near: Span,
+    part: Span,
 ) -> Result<(), AllocError>
-    ensures { IfOk result (λ _. string_bytes text.new ≡ string_bytes text.old ++ shown_row row line.now from bytes) }
+    ensures { IfOk result (λ _. string_bytes text.new ≡ string_bytes text.old ++ shown_row row source.now near part) }
 {
-    for (at, character) in line.char_indices() {
-        add_piece(text, row, from, bytes, at, character)?;
+    let first = source.floor_char_boundary(near.from);
+    let (_, behind) = source.split_at(first);
+    for (at, character) in behind.char_indices() {
+        let at = first + at;
+        if at >= near.to {
+            return Ok(());
+        }
+        add_piece(text, row, near, part, at, character)?;
     }
     Ok(())
 }

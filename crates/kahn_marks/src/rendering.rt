@@ -1,9 +1,10 @@
 //! A note as data, how it is written, and a text with a change, as an editor makes it.
 
-ghost use Rattle.std.specs.Prelude.{◌≡◌, ◌-◌, ◌++◌, IfOk, slice_index_or, string_bytes, IfSome};
-ghost use Rattle.kahn_marks.specs.{Marks.carets_of, Marks.heading, Marks.line_at, Marks.marked_as, Marks.rows_text, Notes.IsFixShown, Notes.IsRendered, Notes.line_below, Notes.sort_words, Notes.IsGap, Notes.IsApplied, Notes.IsPadded};
+ghost use Rattle.std.specs.Prelude.{◌≡◌, ◌++◌, IfOk, string_bytes, IfSome};
+ghost use Rattle.kahn_marks.specs.{Marks.carets_of, Marks.heading, Marks.marked_as, Marks.rows_text, Notes.IsFixShown, Notes.IsRendered, Notes.line_below, Notes.sort_words, Notes.IsGap, Notes.IsApplied, Notes.IsPadded};
 
-use crate::pieces::{Row, add, add_repeated, add_row, add_shown_text, add_spot, place};
+use crate::lines::Lines;
+use crate::pieces::{Row, add, add_repeated, add_row, add_shown_text};
 use itoa::Buffer;
 use kahn_streams::Span;
 use std::alloc::{AllocError, Global};
@@ -82,43 +83,36 @@ fn sort_words(sort: Sort) -> &'static str
     }
 }
 
-/// A line of a text, from 0; the empty one where it has not so many.
-fn line_at(text: &str, number: usize) -> &str
-    ensures { result.now ≡ line_at text.now number }
-{
-    text.lines().nth(number).unwrap_or("")
-}
-
-/// The carets below a part of a line: one at least.
-fn carets(alloc: Global, line: &str, from: usize, bytes: usize) -> Result<String, AllocError>
-    ensures { IfOk result (λ text. string_bytes text ≡ carets_of line.now from bytes) }
+/// The carets below a part: one at least.
+fn carets(alloc: Global, source: &str, near: Span, part: Span) -> Result<String, AllocError>
+    ensures { IfOk result (λ text. string_bytes text ≡ carets_of source.now near part) }
 {
     let mut text = String::new(alloc);
-    add_row(&mut text, line, Row::Carets, from, bytes)?;
+    add_row(&mut text, source, Row::Carets, near, part)?;
     if text.is_empty() {
         text.push_str("^")?;
     }
     Ok(text)
 }
 
-/// Adds a source line with its number, and below it blanks, and carets under the part that begins at a byte of it and has so many bytes.
+/// Adds what is shown of the source line of a part, with its number, and below it blanks, and carets under the part.
 fn add_rows(
     note: &mut String,
     alloc: Global,
-    line: &str,
+    source: &str,
     number: &str,
-    from: usize,
-    bytes: usize,
+    near: Span,
+    part: Span,
 ) -> Result<(), AllocError>
-    ensures { IfOk result (λ _. string_bytes note.new ≡ string_bytes note.old ++ rows_text line.now number.now from bytes) }
+    ensures { IfOk result (λ _. string_bytes note.new ≡ string_bytes note.old ++ rows_text source.now number.now near part) }
 {
     add(note, &[" ", number, " | "])?;
-    add_row(note, line, Row::Source, from, bytes)?;
+    add_row(note, source, Row::Source, near, part)?;
     note.push_str("\n ")?;
     add_repeated(note, " ", number.len())?;
     note.push_str(" | ")?;
-    add_row(note, line, Row::Blanks, from, bytes)?;
-    note.push_str(carets(alloc, line, from, bytes)?.as_str())?;
+    add_row(note, source, Row::Blanks, near, part)?;
+    note.push_str(carets(alloc, source, near, part)?.as_str())?;
     note.push_str("\n")
 }
 
@@ -127,14 +121,14 @@ fn add_heading(
     note: &mut String,
     sort: &str,
     path: &str,
-    text: &str,
+    text: &Lines<'_>,
     from: usize,
     words: &str,
 ) -> Result<(), AllocError>
     ensures { IfOk result (λ _. string_bytes note.new ≡ string_bytes note.old ++ heading sort.now path.now text.now from words.now) }
 {
     note.push_str(path)?;
-    add_spot(note, ":", text, from)?;
+    text.add_spot(note, ":", from)?;
     add(note, &[": ", sort, ": "])?;
     add_shown_text(note, words)?;
     note.push_str("\n")
@@ -147,19 +141,20 @@ fn add_marked(
     alloc: Global,
     sort: &str,
     path: &str,
-    text: &str,
+    text: &Lines<'_>,
     span: Span,
     words: &str,
 ) -> Result<(), AllocError>
     ensures { IfOk result (λ _. string_bytes note.new ≡ string_bytes note.old ++ marked_as sort.now path.now text.now span words.now) }
 {
-    let (line, column) = place(text, span.from);
+    let (line, _) = text.place(span.from);
     let mut buffer = Buffer::new();
     let number = buffer.format(line);
     add_heading(note, sort, path, text, span.from, words)?;
-    let bytes = span.to.saturating_sub(span.from);
-    let source = line_at(text, line - 1);
-    add_rows(note, alloc, source, number, column - 1, bytes)
+    let source = text.text();
+    let from = span.from.min(source.len());
+    let part = Span { from, to: span.to };
+    add_rows(note, alloc, source, number, text.near(from), part)
 }
 
 /// What stands in a part of a text; nothing where no characters begin and end there.
@@ -185,10 +180,15 @@ fn add_change(words: &mut String, text: &str, fix: &Fix) -> Result<(), AllocErro
 }
 
 /// Adds a line below the carets under a part.
-fn add_remark(lines: &mut String, text: &str, span: Span, words: &str) -> Result<(), AllocError>
+fn add_remark(
+    lines: &mut String,
+    text: &Lines<'_>,
+    span: Span,
+    words: &str,
+) -> Result<(), AllocError>
     ensures { IfOk result (λ _. string_bytes lines.new ≡ string_bytes lines.old ++ line_below text.now span words.now) }
 {
-    let (line, _) = place(text, span.from);
+    let (line, _) = text.place(span.from);
     let mut buffer = Buffer::new();
     let number = buffer.format(line);
     lines.push_str(" ")?;
@@ -199,23 +199,33 @@ fn add_remark(lines: &mut String, text: &str, span: Span, words: &str) -> Result
 }
 
 /// Adds the line of the change, where there is one: with its place, if that isn't where the note is.
-fn add_fix(lines: &mut String, alloc: Global, text: &str, note: &Note) -> Result<(), AllocError>
+fn add_fix(
+    lines: &mut String,
+    alloc: Global,
+    text: &Lines<'_>,
+    note: &Note,
+) -> Result<(), AllocError>
     ensures { IfOk result (λ _. IsFixShown text.now note.now.span note.now.fix (string_bytes lines.old) (string_bytes lines.new)) }
 {
     let Some(fix) = &note.fix else {
         return Ok(());
     };
     let mut words = String::from_str(alloc, "fix: ")?;
-    add_change(&mut words, text, fix)?;
+    add_change(&mut words, text.text(), fix)?;
     if fix.span.from != note.span.from {
-        add_spot(&mut words, " at ", text, fix.span.from)?;
+        text.add_spot(&mut words, " at ", fix.span.from)?;
     }
     add_remark(lines, text, note.span, words.as_str())
 }
 
-/// A note on the text of a file, as lines: `PATH:LINE:COLUMN: error: WORDS`, the source line with carets, the change that mends it and
+/// A note on the text of a file whose lines were counted, as lines: `PATH:LINE:COLUMN: error: WORDS`, the source line with carets, the change that mends it and
 /// sentences, and then the other places. What would drive a terminal is shown as U+FFFD. It refuses only where memory was refused.
-pub fn render(alloc: Global, path: &str, text: &str, note: &Note) -> Result<String, AllocError>
+pub fn render_in(
+    alloc: Global,
+    path: &str,
+    text: &Lines<'_>,
+    note: &Note,
+) -> Result<String, AllocError>
     ensures { IfOk result (λ lines. IsRendered path.now text.now note.now (string_bytes lines)) }
 {
     let (sort, words) = (sort_words(note.sort), note.words.as_str());
@@ -230,6 +240,14 @@ pub fn render(alloc: Global, path: &str, text: &str, note: &Note) -> Result<Stri
         add_marked(&mut lines, alloc, "note", path, text, other.span, words)?;
     }
     Ok(lines)
+}
+
+/// The same of a text whose lines weren't counted. It refuses only where memory was refused.
+pub fn render(alloc: Global, path: &str, text: &str, note: &Note) -> Result<String, AllocError>
+    ensures { IfOk result (λ lines. IsRendered path.now text.now note.now (string_bytes lines)) }
+{
+    let text = Lines::new(alloc, text)?;
+    render_in(alloc, path, &text, note)
 }
 
 /// Whether a byte is a letter, a digit or `_`.

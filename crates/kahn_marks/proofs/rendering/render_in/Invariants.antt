@@ -1,7 +1,7 @@
 -- Behind the part of the note and its change stand the sentences so far, and then the other places so far.
 use Rattle.kahn_marks.proofs.Common.{◌≡◌, ◌++◌, List, ℕ, take, flat_map, string_bytes, below_text, other_text}
 use Rattle.kahn_marks.specs.{Notes.IsFixShown, Notes.sort_words, Marks.marked_as}
-use Rattle.kahn_marks.proofs.rendering.render.Given as goal
+use Rattle.kahn_marks.proofs.rendering.render_in.Given as goal
 
 abbrev pub invariant-loop-sentence : goal.invariant-loop-sentence
 invariant-loop-sentence l = (headed : List ℕ)

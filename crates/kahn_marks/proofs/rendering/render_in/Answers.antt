@@ -1,6 +1,6 @@
 use Rattle.kahn_marks.proofs.Common.{arith}
 use Rattle.std.proofs.lemmas.Grind.{common_steps}
-use Rattle.kahn_marks.proofs.rendering.render.Goals as goal
+use Rattle.kahn_marks.proofs.rendering.render_in.Goals as goal
 
 pub loop-sentence-preserved : goal.loop-sentence-preserved
 loop-sentence-preserved c =

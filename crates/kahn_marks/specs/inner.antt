@@ -1,0 +1,2 @@
+-- What only proofs and clauses below the surface read.
+pub mod Spots
