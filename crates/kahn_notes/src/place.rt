@@ -164,16 +164,18 @@ fn is_so(test: &str, place: Place) -> bool {
 
 pub(crate) fn is_declared(place: Place) -> bool {
     let name = name_at(place, 0);
-    name.is_some()
-        && (0..place.number).any(|number| {
-            let earlier = front(place.lexemes, number).iter().rev();
-            let mut leads = earlier.filter(|one| !finds("name ,", Some(**one)));
-            name_at(Place { number, ..place }, 0) == name
-                && finds(
-                    "integer logical in out channel process",
-                    leads.next().copied(),
-                )
-        })
+    let mut declares = false;
+    for number in 0..place.number {
+        let earlier = Place { number, ..place };
+        if declares && name.is_some() && name_at(earlier, 0) == name {
+            return true;
+        }
+        let lexeme = near(earlier, 0);
+        if !finds("name ,", lexeme) {
+            declares = finds("integer logical in out channel process", lexeme);
+        }
+    }
+    false
 }
 
 /// Whether a test holds of a place, or, behind `!`, doesn't: behind `+` stands what may stand there, behind `-` what may not, and behind `>`

@@ -1,6 +1,7 @@
 //! Warnings: what a program may have, and seldom means; and where its faults of arithmetic come from.
 #![tactic(auto)]
 
+mod layout;
 mod program;
 mod sites;
 

@@ -3,19 +3,21 @@
 ghost use Rattle.std.specs.Prelude.{◌≡◌, ◌++◌, ◌&&◌, ◌||◌, IfOk, None, if◌then◌else◌};
 ghost use Rattle.std.specs.{List.list_any, Option.option_or};
 ghost use Rattle.kahn_streams.specs.View.{Scope, body_of, statement_of};
-ghost use Rattle.kahn_warnings.specs.{Comments.AreCommentWarnings, Constants.site_kind, Loops.LoopsHold, Sites.action_sites, Sites.body_sites, Loops.is_seen, Loops.never_ends, Warnings.AreWarnings, Warnings.bare_kind, Warnings.body_warnings, Warnings.declaration_warnings, Warnings.is_of, Warnings.loop_kind, Warnings.name_kind, Warnings.names_warnings, Warnings.process_kind, Warnings.statement_warnings, Warned.warned, Telling.AreWarningNotes, Telling.note_place, Telling.warning_place, Faults.FaultsLie, Faults.fault_places, Faults.place_where};
+ghost use Rattle.kahn_warnings.specs.{Comments.AreCommentWarnings, Loops.LoopsHold, Sites.action_sites, Sites.body_sites, Loops.is_seen, Loops.never_ends, Warnings.AreWarnings, Warnings.bare_kind, Warnings.body_warnings, Warnings.declaration_warnings, Warnings.is_of, Warnings.loop_kind, Warnings.name_kind, Warnings.names_warnings, Warnings.process_kind, Warnings.statement_warnings, Warned.warned, Telling.AreWarningNotes, Telling.note_place, Telling.warning_place, Faults.FaultsLie, Faults.fault_places, Faults.place_where};
 
+use crate::layout::misplaced;
 use crate::program::WarningKind::{BareThen, Idle, NoInstance};
 use crate::sites::{
     ConstantSite, SiteKind, add_expression, add_site, has, is_empty, is_true, names_in, site_can,
-    sure_fault, truth, varies_by, waits_in,
+    site_kind, varies_by, waits_in,
 };
 use kahn_marks::{Note, Other, Sort, simple};
 use kahn_streams::{
     Action, Declaration, Failure, Instance, Kind, NoMemory, Process, Program, Span, Statement,
 };
-use kahn_wanted::{bytes_between, comments_of, swallows};
+use kahn_wanted::{comments_of, swallows};
 use std::alloc::{AllocError, Global};
+use std::hash::RandomState;
 
 /// The warnings of the comments of a text that has lexemes, in order. It refuses only where memory was refused.
 fn comment_warnings(alloc: Global, text: &str) -> Result<Vec<Warning>, NoMemory>
@@ -64,11 +66,12 @@ fn name_kind(is_used: bool, is_assigned: bool, variable: Option<Kind>) -> Option
 fn add_names(
     warnings: &mut Vec<Warning>,
     alloc: Global,
+    seed: RandomState,
     process: &Process,
 ) -> Result<(), AllocError>
     ensures { IfOk result (λ _. warnings.new.items ≡ warnings.old.items ++ names_warnings process.now) }
 {
-    let names = names_in(alloc, process)?;
+    let names = names_in(alloc, seed, process)?;
     for parameter in &process.parameters {
         let name = &parameter.name;
         let kind = name_kind(has(&names.0, name), has(&names.1, name), None);
@@ -125,6 +128,7 @@ fn add_list(
     warnings: &mut Vec<Warning>,
     sites: &mut Vec<ConstantSite>,
     alloc: Global,
+    seed: RandomState,
     statements: &[Statement],
 ) -> Result<(bool, bool), AllocError>
     ensures warnings { IfOk result (λ _. warnings.new.items ≡ warnings.old.items ++ body_warnings statements.now) }
@@ -137,7 +141,7 @@ fn add_list(
     let mut place = None;
     for statement in statements {
         place = place_on(ends, place, statement.span);
-        let course = add_statement(warnings, sites, alloc, statement)?;
+        let course = add_statement(warnings, sites, alloc, seed, statement)?;
         ends = ends | course.0;
         seen = seen | course.1;
     }
@@ -150,6 +154,7 @@ fn add_statement(
     warnings: &mut Vec<Warning>,
     sites: &mut Vec<ConstantSite>,
     alloc: Global,
+    seed: RandomState,
     statement: &Statement,
 ) -> Result<(bool, bool), AllocError>
     ensures warnings { IfOk result (λ _. warnings.new.items ≡ warnings.old.items ++ statement_warnings statement.now.span statement.now.action) }
@@ -161,65 +166,45 @@ fn add_statement(
         Action::Empty => Ok((false, false)),
         Action::Assign(_, expression) => {
             add_expression(sites, expression)?;
-            Ok((false, waits_in(alloc, expression)))
+            Ok((false, waits_in(alloc, seed, expression)))
         }
         Action::Send(expression, _) | Action::Print(expression) => {
             add_expression(sites, expression)?;
             Ok((false, true))
         }
-        Action::Block(statements) => add_list(warnings, sites, alloc, statements),
+        Action::Block(statements) => add_list(warnings, sites, alloc, seed, statements),
         Action::If(test, yes, no) => {
             let value = add_expression(sites, test)?;
             add_site(sites, SiteKind::Test(value), test.span)?;
-            let first = add_statement(warnings, sites, alloc, yes)?;
+            let first = add_statement(warnings, sites, alloc, seed, yes)?;
             let Some(no) = no else {
                 add_warning(warnings, bare_kind(yes), statement.span)?;
-                return Ok(branched(waits_in(alloc, test), first, (false, false)));
+                return Ok(branched(waits_in(alloc, seed, test), first, (false, false)));
             };
-            let second = add_statement(warnings, sites, alloc, no)?;
-            Ok(branched(waits_in(alloc, test), first, second))
+            let second = add_statement(warnings, sites, alloc, seed, no)?;
+            Ok(branched(waits_in(alloc, seed, test), first, second))
         }
         Action::While(test, body) => {
             let value = add_expression(sites, test)?;
-            let kind = SiteKind::Turn(value, varies_by(alloc, body, test)?, is_empty(body));
+            let kind = SiteKind::Turn(value, varies_by(alloc, seed, body, test)?, is_empty(body));
             add_site(sites, kind, test.span)?;
-            let (_, seen) = add_statement(warnings, sites, alloc, body)?;
+            let (_, seen) = add_statement(warnings, sites, alloc, seed, body)?;
             let ends = is_true(value);
             add_warning(warnings, loop_kind(ends, seen), statement.span)?;
-            Ok((ends, waits_in(alloc, test) | seen))
+            Ok((ends, waits_in(alloc, seed, test) | seen))
         }
         Action::Repeat(body) => {
-            let (_, seen) = add_statement(warnings, sites, alloc, body)?;
+            let (_, seen) = add_statement(warnings, sites, alloc, seed, body)?;
             add_warning(warnings, loop_kind(true, seen), statement.span)?;
             Ok((true, seen))
         }
     }
 }
 
-/// What is warned of an operator or of a test: one of a `while` that has no turn, or that nothing in the loop changes, which may be empty.
-fn site_kind(kind: SiteKind) -> Option<WarningKind>
-    ensures { result ≡ site_kind kind }
-{
-    match kind {
-        SiteKind::Binary(operator, left, right) => match sure_fault(operator, left, right) {
-            None => None,
-            Some(Failure::Overflow) => Some(WarningKind::Overflows),
-            Some(Failure::Division) => Some(WarningKind::Divides),
-        },
-        SiteKind::Test(None) => None,
-        SiteKind::Test(Some(value)) if truth(value) => Some(WarningKind::AlwaysTrue),
-        SiteKind::Test(Some(_)) => Some(WarningKind::AlwaysFalse),
-        SiteKind::Turn(None, true, _) => None,
-        SiteKind::Turn(None, false, true) => Some(WarningKind::BareDo),
-        SiteKind::Turn(None, false, false) => Some(WarningKind::Unchanged),
-        SiteKind::Turn(Some(value), _, _) if truth(value) => None,
-        SiteKind::Turn(Some(_), _, _) => Some(WarningKind::AlwaysFalse),
-    }
-}
-
 fn add_declaration(
     warnings: &mut Vec<Warning>,
     alloc: Global,
+    seed: RandomState,
     instances: &[Instance],
     declaration: &Declaration,
 ) -> Result<(), AllocError>
@@ -230,9 +215,9 @@ fn add_declaration(
         Declaration::Process(process) => {
             let place = Some(process.name.span);
             add_warning(warnings, process_kind(instances, process), place)?;
-            add_names(warnings, alloc, process)?;
+            add_names(warnings, alloc, seed, process)?;
             let mut sites = Vec::new(alloc);
-            add_list(warnings, &mut sites, alloc, &process.statements)?;
+            add_list(warnings, &mut sites, alloc, seed, &process.statements)?;
             for site in &sites {
                 add_warning(warnings, site_kind(site.kind), Some(site.span))?;
             }
@@ -243,12 +228,17 @@ fn add_declaration(
 
 /// All that is warned of in a program of this text: the comments first, then one process after another, and then by indentation. It
 /// refuses only where memory was refused.
-fn warnings(alloc: Global, program: &Program, text: &str) -> Result<Vec<Warning>, NoMemory>
+fn warnings(
+    alloc: Global,
+    seed: RandomState,
+    program: &Program,
+    text: &str,
+) -> Result<Vec<Warning>, NoMemory>
     ensures { IfOk result (λ ws. AreWarnings text.now program.now ws.items) }
 {
     let mut warnings = comment_warnings(alloc, text)?;
     for declaration in &program.declarations {
-        add_declaration(&mut warnings, alloc, &program.instances, declaration)?;
+        add_declaration(&mut warnings, alloc, seed, &program.instances, declaration)?;
     }
     let spans = misplaced(alloc, text, program)?;
     for span in &spans {
@@ -350,112 +340,20 @@ fn note_of(alloc: Global, warning: Warning) -> Result<Note, AllocError>
 }
 
 /// The notes on what is warned of in a program of this text, in order. It refuses only where memory was refused.
-pub fn warning_notes(alloc: Global, text: &str, program: &Program) -> Result<Vec<Note>, NoMemory>
+pub fn warning_notes(
+    alloc: Global,
+    seed: RandomState,
+    text: &str,
+    program: &Program,
+) -> Result<Vec<Note>, NoMemory>
     ensures { IfOk result (λ notes. AreWarningNotes text.now program.now notes.items) }
 {
-    let warnings = warnings(alloc, program, text)?;
+    let warnings = warnings(alloc, seed, program, text)?;
     let mut notes = Vec::new(alloc);
     for warning in &warnings {
         notes.push(note_of(alloc, *warning)?)?;
     }
     Ok(notes)
-}
-
-/// The line of a place, up to there: the column behind that, how deep the line is indented, and whether nothing but blanks stands on it so
-/// far. A tab goes to the next multiple of 8.
-fn line_before(text: &str, at: usize) -> (usize, usize, bool) {
-    let before = bytes_between(text, 0, at);
-    let end = before.iter().rposition(|byte| *byte == b'\n');
-    let from = end.map_or(0, |end| end.saturating_add(1));
-    let (mut column, mut deep, mut blank) = (0usize, 0usize, true);
-    for byte in bytes_between(text, from, at) {
-        if *byte == b'\t' {
-            column |= 7;
-        }
-        column = column.saturating_add(1);
-        blank = blank && (*byte == b' ' || *byte == b'\t');
-        if blank {
-            deep = column;
-        }
-    }
-    (column, deep, blank)
-}
-
-/// Whether a statement looks like a part of the `if` or the loop of one that stands behind a `then`, an `else`, a `do` or a `repeat`: that is
-/// deeper than the line of this, and the statement begins a later line in its column; or it stands on the line that the other one begins.
-fn is_under(text: &str, inner: Span, next: Span) -> bool {
-    let (column, _, is_first) = line_before(text, next.from);
-    let (other, _, is_other_first) = line_before(text, inner.from);
-    let guard = text.get(..inner.from).unwrap_or("").trim_end().len();
-    let is_later = bytes_between(text, inner.from, next.from).contains(&b'\n');
-    let is_alike = (is_later & is_first & (other == column)) | (!is_later & is_other_first);
-    is_alike && line_before(text, guard).1 < other
-}
-
-/// Adds those within statements that stand one behind the other, and those of them that are indented as if they belonged to the one before.
-#[cycle(layout)]
-fn add_under(
-    spans: &mut Vec<Span>,
-    text: &str,
-    statements: &[Statement],
-) -> Result<(), AllocError> {
-    for (number, statement) in statements.iter().enumerate() {
-        let next = statements.get(number.saturating_add(1));
-        add_within(
-            spans,
-            text,
-            statement,
-            next.and_then(|next| next.span),
-            false,
-        )?;
-    }
-    Ok(())
-}
-
-/// Adds those within a statement, which may be guarded by a `then`, an `else`, a `do` or a `repeat`; and the next statement, if this one is no
-/// block, and that looks like a part of what this is a part of, or ends with.
-#[cycle(layout)]
-fn add_within(
-    spans: &mut Vec<Span>,
-    text: &str,
-    statement: &Statement,
-    next: Option<Span>,
-    guarded: bool,
-) -> Result<(), AllocError> {
-    let is_block = matches!(statement.action, Action::Block(_));
-    let mut behind = next;
-    if let (true, false, Some(span), Some(next)) = (guarded, is_block, statement.span, next) {
-        if is_under(text, span, next) {
-            spans.push(next)?;
-            behind = None;
-        }
-    }
-    match &statement.action {
-        Action::Block(statements) => add_under(spans, text, statements),
-        Action::If(_, yes, Some(no)) => {
-            add_within(spans, text, yes, None, true)?;
-            add_within(spans, text, no, behind, true)
-        }
-        Action::If(_, body, None) => add_within(spans, text, body, behind, true),
-        Action::While(_, body) | Action::Repeat(body) => {
-            add_within(spans, text, body, behind, true)
-        }
-        _ => Ok(()),
-    }
-}
-
-pub(crate) fn misplaced(
-    alloc: Global,
-    text: &str,
-    program: &Program,
-) -> Result<Vec<Span>, AllocError> {
-    let mut spans = Vec::new(alloc);
-    for declaration in &program.declarations {
-        if let Declaration::Process(process) = declaration {
-            add_under(&mut spans, text, &process.statements)?;
-        }
-    }
-    Ok(spans)
 }
 
 fn add_where(places: &mut Vec<Span>, can: bool, at: Span) -> Result<(), AllocError>
@@ -470,6 +368,7 @@ fn add_where(places: &mut Vec<Span>, can: bool, at: Span) -> Result<(), AllocErr
 /// The operands in a body by which a fault can come, in the order of the text: of an operator its right one, of a sign its only one.
 pub fn fault_places(
     alloc: Global,
+    seed: RandomState,
     failure: Failure,
     statements: &[Statement],
 ) -> Result<Vec<Span>, AllocError>
@@ -477,7 +376,7 @@ pub fn fault_places(
 {
     let mut warnings = Vec::new(alloc);
     let mut sites = Vec::new(alloc);
-    add_list(&mut warnings, &mut sites, alloc, statements)?;
+    add_list(&mut warnings, &mut sites, alloc, seed, statements)?;
     let mut places = Vec::new(alloc);
     for site in &sites {
         add_where(&mut places, site_can(failure, site.kind), site.span)?;
