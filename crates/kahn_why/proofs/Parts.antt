@@ -31,6 +31,6 @@ are_allowed path program strict it on = ((it.network, on.checked, on.notes), on.
 
 -- what is said went out as data
 pub data_out : (text : List ℕ) (came : Came) (looked : Result Came WorkFault) (old new : Option (List ℕ)) (r : Result Came WorkFault) → looked ≡ Ok came
-    → HasWritten text came old new r → HasToldData looked old new r
-data_out text came looked old new r is (inl (e, out)) = subst (HasToldData looked old new) (sym e) (is, (text, out))
-data_out text came looked old new r is (inr (f, e, out)) = subst (HasToldData looked old new) (sym e) (inr (text, out))
+    → (came ≡ Refused → ¬ (text ≡ [])) → HasWritten text came old new r → HasToldData looked old new r
+data_out text came looked old new r is some (inl (e, out)) = subst (HasToldData looked old new) (sym e) (is, (text, out, some))
+data_out text came looked old new r is some (inr (f, e, out)) = subst (HasToldData looked old new) (sym e) (inr (text, out))

@@ -1,8 +1,8 @@
 //! What explaining comes to: why a program text or an input text is refused, and what is warned of, in lines or as data.
 
-ghost use Rattle.std.specs.Prelude.{◌++◌, Bool, IfOk, ◌≡◌, All, MatchOption, None, string_bytes};
+ghost use Rattle.std.specs.Prelude.{◌++◌, Bool, false, IfOk, [], ◌≡◌, All, MatchOption, None, string_bytes};
 ghost use Rattle.kahn_fault.specs.{Work.IsUnchecked, Message.check_span};
-ghost use Rattle.kahn_why.specs.{Telling.AreInputLines, Telling.HasToldInput, inner.Told.HasAdmitted, inner.Told.HasRefused, inner.Told.HasWritten, inner.Told.IsStrictAbout, Noting.AreWarningLines, Noting.StandsIn, Refusing.IsNoteOn, Refusing.IsRefusal, Refusing.IsRefusedWords, Refusing.IsRenderedAs, Refusing.IsSyntaxNote, Refusing.expected_of, Data.HasToldData};
+ghost use Rattle.kahn_why.specs.{Telling.AreInputLines, Telling.HasToldInput, inner.Told.HasAdmitted, inner.Told.HasRefused, inner.Told.HasWritten, inner.Told.IsStrictAbout, Noting.AreWarningLines, Noting.StandsIn, Refusing.IsNoteOn, Refusing.IsRefusal, Refusing.IsRefusedWords, Refusing.IsRenderedAs, Refusing.IsSyntaxNote, Refusing.expected_of, Data.HasToldData, declared.explaining.Came.TheVariants.Refused};
 ghost use Rattle.kahn_syntax.specs.Texts.{IsTextFault as IsSyntaxFault};
 
 use crate::why::Finding;
@@ -11,7 +11,9 @@ use kahn_check::{CheckFault, check, every, part_by_part};
 use kahn_fault::{WorkFault, check_span, checked, syntax_span, syntax_words};
 use kahn_hints::fault_notes;
 use kahn_inputs::input_note;
-use kahn_marks::{MOST_NOTES, Note, Sort, add, add_more, first_ones, padded, place, render};
+use kahn_marks::{
+    Lines, MOST_NOTES, Note, Sort, add, add_more, first_ones, padded, render, simple,
+};
 use kahn_notes::{character_help, commented_note, held_remark, unexpected_note};
 use kahn_streams::{Network, NoMemory, Program, RunFault, Span};
 use kahn_syntax::{SyntaxFault, What, parse};
@@ -19,7 +21,11 @@ use kahn_texts::{TextFault, read_input, write_line};
 use kahn_wanted::comments_of;
 use kahn_warnings::warning_notes;
 use std::alloc::{AllocError, Global};
+use std::hash::RandomState;
 use std::io::Write;
+
+/// The most notes as data. One more says how many were left out.
+const MOST_OBJECTS: usize = 100;
 
 /// What the explaining came to.
 #[derive(Clone, Copy)]
@@ -55,6 +61,7 @@ pub fn write_both<W: Write>(
 /// Writes why a program text has a fault, where that has a place; the fault is answered where it has none.
 fn refuse<W: Write>(
     alloc: Global,
+    seed: RandomState,
     path: &str,
     program: &str,
     fault: WorkFault,
@@ -63,7 +70,7 @@ fn refuse<W: Write>(
     requires { IsUnchecked program.now fault }
     ensures { (strict : Bool) → HasRefused path.now program.now strict (W.contents writer.old) (W.contents writer.new) result }
 {
-    match refusal_note(alloc, path, program, fault) {
+    match refusal_note(alloc, seed, path, program, fault) {
         Ok(Some(note)) => write_both("", note.as_str(), Came::Refused, writer),
         Ok(None) => Err(fault),
         Err(NoMemory) => Err(WorkFault::Run(RunFault::NoMemory)),
@@ -76,10 +83,10 @@ fn is_strict_about(strict: bool, notes: &str) -> bool
     strict && !notes.is_empty()
 }
 
-/// The program of a text, with what is warned of in it; or what refusing it came to, for a fault, or for a warning where it is asked
-/// to be strict.
+/// Returns the program of a text with its warnings, or the outcome of refusing it: for a fault, or for a warning if `strict`.
 pub fn admit<W: Write>(
     alloc: Global,
+    seed: RandomState,
     path: &str,
     program: &str,
     strict: bool,
@@ -87,11 +94,11 @@ pub fn admit<W: Write>(
 ) -> Result<Admitted, Result<Came, WorkFault>>
     ensures { HasAdmitted path.now program.now strict (W.contents writer.old) (W.contents writer.new) result }
 {
-    let network = match checked(alloc, program) {
+    let network = match checked(alloc, seed, program) {
         Ok(network) => network,
-        Err(fault) => return Err(refuse(alloc, path, program, fault, writer)),
+        Err(fault) => return Err(refuse(alloc, seed, path, program, fault, writer)),
     };
-    let Ok(notes) = warned_lines(alloc, path, program, network.program()) else {
+    let Ok(notes) = warned_lines(alloc, seed, path, program, network.program()) else {
         return Err(Err(WorkFault::Run(RunFault::NoMemory)));
     };
     if is_strict_about(strict, notes.as_str()) {
@@ -117,6 +124,7 @@ fn input_lines(
 /// Writes why an input text is refused, where that has a place; the fault is answered where it has none.
 pub fn refuse_input<W: Write>(
     alloc: Global,
+    seed: RandomState,
     path: &str,
     program: &str,
     text: &str,
@@ -125,7 +133,7 @@ pub fn refuse_input<W: Write>(
 ) -> Result<Came, WorkFault>
     ensures { HasToldInput path.now program.now text.now fault (W.contents writer.old) (W.contents writer.new) result }
 {
-    let network = checked(alloc, program)?;
+    let network = checked(alloc, seed, program)?;
     match input_lines(alloc, path, &network, text, fault) {
         Ok(Some(note)) => write_both("", note.as_str(), Came::Refused, writer),
         Ok(None) => Err(WorkFault::Text(fault)),
@@ -224,17 +232,17 @@ fn note_lines(
     Ok(lines)
 }
 
-/// The notes on what is warned of in a program of this text, at most 20 of them, and how many more there are; the empty text where there is
-/// nothing to warn of. It refuses only where memory was refused.
+/// Returns the first 20 warnings on a program in lines, and how many more there are. Fails only if memory is refused.
 fn warned_lines(
     alloc: Global,
+    seed: RandomState,
     path: &str,
     text: &str,
     program: &Program,
 ) -> Result<String, NoMemory>
     ensures { IfOk result (λ lines. AreWarningLines path.now text.now program.now (string_bytes lines)) }
 {
-    let notes = warning_notes(alloc, text, program)?;
+    let notes = warning_notes(alloc, seed, text, program)?;
     if notes.is_empty() {
         return Ok(String::new(alloc));
     }
@@ -244,10 +252,10 @@ fn warned_lines(
     Ok(lines)
 }
 
-/// The notes on what is wrong with the network of a program text, with a blank line between, and how many more faults there are, where its
-/// first fault has a place.
+/// Returns the notes on the faults of a network, and how many more there are, if its first fault has a place.
 fn network_note(
     alloc: Global,
+    seed: RandomState,
     path: &str,
     program: &str,
     fault: CheckFault,
@@ -261,25 +269,26 @@ fn network_note(
     let Ok(tree) = parse(alloc, program) else {
         return Err(NoMemory);
     };
-    let faults = every(alloc, &tree)?;
+    let faults = every(alloc, seed, &tree)?;
     if faults.is_empty() {
         return Err(NoMemory);
     }
     part_by_part();
     let comments = comments_of(alloc, program)?;
-    let told = fault_notes(alloc, program, &tree, &faults)?;
+    let told = fault_notes(alloc, seed, program, &tree, &faults)?;
     let (notes, between) = (&told.notes, "\n");
     let mut lines = note_lines(alloc, path, program, notes, between, &comments, &faults)?;
     add_more(&mut lines, between, "fault", told.more)?;
     Ok(Some(lines))
 }
 
-/// The note on a fault of a program text, where it has a place: what stands there and what may stand there, or the words of
-/// the fault with what is wanted and what is found, the nearest name, and another place that has to do with it. Of a network each
-/// part that has a fault is told, but for those that seem to follow from another one. It refuses only where memory was refused.
+/// Returns the note on a fault of a program text, if it has a place: what was expected and found, the nearest name, and related
+/// places. In a network each part with a fault has a note, unless the fault seems to follow from another one. Fails only if
+/// memory is refused.
 #[tactic(auto, using(crate::proofs::Refused::told_syntax))]
 fn refusal_note(
     alloc: Global,
+    seed: RandomState,
     path: &str,
     program: &str,
     fault: WorkFault,
@@ -292,7 +301,7 @@ fn refusal_note(
             let note = syntax_note(alloc, program, fault)?;
             Ok(rendered(alloc, path, program, &note)?)
         }
-        WorkFault::Check(fault) => network_note(alloc, path, program, fault),
+        WorkFault::Check(fault) => network_note(alloc, seed, path, program, fault),
         WorkFault::Text(_) | WorkFault::Run(_) | WorkFault::Write(_) => Ok(None),
     }
 }
@@ -320,10 +329,16 @@ fn add_number(json: &mut String, name: &str, number: usize) -> Result<(), AllocE
 }
 
 /// Adds where a part of a text begins, and where what stands behind it does: by line and column, and by the byte.
-fn add_part(json: &mut String, before: &str, text: &str, span: Span) -> Result<(), AllocError> {
-    let from = span.from.min(text.len());
-    let to = span.to.min(text.len()).max(from);
-    let ((line, column), (last, behind)) = (place(text, from), place(text, to));
+fn add_part(
+    json: &mut String,
+    before: &str,
+    text: &Lines<'_>,
+    span: Span,
+) -> Result<(), AllocError> {
+    let length = text.text().len();
+    let from = span.from.min(length);
+    let to = span.to.min(length).max(from);
+    let ((line, column), (last, behind)) = (text.place(from), text.place(to));
     json.push_str(before)?;
     add_number(json, "\"line\":", line)?;
     add_number(json, ",\"column\":", column)?;
@@ -333,13 +348,12 @@ fn add_part(json: &mut String, before: &str, text: &str, span: Span) -> Result<(
     add_number(json, ",\"to\":", to)
 }
 
-/// Adds a note as an object of JSON and a line end. Lines and columns are counted from 1 and bytes from 0; what ends a part stands behind
-/// it. It refuses only where memory was refused.
+/// Adds a note as a JSON object and a line end. Lines and columns count from 1, bytes from 0. Fails only if memory is refused.
 fn add_json(
     json: &mut String,
     alloc: Global,
     path: &str,
-    text: &str,
+    text: &Lines<'_>,
     note: &Note,
 ) -> Result<(), AllocError> {
     add_string(json, "{\"path\":", path)?;
@@ -352,7 +366,7 @@ fn add_json(
     add_string(json, ",\"words\":", note.words.as_str())?;
     if let Some(fix) = &note.fix {
         add_part(json, ",\"fix\":{", text, fix.span)?;
-        add_string(json, ",\"put\":", padded(alloc, text, fix)?.as_str())?;
+        add_string(json, ",\"put\":", padded(alloc, text.text(), fix)?.as_str())?;
         json.push_str("},\"below\":[")?;
     } else {
         json.push_str(",\"fix\":null,\"below\":[")?;
@@ -369,67 +383,95 @@ fn add_json(
     json.push_str("]}\n")
 }
 
-/// The notes on the texts: on why the program text is refused, or what is warned of; or why the input text is, and that they are on it.
+/// Returns the notes on the texts, how many more there are, and whether they are on the input text. Fails only if memory is refused.
 fn notes_on(
     alloc: Global,
+    seed: RandomState,
     program: &str,
     input: &str,
     strict: bool,
-) -> Result<(Vec<Note>, bool), NoMemory> {
+) -> Result<(Vec<Note>, usize, bool), NoMemory> {
     let mut notes = Vec::new(alloc);
     let tree = match parse(alloc, program) {
         Ok(tree) => tree,
         Err(fault) => {
-            if let Some(note) = syntax_note(alloc, program, fault)? {
-                notes.push(note)?;
-            }
-            return Ok((notes, false));
+            // Of all faults only want of memory has no note here.
+            notes.push(syntax_note(alloc, program, fault)?.ok_or(NoMemory)?)?;
+            return Ok((notes, 0, false));
         }
     };
-    let faults = every(alloc, &tree)?;
+    let faults = every(alloc, seed, &tree)?;
     if !faults.is_empty() {
-        return Ok((fault_notes(alloc, program, &tree, &faults)?.notes, false));
+        let told = fault_notes(alloc, seed, program, &tree, &faults)?;
+        return Ok((told.notes, told.more, false));
     }
-    let Ok(network) = check(alloc, tree) else {
+    let Ok(network) = check(alloc, seed, tree) else {
         return Err(NoMemory);
     };
-    let warnings = warning_notes(alloc, program, network.program())?;
+    let warnings = warning_notes(alloc, seed, program, network.program())?;
     if strict && !warnings.is_empty() {
-        return Ok((warnings, false));
+        return Ok((warnings, 0, false));
     }
     if let Err(fault) = read_input(alloc, input, &network) {
-        if let Some(note) = input_note(alloc, &network, input, fault)? {
-            notes.push(note)?;
-            return Ok((notes, true));
-        }
+        notes.push(input_note(alloc, &network, input, fault)?.ok_or(NoMemory)?)?;
+        return Ok((notes, 0, true));
     }
-    Ok((warnings, false))
+    Ok((warnings, 0, false))
 }
 
 fn data_lines(
     alloc: Global,
+    seed: RandomState,
     paths: (&str, &str),
     program: &str,
     input: &str,
     strict: bool,
 ) -> Result<String, NoMemory> {
-    let (notes, is_on_input) = notes_on(alloc, program, input, strict)?;
+    let (notes, more, is_on_input) = notes_on(alloc, seed, program, input, strict)?;
     let (path, text) = if is_on_input {
         (paths.1, input)
     } else {
         (paths.0, program)
     };
+    let text = Lines::new(alloc, text)?;
     let mut lines = String::new(alloc);
-    for note in &notes {
-        add_json(&mut lines, alloc, path, text, note)?;
+    let (told, others) = first_ones(&notes, MOST_OBJECTS);
+    for note in told {
+        add_json(&mut lines, alloc, path, &text, note)?;
+    }
+    if let (Some(last), true) = (told.last(), more > 0 || !others.is_empty()) {
+        let last = unsaid_note(alloc, last, more.saturating_add(others.len()))?;
+        add_json(&mut lines, alloc, path, &text, &last)?;
     }
     Ok(lines)
 }
 
-/// Writes the notes on a program text and on an input text for it as data, where they were looked at and that came to something: an object
-/// of JSON on a line for each. A fault that looking at them came to is answered.
+/// Returns a note that says how many more notes or faults there are, at the place of `last`.
+fn unsaid_note(alloc: Global, last: &Note, more: usize) -> Result<Note, AllocError> {
+    let what = match last.sort {
+        Sort::Error => "fault",
+        Sort::Warning | Sort::Note => "warning",
+    };
+    let mut words = String::new(alloc);
+    add_more(&mut words, "", what, more)?;
+    simple(alloc, Sort::Note, last.span, words.as_str().trim_end())
+}
+
+/// Whether a text was refused and nothing says why.
+fn is_unsaid(came: Came, lines: &str) -> bool
+    ensures { result ≡ false → came ≡ Refused → ¬ (lines.now ≡ []) }
+{
+    match came {
+        Came::Stopped(_) => false,
+        Came::Refused => lines.is_empty(),
+    }
+}
+
+/// Writes a line with a JSON object for each of the first 100 notes on the texts, and one that says how many more there are.
+/// `came` is the outcome of looking at them with a writer to memory. Returns its fault, and `NoMemory` if that writer failed.
 pub fn write_data<W: Write>(
     alloc: Global,
+    seed: RandomState,
     paths: (&str, &str),
     program: &str,
     input: &str,
@@ -440,10 +482,17 @@ pub fn write_data<W: Write>(
     ensures { HasToldData came (W.contents writer.old) (W.contents writer.new) result }
 {
     match came {
-        Ok(came) => match data_lines(alloc, paths, program, input, strict) {
-            Ok(lines) => write_both("", lines.as_str(), came, writer),
+        Ok(came) => match data_lines(alloc, seed, paths, program, input, strict) {
+            Ok(lines) => {
+                let text = lines.as_str();
+                if is_unsaid(came, text) {
+                    return Err(WorkFault::Run(RunFault::NoMemory));
+                }
+                write_both("", text, came, writer)
+            }
             Err(NoMemory) => Err(WorkFault::Run(RunFault::NoMemory)),
         },
+        Err(WorkFault::Write(_)) => Err(WorkFault::Run(RunFault::NoMemory)),
         Err(fault) => Err(fault),
     }
 }

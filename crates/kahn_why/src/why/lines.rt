@@ -3,10 +3,10 @@
 use itoa::Buffer;
 use kahn_chain::{Cause, Reason, Standing};
 use kahn_marks::{
-    MOST_NOTES, Other, Sort, add, add_more, add_spot, first_ones, part_of, render, simple,
+    Lines, MOST_NOTES, Other, Sort, add, add_more, first_ones, part_of, render_in, simple,
 };
 use kahn_streams::{Failure, Input, Network, Outcome, Process, Span, Verdict};
-use kahn_syntax::{Class, Keyword, lex};
+use kahn_syntax::{Class, Keyword, Lexeme, lex};
 use kahn_texts::{channel_name, process_name};
 use kahn_warnings::fault_places;
 use std::alloc::{AllocError, Global};
@@ -24,7 +24,10 @@ pub(crate) struct Story<'a> {
     pub alloc: Global,
     /// What the program text is called.
     pub path: &'a str,
-    pub program: &'a str,
+    /// The program text.
+    pub program: &'a Lines<'a>,
+    /// Its lexemes, if an instance waits.
+    pub lexemes: &'a [Lexeme],
     pub network: &'a Network,
     /// What it was fed, where that is known.
     pub fed: Option<&'a Input>,
@@ -126,7 +129,7 @@ fn add_wait(
     let (told, more) = first_ones(places, if places.len() > 3 { 1 } else { 3 });
     for (number, place) in told.iter().enumerate() {
         let lead = if number == 0 { " at " } else { " or " };
-        add_spot(text, lead, story.program, place.from)?;
+        story.program.add_spot(text, lead, place.from)?;
     }
     if !more.is_empty() {
         text.push_str(" or ")?;
@@ -150,24 +153,37 @@ fn add_wait(
     add_who(text, story, source, &[words, for_ever(reason)])
 }
 
+/// Returns the lexemes of a program text, or none if no instance waits. Fails only if memory is refused.
+pub(crate) fn lexemes_for(
+    alloc: Global,
+    program: &str,
+    reasons: &[Reason],
+) -> Result<Vec<Lexeme>, AllocError> {
+    let waits = |reason: &Reason| matches!(reason.end.outcome, Outcome::Waits(_));
+    if !reasons.iter().any(waits) {
+        return Ok(Vec::new(alloc));
+    }
+    lex(alloc, program).map_err(|_| AllocError)
+}
+
 /// Where an instance of a process waits on the channel of a parameter, in the order of the program text.
 fn channel_waits(story: &Story, process: &Process, parameter: usize) -> Places {
     let mut places = Vec::new(story.alloc);
     let Some(parameter) = process.parameters.get(parameter) else {
         return Ok(places);
     };
-    let Ok(lexemes) = lex(story.alloc, story.program) else {
-        return Err(AllocError);
-    };
     let (name, begin) = (parameter.name.text.as_str(), process.name.span.from);
+    let first = story
+        .lexemes
+        .partition_point(|lexeme| lexeme.span.from < begin);
+    let lexemes = story.lexemes.get(first..).unwrap_or(&[]);
     for (number, lexeme) in lexemes.iter().enumerate() {
         let waited = lexemes.get(number.saturating_add(2));
         let close = lexemes.get(number.saturating_add(3));
         match (lexeme.what, waited, close) {
-            _ if lexeme.span.from < begin => {}
             (Class::Word(Keyword::Process), _, _) => return Ok(places),
             (Class::Word(Keyword::Wait), Some(waited), Some(close)) => {
-                if part_of(story.program, waited.span) == name {
+                if part_of(story.program.text(), waited.span) == name {
                     let (from, to) = (lexeme.span.from, close.span.to);
                     places.push(Span { from, to })?;
                 }
@@ -190,7 +206,9 @@ fn places_of(story: &Story, reason: &Reason) -> Places {
             Some(side) => channel_waits(story, process, side.parameter),
             None => Ok(none),
         },
-        Outcome::Faulted(kind) => fault_places(story.alloc, kind, &process.statements),
+        Outcome::Faulted(kind) => {
+            fault_places(story.alloc, network.seed(), kind, &process.statements)
+        },
         _ => Ok(none),
     }
 }
@@ -239,7 +257,7 @@ fn add_error(
         let (span, words) = (*place, String::from_str(story.alloc, "or here")?);
         note.others.push(Other { span, words })?;
     }
-    let lines = render(story.alloc, story.path, story.program, &note)?;
+    let lines = render_in(story.alloc, story.path, story.program, &note)?;
     text.push_str(lines.as_str())?;
     add_more(text, "", "place", more.len())
 }

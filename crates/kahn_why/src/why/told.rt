@@ -6,10 +6,10 @@ ghost use Rattle.kahn_streams.specs.{Network.Schema, Network.network_of, Answers
 ghost use Rattle.kahn_chain.specs.Chain.{AreStandings, stands};
 ghost use Rattle.kahn_why.specs.{Why.AreCauses, Why.IsExplained, Why.LastForGood, Why.StayForGood, Why.came_to, Why.finding_lead, Why.has_fault, Why.has_ring, Why.is_fault, Why.is_ring, Why.is_silent, Why.standings_of, inner.Told.IsToldWhy};
 
-use crate::why::lines::{Story, add_causes, add_count, add_those, is_fed, led_to};
+use crate::why::lines::{Story, add_causes, add_count, add_those, is_fed, led_to, lexemes_for};
 use itoa::Buffer;
 use kahn_chain::{Cause, Reason, reasons};
-use kahn_marks::add;
+use kahn_marks::{Lines, add};
 use kahn_streams::{Answer, End, Input, Network, Outcome, Verdict};
 use std::alloc::{AllocError, Global};
 
@@ -187,10 +187,13 @@ fn told(
 {
     let reasons = reasons(alloc, network, verdict, ends)?;
     let told = came_to(verdict, &reasons);
+    let lexemes = lexemes_for(alloc, program, &reasons)?;
+    let program = Lines::new(alloc, program)?;
     let story = Story {
         alloc,
         path,
-        program,
+        program: &program,
+        lexemes: &lexemes,
         network,
         fed,
         verdict,
