@@ -3,7 +3,7 @@ pub use Rattle.kahn_chain.specs.Chain.{AreStandings, HasRing, stands}
 pub use Rattle.kahn_sequential.specs.Flows.{AreNew, Flowing, IsUnpoured, flow_lines}
 pub use Rattle.kahn_sequential.specs.HeldRuns.{GoesOn, HasResumed, HeldRun, IsRightSoFar, Seen, seen_at, seen_events, so_far}
 pub use Rattle.kahn_session.specs.Forms.{HasLetGoAt, HasLetGoBehind, cell_news, fewest, form_text, is_uneven, let_go_but, news_of, next_of, row_count, row_news, row_stop, rows_news, values_behind, waiting_from}
-pub use Rattle.kahn_session.specs.Live.{HasAnswered, HasBroken, HasTaken, HasVerdict, IsDeaf, IsDeafNow, IsFedBy, IsFirstFault, IsFirstInput, IsLastText, IsMeantLine, IsNoOther, IsOtherInput, IsText, IsUnfedBy, Live, OutBegins, first_faulted, has_left, is_finished, bears_name, is_other_input, pace_after, waits_on_input}
+pub use Rattle.kahn_session.specs.Live.{HasAnswered, HasBroken, HasFedLine, HasRunPart, HasVerdict, IsDeaf, IsDeafNow, IsFedBy, IsFirstFault, IsFirstInput, IsLastText, IsMeantLine, IsNoOther, IsOtherInput, IsTakenLine, IsText, IsUnfedBy, Live, OutBegins, breaks, first_faulted, has_left, is_finished, bears_name, is_other_input, pace_after, waits_on_input}
 pub use Rattle.kahn_session.specs.Pace.{IsPart, Pace, events_of, most_bound, part_bound}
 pub use Rattle.kahn_session.specs.inner.Kept.{AreStale, kept_values, lines_text}
 pub use Rattle.kahn_streams.specs.Feeds.{IsMeantFor, IsNotMeant}

@@ -80,9 +80,14 @@ IsUnfedBy line h (Feed f) = IsText line × ((entry : Entry) × IsEntry (content 
 IsUnfedBy line h NoMemory = IsText line
 IsUnfedBy line h (Write f) = ⊥
 
--- the line's values were fed, and the run goes on
-pub record HasGoneOn (line : List ℕ) (old new : Live) : Type 0 where
-  pub fed : (h : Flowing) × IsFedBy line old.flow h × (new.flow.run.input ≡ h.run.input)
+-- the line's values were fed, and no part was run
+pub record HasFedLine (line : List ℕ) (old new : Live) : Type 0 where
+  pub fed : IsFedBy line old.flow new.flow
+  pub rest : new ≡ record old { flow = new.flow }
+
+-- the run goes on by a part
+pub record HasGoneOn (old new : Live) : Type 0 where
+  pub input : new.flow.run.input ≡ old.flow.run.input
   pub goes_on : GoesOn old.flow.run new.flow.run
   pub step : new.step ≡ old.step
   pub columns : new.columns ≡ old.columns
@@ -96,8 +101,8 @@ pace_after old new = record { flow = record new.flow { out = old.flow.out }; wai
 
 -- the part has this verdict, and the ends that are right for the input so far and the bound so far; and what is new on each
 -- stream, behind what was let go of it, is its stream so far
-pub record HasAnswered (line : List ℕ) (old new : Live) (v : Verdict) : Type 0 where
-  pub gone_on : HasGoneOn line old new
+pub record HasAnswered (old new : Live) (v : Verdict) : Type 0 where
+  pub gone_on : HasGoneOn old new
   pub bound : new.flow.run.bound ≡ part_bound old.step old.flow.run
   pub verdict : new.flow.run.verdict ≡ Some v
   pub ends : (ends : List End) × IsRightSoFar new.flow.run v ends
@@ -121,17 +126,22 @@ abbrev pub AreRowsGone : Live → Live → Type 0
 AreRowsGone old new = HasLetGoBehind (row_count (next_of (pace_after old new)) old.columns) old.columns (pace_after old new) (pace_of new) new.shown
 
 -- the news went out, and what went out is let go of
-pub record HasTaken (line : List ℕ) (old new : Live) (before after : Option (List ℕ)) (v : Verdict) : Type 0 where
-  pub answered : HasAnswered line old new v
+pub record HasRunPart (old new : Live) (before after : Option (List ℕ)) (v : Verdict) : Type 0 where
+  pub answered : HasAnswered old new v
   pub gone : AreRowsGone old new
   pub begun : OutBegins new.flow
   pub text : Appends before after (news_written old new)
 
 -- a fault of the writer: a prefix of the news went out
-pub record HasBroken (line : List ℕ) (old new : Live) (before after : Option (List ℕ)) : Type 0 where
+pub record HasBroken (old new : Live) (before after : Option (List ℕ)) : Type 0 where
   pub verdict : Verdict
-  pub answered : HasAnswered line old new verdict
+  pub answered : HasAnswered old new verdict
   pub text : AppendsFront before after (news_written old new)
+
+-- what a part made of a session and of the bytes that were written
+abbrev pub IsPartShown : Live → Live → Option (List ℕ) → Option (List ℕ) → Result Verdict WriteFault → Type 0
+IsPartShown old new before after (Ok v) = HasRunPart old new before after v
+IsPartShown old new before after (Err f) = HasBroken old new before after
 
 -- whether the session is broken by a fault
 abbrev pub breaks : TakeFault → Bool
@@ -144,10 +154,10 @@ pub record IsRefusedLine (line : List ℕ) (old new : Live) (before after : Opti
   pub text : after ≡ before
   pub why : IsUnfedBy line old.flow f
 
--- what a line of input made of a session and of the bytes that were written
+-- what a line of input made of a session and of the bytes that were written: it was fed, and then a part was run
 abbrev pub IsTakenLine : List ℕ → Live → Live → Option (List ℕ) → Option (List ℕ) → Result Verdict TakeFault → Type 0
-IsTakenLine line old new before after (Ok v) = HasTaken line old new before after v
-IsTakenLine line old new before after (Err (Write f)) = HasBroken line old new before after
+IsTakenLine line old new before after (Ok v) = (fed : Live) × HasFedLine line old fed × HasRunPart fed new before after v
+IsTakenLine line old new before after (Err (Write f)) = (fed : Live) × HasFedLine line old fed × HasBroken fed new before after
 IsTakenLine line old new before after (Err f) = IsRefusedLine line old new before after f
 
 -- ---- the end

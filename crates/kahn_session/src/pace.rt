@@ -13,7 +13,7 @@ use kahn_streams::{
     Config, End, FeedFault, Gate, Input, Line, MOST_BOUND, Network, NoMemory, RunFault, Tokens,
     Value, Values, Verdict,
 };
-use kahn_texts::{WriteFault, write_line, write_news, write_plain};
+use kahn_texts::{WriteFault, put_line, uncounted, write_news, write_plain};
 use std::alloc::Global;
 use std::io::Write;
 use std::marker::Model;
@@ -194,7 +194,11 @@ fn put_cell<W: Write>(writer: &mut W, value: Option<Value>, stop: &str) -> Write
     };
     let mut buffer = Buffer::new();
     let text = value_text(&mut buffer, value);
-    write_line(writer, &[text.as_bytes(), stop.as_bytes()])
+    put_line(
+        writer,
+        &[text.as_bytes(), stop.as_bytes()],
+        &mut uncounted(),
+    )
 }
 
 fn next_count(run: &Paced<'_>, number: usize) -> usize

@@ -1,12 +1,12 @@
 //! Sessions: what a line of input makes of a run, and what goes out after it.
 
-ghost use Rattle.std.specs.Prelude.{◌≡◌, ◌↔◌, ◌&&◌, not, Some, false, map, IsTrue, MatchResult, option_copied};
+ghost use Rattle.std.specs.Prelude.{◌≡◌, ◌↔◌, ◌&&◌, not, Some, false, map, IsTrue, MatchResult, is_err, option_copied};
 ghost use Rattle.std.specs.List.{list_any, position};
 ghost use Rattle.kahn_streams.specs.{Network.network_of, declared.answer.Verdict.Verdict as VerdictOf};
 ghost use Rattle.kahn_chain.specs.Chain.{AreStandings, stands};
 ghost use Rattle.kahn_sequential.specs.{Flows.Flowing, HeldRuns.IsRightSoFar};
 ghost use Rattle.kahn_texts.specs.Formats.{IsReadLine, channel_name, content};
-ghost use Rattle.kahn_session.specs.{Live.HasOpened, Live.IsClosed, Live.IsDeafNow, Live.IsFedBy, Live.IsFirstFault, Live.IsFirstInput, Live.IsMeantLine, Live.IsOtherInput, Live.HasVerdict, Live.IsRinged, Live.IsTakenLine, Live.IsText, Live.IsUnfedBy, Live.IsUnopened, Live.breaks, Live.first_faulted, Live.has_left, Live.is_finished, Live.is_input, Live.bears_name, Live.is_other_input, Live.stream_of, Live.waits_on_input, Live.wants_input, Pace.MayBeSlow};
+ghost use Rattle.kahn_session.specs.{Live.HasOpened, Live.IsClosed, Live.IsDeafNow, Live.IsFedBy, Live.IsFirstFault, Live.IsFirstInput, Live.IsMeantLine, Live.IsOtherInput, Live.HasVerdict, Live.IsRinged, Live.HasFedLine, Live.IsPartShown, Live.IsTakenLine, Live.IsText, Live.IsUnfedBy, Live.IsUnopened, Live.breaks, Live.first_faulted, Live.has_left, Live.is_finished, Live.is_input, Live.bears_name, Live.is_other_input, Live.stream_of, Live.waits_on_input, Live.wants_input, Pace.MayBeSlow};
 
 use crate::pace::{Paced, begun, is_uneven, let_go, row_count, show};
 use crate::refusal::TakeFault;
@@ -226,12 +226,46 @@ impl<'n> Session<'n> {
         }
     }
 
-    /// Feeds the values of a line of input, which stands without its line feed, runs a part, and writes what is new: a line for each stream
-    /// that has grown, its heading as in a report and then the values behind those that went out, or after `show_columns` the values alone of
-    /// its streams. The caller flushes. A blank line feeds nothing. The part goes on until nothing can, or until it took as many events as
-    /// each part may, or memory was refused.
-    /// The line is refused with `TooLong`, `NotUtf8`, `BadLine`, `BadValue`, `Feed` and `NoMemory`, in this order: then nothing changed and
-    /// nothing was written. With `Write` the part was run, and a prefix of what is new was written: the session is broken, and takes no more.
+    /// Feeds the values of a line of input, which comes without its line feed. No process runs before the next part. A blank line feeds
+    /// nothing. Fails with `TooLong`, `NotUtf8`, `BadLine`, `BadValue`, `Feed` and `NoMemory`, in this order: then nothing changed.
+    pub fn feed(&mut self, line: &[u8]) -> Result<(), TakeFault>
+        ensures { MatchResult result (λ _. HasFedLine line.now self.old self.new) (λ f. (self.new ≡ self.old) × IsUnfedBy line.now self.old.flow f) }
+    {
+        feed_line(self.alloc, &mut self.paced, line)
+    }
+
+    /// Runs a part, and writes what is new: a line for each stream that has grown, its heading as in a report and then the values after
+    /// those that went out; or after `show_columns` only the values of its streams. The caller flushes. The part goes on until nothing
+    /// can, or until it took as many events as each part may, or memory was refused. If a write fails, a prefix of what is new was
+    /// written: the session is broken, and takes no more.
+    pub fn run<G: Gate, W: Write>(
+        &mut self,
+        gate: &G,
+        writer: &mut W,
+    ) -> Result<Verdict, WriteFault>
+        requires { self.old.broken ≡ false }
+        ensures shown { IsPartShown self.old self.new (W.contents writer.old) (W.contents writer.new) result }
+        ensures broken { self.new.broken ≡ is_err result }
+    {
+        let _program = self.network.program();
+        let verdict = self.paced.part(gate);
+        let ends = self.paced.ends();
+        self.ring.ask(self.network, self.paced.events(), ends);
+        begun(&self.paced, self.paced.lines());
+        let count = row_count(&self.paced, &self.columns);
+        let run = &self.paced;
+        if let Err(fault) = show(writer, self.network, run, &self.columns, self.shown, count) {
+            self.broken = true;
+            return Err(fault);
+        }
+        let shown = let_go(self.alloc, &mut self.paced, &self.columns, count);
+        self.shown = shown;
+        Ok(verdict)
+    }
+
+    /// Feeds a line of input, as `feed` does, and runs a part, as `run` does. If the line is refused, nothing changed and nothing was
+    /// written. Fails with `Write` if a write failed after the part.
+    #[tactic(auto, using(crate::proofs::Taking::refused, crate::proofs::Taking::unbroken))]
     pub fn take<G: Gate, W: Write>(
         &mut self,
         line: &[u8],
@@ -242,23 +276,13 @@ impl<'n> Session<'n> {
         ensures taken { IsTakenLine line.now self.old self.new (W.contents writer.old) (W.contents writer.new) result }
         ensures broken { MatchResult result (λ _. self.new.broken ≡ false) (λ f. self.new.broken ≡ breaks f) }
     {
-        let _program = self.network.program();
-        if let Err(fault) = feed_line(self.alloc, &mut self.paced, line) {
+        if let Err(fault) = self.feed(line) {
             return Err(fault);
         }
-        let verdict = self.paced.part(gate);
-        let ends = self.paced.ends();
-        self.ring.ask(self.network, self.paced.events(), ends);
-        begun(&self.paced, self.paced.lines());
-        let count = row_count(&self.paced, &self.columns);
-        let run = &self.paced;
-        if let Err(fault) = show(writer, self.network, run, &self.columns, self.shown, count) {
-            self.broken = true;
-            return Err(TakeFault::Write(fault));
+        match self.run(gate, writer) {
+            Ok(verdict) => Ok(verdict),
+            Err(fault) => Err(TakeFault::Write(fault)),
         }
-        let shown = let_go(self.alloc, &mut self.paced, &self.columns, count);
-        self.shown = shown;
-        Ok(verdict)
     }
 
     /// The verdict of the last part, where nothing changed since. With one, and if no write failed, the session is settled: it may be closed.
