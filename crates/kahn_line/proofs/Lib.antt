@@ -1,3 +1,4 @@
 pub mod Asked
 pub mod Live_asked
 pub mod Common
+pub mod Kept

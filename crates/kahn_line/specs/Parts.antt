@@ -36,24 +36,30 @@ line_of_parts None (line, None) = line
 abbrev pub set_line : Option Text → Text → Text
 set_line input word = line_of_parts input (parted 61 word)
 
--- the channel whose values stand alone in the lines of input
+-- the channels whose values are alone in the lines of input; without them lines begin with names
 abbrev pub input_named : Option PlainNames → Option Text
-input_named plain = option_map (λ p. string_bytes p.input) plain
+input_named None = None
+input_named (Some p) = option_map string_bytes p.input
 
 -- a text that is lent, if one is
 abbrev pub lent : Option (Bor Text) → Option Text
 lent word = option_map (λ t. t.now) word
 
--- the names of the channels whose values stand alone: the words of `--in` and of `--out`, if one is there; `--plain` is their short form, with a
--- comma (44) between both
-abbrev pub columns_given : Option Text → Option Text → Option Text → Option (Text × Option Text)
-columns_given None None plain = option_map (parted 44) plain
-columns_given (Some inputs) outputs plain = Some (inputs, outputs)
-columns_given None (Some outputs) plain = Some ([], Some outputs)
+-- a name, which is never empty
+abbrev pub name_in : Text → Option Text
+name_in [] = None
+name_in (b ∷ bs) = Some (b ∷ bs)
 
--- the names of the channels whose values stand alone
-abbrev pub plain_parts : PlainNames → Text × Option Text
-plain_parts p = (string_bytes p.input, option_map string_bytes p.output)
+-- the names of the channels whose values are alone: the words of `--in` and of `--out`, if one is there; `--plain` is their short form, with a
+-- comma (44) between both
+abbrev pub columns_given : Option Text → Option Text → Option Text → Option (Option Text × Option Text)
+columns_given None None plain = option_map (λ word. (name_in (parted 44 word).0, (parted 44 word).1)) plain
+columns_given (Some inputs) outputs plain = Some (name_in inputs, outputs)
+columns_given None (Some outputs) plain = Some (None, Some outputs)
+
+-- the names of the channels whose values are alone
+abbrev pub plain_parts : PlainNames → Option Text × Option Text
+plain_parts p = (option_map string_bytes p.input, option_map string_bytes p.output)
 
 -- all texts that were found for a name
 abbrev pub row_texts : Text → List Row → List Text

@@ -1,13 +1,14 @@
 //! The command line of the program that is fed line by line, and its words that have two parts.
 
-ghost use Rattle.std.specs.Prelude.{◌≡◌, IfOk, codes, map, string_bytes, ◌<◌, ◌≤◌, ◌∷◌, ◌++◌, Some, length, option_copied, option_map};
-ghost use Rattle.clap.specs.Words.{app_of, found_of};
-ghost use Rattle.kahn_line.specs.{Line.IsRead, Live.IsLive, Live.live_app, Parts.found_texts, Parts.input_named, Parts.joined_words, Parts.set_line, Parts.IsJoinedBy, Parts.columns_given, Parts.lent, Parts.parted, Parts.plain_parts, Parts.takes_behind};
+ghost use Rattle.std.specs.Prelude.{◌≡◌, IfOk, codes, false, map, string_bytes, ◌<◌, ◌≤◌, ◌∷◌, ◌++◌, Some, length, option_copied, option_map};
+ghost use Rattle.clap.specs.Words.{app_of, found_of, rule_of};
+ghost use Rattle.kahn_line.specs.{Line.IsRead, Live.IsLive, Live.live_app, Live.names_rule, Parts.found_texts, Parts.input_named, Parts.joined_words, Parts.set_line, Parts.IsJoinedBy, Parts.columns_given, Parts.lent, Parts.name_in, Parts.parted, Parts.plain_parts, Parts.takes_behind};
 
 use crate::line::{
     LineFault, QUANTUM, bare, config_of, copied, file_copied, flag_arg, number_arg, text_arg,
     was_given,
 };
+use clap::builder::ValueParser;
 use clap::{Arg, ArgAction, ArgMatches, Command};
 use kahn_streams::Config;
 use std::alloc::{AllocError, Global};
@@ -75,6 +76,14 @@ pub struct LiveOptions {
     pub plain: Option<PlainNames>,
 }
 
+/// Makes an option with names of channels, which may not be empty.
+fn names_arg<'a>(alloc: Global, name: &'a str, value: &'a str, help: &'a str) -> Arg<'a>
+    ensures rule { rule_of result ≡ names_rule name.entry.now }
+    ensures local { result.global ≡ false }
+{
+    text_arg(alloc, name, value, help).value_parser(ValueParser::NonEmptyString)
+}
+
 fn live_command<'a>(alloc: Global) -> Result<Command<'a>, AllocError>
     ensures { IfOk result (λ c. app_of c ≡ live_app) }
 {
@@ -104,9 +113,9 @@ fn live_command<'a>(alloc: Global) -> Result<Command<'a>, AllocError>
         .arg(flag_arg(alloc, "keep-going", keep_going))?
         .arg(flag_arg(alloc, "strict", strict))?
         .arg(text_arg(alloc, "at-end", "NAME=VALUE", at_end).action(ArgAction::Append))?
-        .arg(text_arg(alloc, "in", "NAME[,NAME..]", inputs))?
-        .arg(text_arg(alloc, "out", "NAME[,NAME..]", outputs))?
-        .arg(text_arg(alloc, "plain", "INPUT[,OUTPUT]", plain))
+        .arg(names_arg(alloc, "in", "NAME[,NAME..]", inputs))?
+        .arg(names_arg(alloc, "out", "NAME[,NAME..]", outputs))?
+        .arg(names_arg(alloc, "plain", "INPUT[,OUTPUT]", plain))
 }
 
 fn lines_at_end(
@@ -147,9 +156,9 @@ pub fn read_live_line<S: AsStr>(alloc: Global, words: &[S]) -> Result<LiveOption
 /// Channels whose values stand alone in the lines of input and output.
 #[derive(Debug, Drop)]
 pub struct PlainNames {
-    /// The name of the channel whose values are taken, or nothing where lines have names.
-    pub input: String,
-    /// The name of the channel whose values are shown, or nothing for the first stream of a report.
+    /// The names of the channels whose values are taken, with commas between, never empty; or nothing if lines begin with names.
+    pub input: Option<String>,
+    /// The names of the channels whose values are shown, with commas between, or nothing for the first stream of a report.
     pub output: Option<String>,
 }
 
@@ -227,14 +236,21 @@ fn set_line(alloc: Global, input: Option<&str>, word: &str) -> Result<String, Al
     }
 }
 
-/// Returns the name of the channel whose values stand alone in the lines of input, if they do.
+/// Returns the names of the channels whose values are alone in the lines of input, never empty; or nothing if lines begin with names.
 pub fn input_named(plain: &Option<PlainNames>) -> Option<&str>
     ensures { option_copied result ≡ input_named plain.now }
 {
     match plain {
-        Some(plain) => Some(plain.input.as_str()),
+        Some(plain) => plain.input.as_deref(),
         None => None,
     }
+}
+
+/// Returns a name, unless it is empty.
+fn name_in(word: &str) -> Option<&str>
+    ensures { option_copied result ≡ name_in word.entry.now }
+{
+    if word.is_empty() { None } else { Some(word) }
 }
 
 /// Returns the channels that the words of `--in` and `--out` name, if one of them is there, and else those of the short form.
@@ -247,13 +263,16 @@ fn plain_of<'a>(
     ensures { IfOk result (λ p. option_map plain_parts p ≡ columns_given (lent inputs.entry) (lent outputs.entry) (lent word.entry)) }
 {
     let (input, output) = match (inputs, outputs, word) {
-        (Some(inputs), outputs, _) => (inputs, outputs),
-        (None, Some(outputs), _) => ("", Some(outputs)),
-        (None, None, Some(word)) => parted(word, ','),
+        (Some(inputs), outputs, _) => (name_in(inputs), outputs),
+        (None, Some(outputs), _) => (None, Some(outputs)),
+        (None, None, Some(word)) => {
+            let (input, output) = parted(word, ',');
+            (name_in(input), output)
+        }
         (None, None, None) => return Ok(None),
     };
     Ok(Some(PlainNames {
-        input: String::from_str(alloc, input)?,
+        input: copied(alloc, input)?,
         output: copied(alloc, output)?,
     }))
 }
