@@ -1,13 +1,13 @@
 -- The names of the crates below and of this crate's definitions that proofs cite, passed on from one place.
-pub use Rattle.kahn_live.specs.Course.{AreLikeTold, HasMissed, HasSent, HasWaited, IsAloneMet, IsAnswerTold, IsBrokenOff, IsComplaint, IsFaultPut, IsLineMet, IsNewFault, IsPartTold, IsRefused, IsToldBy, IsVerdictTold, LiveTelling, Point, WasAnswered, WasFed, WasMet, WasSaid, WasTold, first_line, is_verdict_new, no_memory, point_of, telling_of}
+pub use Rattle.kahn_live.specs.Course.{AreLikeTold, HasMissed, HasSent, HasWaited, IsAloneMet, IsAnswerTold, IsBrokenOff, IsComplaint, IsFaultPut, IsLineMet, IsNewFault, IsPartMet, IsPartTold, IsRefusalTold, IsRefused, IsToldBy, IsVerdictTold, IsWriteFault, LiveTelling, Point, WasAnswered, WasFed, WasMet, WasSaid, WasTold, first_line, is_verdict_new, no_memory, point_of, telling_of}
 pub use Rattle.kahn_live.specs.Histories.{HasHistories, IsShown}
-pub use Rattle.kahn_live.specs.InputMet.{AreAllMet, AreEachMet, AreFed, AreLastTried, AreRead, AreTaken, IsAloneTold, IsAnyMet, IsCome, IsCutOff, IsFirstPart, IsFirstUnmeant, IsLastRefused, IsNextCome, IsNextMet, IsNoneCome, IsReadBy, IsReadIn, IsReadMet, IsSource, IsStep, IsStoppedAt, IsTornOff, is_idle}
+pub use Rattle.kahn_live.specs.InputMet.{AreAllMet, AreCellsFed, AreCellsMet, AreEachMet, AreFed, AreFedIn, AreFedUpTo, AreLastTried, AreRead, IsAloneTold, IsAnyMet, IsCome, IsCutOff, IsFirstPart, IsFirstUnmeant, IsLastRefused, IsNextCome, IsNextMet, IsNoneCome, IsReadBy, IsReadIn, IsReadMet, IsRowBroken, IsRowRun, IsSource, IsStep, IsStoppedAt, IsTornOff, is_idle}
 pub use Rattle.kahn_live.specs.Lines.{CutsLine, IsNextLine, fed_text, most_kept, unmarked}
 pub use Rattle.kahn_live.specs.Rows.{AreCells, AreMeant, AreNumbered, AreRowCells, HaveStreams, IsBadRow, IsRowFront, bare_of, behind_word, bytes_in, first_word, from_word, is_row_gap, is_wordless, row_line, row_names}
-pub use Rattle.kahn_live.specs.Running.{HasRunText, HasServed, HasServedAll, IsEndWanted, IsInForm, IsLeftTold, IsSetUp, Watches, input_of, reached_status}
+pub use Rattle.kahn_live.specs.Running.{HasRunText, HasServed, HasServedAll, IsEndWanted, IsInForm, IsLeftTold, IsSetUp, Output, Watches, output_of, reached_status}
 pub use Rattle.kahn_sequential.specs.HeldRuns.{HeldRun, IsRightSoFar, so_far}
 pub use Rattle.kahn_session.specs.Forms.{HasLetGoAt, are_rows, next_of, row_count}
-pub use Rattle.kahn_session.specs.Live.{HasOpened, HasTaken, HasVerdict, IsFaulty, IsFirstInput, IsHearing, IsMeantLine, IsRinged, IsTakenLine, IsUnfedBy, Live, breaks, pace_after, pace_of, stream_of}
+pub use Rattle.kahn_session.specs.Live.{HasFedLine, HasOpened, HasRunPart, HasVerdict, IsFaulty, IsFirstInput, IsHearing, IsMeantLine, IsPartShown, IsRinged, IsTakenLine, IsUnfedBy, Live, breaks, pace_after, pace_of, stream_of}
 pub use Rattle.kahn_session.specs.Refusals.{at_end_number, origin, refused_origin, said_text, take_words}
 pub use Rattle.kahn_streams.specs.Written.{AppendsFront, Writes}
 pub use Rattle.kahn_texts.proofs.Scanned.{stop_of}

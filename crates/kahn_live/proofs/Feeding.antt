@@ -1,5 +1,5 @@
 -- What went out stays right, line by line.
-use Rattle.kahn_live.proofs.Common.{[], arith, ◌≡◌, ◌∙◌, ◌<◌, inl, inr, ℕ, zero, suc, Bool, true, false, true≢false, List, ◌∷◌, length, map, string_bytes, Global, String, take, Option, None, Some, Result, Ok, Err, sym, ap, subst, Verdict, Fault, list_any, ◌&&◌, nat_lt, HasLetGoAt, are_rows, next_of, row_count, HasTaken, IsTakenLine, Live, pace_after, pace_of, TakeFault, at_end_number, HasMissed, IsToldBy, LiveTelling, Point, WasAnswered, WasMet, AreFed, AreRead, AreTaken, IsAnyMet, IsReadBy, IsReadIn, is_idle, fed_text, most_kept, unmarked, bare_of, row_names, AreEachMet, IsAloneTold, IsShown}
+use Rattle.kahn_live.proofs.Common.{[], ◌≡◌, ◌∙◌, inl, inr, ℕ, zero, suc, Bool, true, false, true≢false, List, ◌∷◌, length, map, string_bytes, Global, String, take, Option, None, Some, Result, Ok, Err, sym, ap, subst, Verdict, Fault, list_any, ◌&&◌, nat_lt, HasLetGoAt, are_rows, next_of, row_count, HasRunPart, IsTakenLine, Live, pace_after, pace_of, TakeFault, at_end_number, HasMissed, IsToldBy, LiveTelling, Point, WasAnswered, WasMet, AreFed, AreRead, IsRowRun, IsAnyMet, IsReadBy, IsReadIn, is_idle, fed_text, most_kept, unmarked, bare_of, row_names, AreEachMet, IsAloneTold, IsShown}
 use Rattle.kahn_session.specs.{Pace.Pace, declared.refusal.TakeFault.TheVariants.Write}
 
 -- ---- what went out is right after each line
@@ -7,9 +7,9 @@ use Rattle.kahn_session.specs.{Pace.Pace, declared.refusal.TakeFault.TheVariants
 stays : (old new : Live) → new ≡ old → IsShown old → IsShown new
 stays old new same was = subst (λ (s : Live). IsShown s) (sym same) was
 
--- a line that was taken shows all that isn't in rows, whatever was shown before
-let_go : (line : List ℕ) (old new : Live) (before after : Option (List ℕ)) (v : Verdict) → HasTaken line old new before after v → IsShown new
-let_go line old new before after v t =
+-- a part shows all that isn't in rows, whatever was shown before
+let_go : (old new : Live) (before after : Option (List ℕ)) (v : Verdict) → HasRunPart old new before after v → IsShown new
+let_go old new before after v t =
     (v, t.answered.verdict, t.answered.ends, t.begun, λ none. ap (λ (p : Pace). p.flow.out) (subst level (even (sym (ap are_rows t.answered.gone_on.columns) ∙ none)) t.gone).0)
   where
     rows : ℕ
@@ -23,7 +23,7 @@ let_go line old new before after v t =
 
 taken : (number : ℕ) (line : List ℕ) (p q : LiveTelling) (old new : Live) (before after : Option (List ℕ)) (answer : Result Verdict TakeFault) → IsToldBy new number line answer p q
     → IsTakenLine line old new before after answer → IsShown old → IsShown new
-taken number line p q old new before after (Ok v) told t was = let_go line old new before after v t
+taken number line p q old new before after (Ok v) told (fed, of, t) was = let_go fed new before after v t
 taken number line p q old new before after (Err (Write f)) told t was = absurd (true≢false told.1)
 taken number line p q old new before after (Err f) told t was = stays old new t.same was
 
@@ -34,30 +34,25 @@ missed : (number : ℕ) (old new : Point) → HasMissed number old new → IsSho
 missed number old new (told, (same, kept)) was = stays old.session new.session same was
 
 shown : (number : ℕ) (line : List ℕ) (v : Verdict) (old new : Point) → WasMet number line (Ok v) old new → IsShown new.session
-shown number line v old new (told, (sent, t, kept)) = let_go line old.session new.session old.out sent v t
+shown number line v old new (told, (sent, (fed, of, t), kept)) = let_go fed new.session old.out sent v t
 
--- and so do lines that were all taken
-row_shown : (number : ℕ) (lines : List (List ℕ)) (old new : Point) → AreTaken number lines old new → IsShown old.session → IsShown new.session
-row_shown number [] old new same was = stays old.session new.session (ap (λ (p : Point). p.session) same) was
-row_shown number (line ∷ lines) old new (v, next, one, rest) was = row_shown number lines next new rest (shown number line v old next one)
-
-some_shown : (number : ℕ) (lines : List (List ℕ)) (old new : Point) → 0 < length lines → AreTaken number lines old new → IsShown new.session
-some_shown number [] old new some same = absurd (omega (arith, some))
-some_shown number (line ∷ lines) old new some (v, next, one, rest) = row_shown number lines next new rest (shown number line v old next one)
+-- and so does a row
+row_shown : (number : ℕ) (names : List ℕ) (cells : List (List ℕ)) (v : Verdict) (old new : Point) → IsRowRun number names cells v old new → IsShown new.session
+row_shown number names cells v old new (told, (fed, sent, are, t, kept)) = let_go fed new.session old.out sent v t
 
 read_in : (rows input : Option (List ℕ)) (number : ℕ) (line : List ℕ) (old new : Point) (r : Option TakeFault) → IsReadIn rows input number line old new (Ok r) → IsShown old.session
     → IsShown new.session
 read_in None input number line old new None (inl (v, met)) was = shown number (fed_text input line) v old new met
 read_in None input number line old new (Some f) (inl met) was = answered number (fed_text input line) old new (Err f, met) was
 read_in None input number line old new r (inr (is, none)) was = missed number old new none was
-read_in (Some names) input number line old new None (cells, are, taken) was = row_shown number cells old new taken was
+read_in (Some names) input number line old new None (cells, are, (v, run)) was = row_shown number names cells v old new run
 read_in (Some names) input number line old new (Some f) (cell, bad, told, (same, kept)) was = stays old.session new.session same was
 
 -- the first part shows all
 first_in : (rows input : Option (List ℕ)) (line : List ℕ) (old new : Point) → IsReadIn rows input 0 line old new (Ok None) → IsShown new.session
 first_in None input line old new (inl (v, met)) = shown 0 (fed_text input line) v old new met
 first_in None input line old new (inr (is, none)) = absurd cc
-first_in (Some names) input line old new (cells, (rest, left, front, no_name, no_word, some), taken) = some_shown 0 cells old new some taken
+first_in (Some names) input line old new (cells, are, (v, run)) = row_shown 0 names cells v old new run
 
 -- a line that may change something, as it is met
 pub not_idle : (idle : Bool) (input : Option (List ℕ)) (number : ℕ) (line kept : List ℕ) (old new : Point) (r : Result (Option TakeFault) Fault) → idle ≡ false

@@ -1,8 +1,8 @@
 -- What lines make, one after the other.
-use Rattle.kahn_live.proofs.Common.{[], ◌≡◌, ◌∙◌, inl, inr, ℕ, zero, suc, take, Bool, true, false, true≢false, List, None, Some, Option, Result, Ok, Err, IfOk, is_err, MatchResult, append-nil, refl, sym, ap, Keeps-refl, ◌||◌, Appends, Verdict, AppendsFront, Writes, Fault, HasVerdict, IsTakenLine, Live, breaks, TakeFault, WasAnswered, WasFed, HasSent, HasWaited, IsAnswerTold, IsLineMet, IsNewFault, IsPartTold, Point, LiveTelling, AreLikeTold, WasSaid, is_verdict_new, IsCome, IsSource, IsNextLine, Next, Line, End, Failed, NoMemory}
+use Rattle.kahn_live.proofs.Common.{[], ◌≡◌, ◌∙◌, inl, inr, ℕ, zero, suc, take, subst, Bool, true, false, true≢false, List, None, Some, Option, Result, Ok, Err, IfOk, is_err, MatchResult, append-nil, refl, sym, ap, Keeps-refl, ◌||◌, Appends, Verdict, AppendsFront, Writes, Fault, HasRunPart, HasVerdict, IsTakenLine, Live, breaks, TakeFault, WasAnswered, WasFed, HasSent, HasWaited, AreCellsMet, AreFedIn, AreFedUpTo, IsAnswerTold, IsRefused, IsTornOff, IsUnfedBy, IsWriteFault, Keeps, no_memory, IsLineMet, IsNewFault, IsPartMet, IsPartTold, Point, LiveTelling, AreLikeTold, WasSaid, is_verdict_new, IsCome, IsSource, IsNextLine, Next, Line, End, Failed, NoMemory}
 use Rattle.kahn_streams.specs.declared.value.Failure.{Failure}
 use Rattle.kahn_session.specs.{Refusals.like_words, declared.refusal.Origin.TheVariants.File}
-use Rattle.std.specs.Prelude.{codes, decimal, ◌==◌, ◌∷◌}
+use Rattle.std.specs.Prelude.{codes, decimal, ◌==◌, ◌∷◌, ◌⊎◌}
 
 -- what the session made of a line, where no byte more went out since
 fed_since : (line : List ℕ) (answer : Result Verdict TakeFault) (old mid new : Point) → IsTakenLine line old.session mid.session old.out mid.out answer → HasWaited mid new
@@ -21,7 +21,7 @@ line_met number line answer old mid new (Err fault) quiet taken (why, (still, wa
 -- a part of a line that was taken has a verdict
 pub settled_by : (line : List ℕ) (old new : Live) (before after : Option (List ℕ)) (answer : Result Verdict TakeFault) → IsTakenLine line old new before after answer
     → MatchResult answer (λ _. new.broken ≡ false) (λ f. new.broken ≡ breaks f) → IfOk answer (λ _. HasVerdict new)
-settled_by line old new before after (Ok v) taken whole = (whole, (v, taken.answered.verdict))
+settled_by line old new before after (Ok v) (fed, of, shown) whole = (whole, (v, shown.answered.verdict))
 settled_by line old new before after (Err f) taken whole = tt
 
 -- a session is whole after a line that was told of
@@ -30,6 +30,41 @@ pub still_whole : (number : ℕ) (line : List ℕ) (answer : Result Verdict Take
 still_whole number line answer mid new (Ok None) whole ((v, is), told, (same, kept)) = ap (λ (s : Live). s.broken) same ∙ (rw is at whole)
 still_whole number line answer mid new (Ok (Some f)) whole (is, told, (same, kept)) = ap (λ (s : Live). s.broken) same ∙ (rw is at whole) ∙ (rw is at told).1
 still_whole number line answer mid new (Err fault) whole told = tt
+
+-- a row that was fed, had its part, and is told of
+pub row_met : {X : Type 0} (number : ℕ) (names : List ℕ) (cells : List (List ℕ)) (v : Verdict) (old mid run new : Point) (r : Result X Fault)
+    → AreFedIn cells old.session mid.session → mid.out ≡ old.out → run.told ≡ old.told → HasRunPart mid.session run.session mid.out run.out v → IsPartMet number names v run new r
+    → AreCellsMet number names cells old new r
+row_met number names cells v old mid run new (Ok x) fed out quiet shown (part, (same, kept)) = (
+  v,
+  (
+    subst (λ (k : LiveTelling). IsPartTold new.session number names v k new.told) quiet part,
+    (mid.session, run.out, fed, subst (λ (s : Live). HasRunPart mid.session s old.out run.out v) (sym same) (subst (λ (o : Option (List ℕ)). HasRunPart mid.session run.session o run.out v) out shown), kept),
+  ),
+)
+row_met number names cells v old mid run new (Err fault) fed out quiet shown (why, (still, (same, kept))) = inl (
+  why,
+  still ∙ quiet,
+  (mid.session, run.out, Ok v, fed, subst (λ (s : Live). HasRunPart mid.session s old.out run.out v) (sym same) (subst (λ (o : Option (List ℕ)). HasRunPart mid.session run.session o run.out v) out shown), kept),
+)
+
+-- a line of a row that was refused behind those that were fed
+pub torn : (number : ℕ) (cells rest left : List (List ℕ)) (cell : List ℕ) (f : TakeFault) (old mid fed new : Point) (fault : Fault)
+    → ((c : List ℕ) (g : TakeFault) (s : Live) → AreFedUpTo rest c g mid.session s → AreFedUpTo cells c g old.session s) → rest ≡ cell ∷ left → fed.session ≡ mid.session
+    → fed.out ≡ old.out → fed.told ≡ old.told → IsUnfedBy cell mid.session.flow f → HasWaited fed new
+    → (IsRefused new.session number cell f fed.told new.told × (fault ≡ no_memory)) ⊎ (IsWriteFault fault × (new.told ≡ fed.told)) → IsTornOff number cells old new fault
+torn number cells rest left cell f old mid fed new fault all split same out quiet why (stays, kept) told = (
+  cell,
+  f,
+  all cell f new.session (subst (λ (l : List (List ℕ)). AreFedUpTo l cell f mid.session new.session) (sym split) (inl (refl, stays ∙ same, why))),
+  subst (λ (o : Option (List ℕ)). Keeps o new.out) out kept,
+  subst (λ (k : LiveTelling). (IsRefused new.session number cell f k new.told × (fault ≡ no_memory)) ⊎ (IsWriteFault fault × (new.told ≡ k))) quiet told,
+)
+
+-- whatever comes of it
+pub at_least : {X F : Type 0} {P : Type 0} (r : Result X F) → P → IfOk r (λ _. P)
+at_least (Ok x) p = p
+at_least (Err f) p = tt
 
 -- a line that was met, as one behind those of the input
 pub answered_of : (number : ℕ) (line : List ℕ) (old new : Point) (r : Option TakeFault) → IsLineMet number line old new (Ok r) → WasAnswered number line old new

@@ -1,37 +1,58 @@
 -- Believed. All lines of a run: the part before them, those of the input, and those behind these (this project's profile).
 use Rattle.std.specs.Prelude.{◌≡◌, ◌⊎◌, ⊤, ℕ, zero, suc, ◌-◌, ◌^◌, ◌==◌, ◌&&◌, not, length, Bool, true, false, List, [], ◌∷◌, codes, map, take, Option, None, Some, Result, Ok, Err, string_bytes}
-use Rattle.std.specs.{Io.KnownBytes.IsAtEnd, declared.alloc.Global.Global, declared.string.String.String}
+use Rattle.std.specs.{Io.KnownBytes.IsAtEnd, Io.KnownBytes.Keeps, declared.alloc.Global.Global, declared.string.String.String}
 use Rattle.kahn_streams.specs.{declared.answer.Verdict.Verdict, declared.answer.Verdict.TheVariants.Finished, declared.answer.Verdict.TheVariants.Memory}
 use Rattle.kahn_fault.specs.declared.fault.Fault.{Fault}
-use Rattle.kahn_session.specs.{Live.IsDeafNow, Live.IsFirstInput, Live.IsHearing, Live.IsMeantLine, Live.IsOtherInput, Live.IsUnfedBy, Live.Live, Refusals.at_end_number, Refusals.is_want, declared.refusal.TakeFault.TakeFault, declared.refusal.Origin.TheVariants.File}
+use Rattle.kahn_texts.specs.declared.bytes.WriteFault.{WriteFault}
+use Rattle.kahn_session.specs.{Live.HasFedLine, Live.HasRunPart, Live.IsDeafNow, Live.IsFirstInput, Live.IsHearing, Live.IsMeantLine, Live.IsOtherInput, Live.IsPartShown, Live.IsUnfedBy, Live.Live, Refusals.at_end_number, Refusals.is_want, declared.refusal.TakeFault.TakeFault, declared.refusal.Origin.TheVariants.File}
 use Rattle.kahn_live.specs.{Lines.CutsLine, Lines.fed_text, Lines.most_kept, Lines.unmarked, declared.lines.Next.Next, declared.lines.Next.TheVariants.Line, declared.lines.Next.TheVariants.End, declared.lines.Next.TheVariants.Failed, declared.lines.Next.TheVariants.NoMemory, Rows.AreMeant, Rows.AreRowCells, Rows.IsBadRow, Rows.bare_of, Rows.row_names}
-use Rattle.kahn_live.specs.Course.{HasMissed, HasSent, HasWaited, IsAloneMet, IsBrokenOff, IsReadFailed, IsRefused, IsWriteFault, LiveTelling, Point, WasAnswered, WasMet, WasSaid, no_memory}
+use Rattle.kahn_live.specs.Course.{HasMissed, HasSent, HasWaited, IsAloneMet, IsBrokenOff, IsPartTold, IsReadFailed, IsRefused, IsWriteFault, LiveTelling, Point, WasAnswered, WasSaid, no_memory}
 
 -- ---- a row
 
--- all of these lines were taken, in their order
-abbrev pub AreTaken : ℕ → List (List ℕ) → Point → Point → Type 0
-AreTaken number [] old new = new ≡ old
-AreTaken number (line ∷ lines) old new = (v : Verdict) × (next : Point) × WasMet number line (Ok v) old next × AreTaken number lines next new
+-- these lines were fed in their order, and no part was run
+abbrev pub AreFedIn : List (List ℕ) → Live → Live → Type 0
+AreFedIn [] old new = new ≡ old
+AreFedIn (line ∷ lines) old new = (next : Live) × HasFedLine line old next × AreFedIn lines next new
 
--- one of them stopped the run, behind those before it, since nothing can be written or it was refused
+-- the first ones were, and this one behind them was refused
+abbrev pub AreFedUpTo : List (List ℕ) → List ℕ → TakeFault → Live → Live → Type 0
+AreFedUpTo [] cell f old new = ⊥
+AreFedUpTo (line ∷ lines) cell f old new =
+    ((line ≡ cell) × (new ≡ old) × IsUnfedBy cell old.flow f) ⊎ ((next : Live) × HasFedLine line old next × AreFedUpTo lines cell f next new)
+
+-- all were fed, a part was run, and what is to be told of it was; what is new may have been sent
+abbrev pub IsRowRun : ℕ → List ℕ → List (List ℕ) → Verdict → Point → Point → Type 0
+IsRowRun number names cells v old new = IsPartTold new.session number names v old.told new.told
+    × ((fed : Live) × (sent : Option (List ℕ)) × AreFedIn cells old.session fed × HasRunPart fed new.session old.out sent v × Keeps sent new.out)
+
+-- or what is new after them couldn't be written: nothing is told of the row
+abbrev pub IsRowBroken : List (List ℕ) → Point → Point → Fault → Type 0
+IsRowBroken cells old new fault = IsWriteFault fault × (new.told ≡ old.told)
+    × ((fed : Live) × (sent : Option (List ℕ)) × (answer : Result Verdict WriteFault)
+    × AreFedIn cells old.session fed × IsPartShown fed new.session old.out sent answer × Keeps sent new.out)
+
+-- or one of them was refused, and that was told or couldn't be: the run ends, since those before it were fed
 abbrev pub IsTornOff : ℕ → List (List ℕ) → Point → Point → Fault → Type 0
-IsTornOff number [] old new fault = ⊥
-IsTornOff number (line ∷ lines) old new fault = IsBrokenOff line old new fault
-    ⊎ (((f : TakeFault) × WasMet number line (Err f) old new × (fault ≡ no_memory))
-    ⊎ ((v : Verdict) × (next : Point) × WasMet number line (Ok v) old next × IsTornOff number lines next new fault))
+IsTornOff number cells old new fault = (cell : List ℕ) × (f : TakeFault) × AreFedUpTo cells cell f old.session new.session × Keeps old.out new.out
+    × ((IsRefused new.session number cell f old.told new.told × (fault ≡ no_memory)) ⊎ (IsWriteFault fault × (new.told ≡ old.told)))
 
-abbrev pub AreCellsMet : {X : Type 0} → ℕ → List (List ℕ) → Point → Point → Result X Fault → Type 0
-AreCellsMet number lines old new (Ok x) = AreTaken number lines old new
-AreCellsMet number lines old new (Err fault) = IsTornOff number lines old new fault
+abbrev pub AreCellsFed : {X : Type 0} → ℕ → List (List ℕ) → Point → Point → Result X Fault → Type 0
+AreCellsFed number cells old new (Ok x) = AreFedIn cells old.session new.session × (new.out ≡ old.out) × (new.told ≡ old.told)
+AreCellsFed number cells old new (Err fault) = IsTornOff number cells old new fault
+
+abbrev pub AreCellsMet : {X : Type 0} → ℕ → List ℕ → List (List ℕ) → Point → Point → Result X Fault → Type 0
+AreCellsMet number names cells old new (Ok x) = (v : Verdict) × IsRowRun number names cells v old new
+AreCellsMet number names cells old new (Err fault) = IsRowBroken cells old new fault ⊎ IsTornOff number cells old new fault
 
 -- a row was taken whole, or no value of it was, and the reason was told; or it stopped the run
 abbrev pub IsRowMet : List ℕ → ℕ → List ℕ → Point → Point → Result (Option TakeFault) Fault → Type 0
-IsRowMet names number row old new (Ok None) = (cells : List (List ℕ)) × AreRowCells old.session names row cells × AreTaken number cells old new
+IsRowMet names number row old new (Ok None) =
+    (cells : List (List ℕ)) × AreRowCells old.session names row cells × ((v : Verdict) × IsRowRun number names cells v old new)
 IsRowMet names number row old new (Ok (Some f)) =
     (cell : List ℕ) × IsBadRow old.session names row f cell × IsRefused new.session number cell f old.told new.told × HasWaited old new
 IsRowMet names number row old new (Err fault) = (IsWriteFault fault × HasSent old new)
-    ⊎ ((cells : List (List ℕ)) × AreRowCells old.session names row cells × IsTornOff number cells old new fault)
+    ⊎ ((cells : List (List ℕ)) × AreRowCells old.session names row cells × (IsRowBroken cells old new fault ⊎ IsTornOff number cells old new fault))
 
 -- ---- a line of the input
 

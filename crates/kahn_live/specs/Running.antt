@@ -3,11 +3,11 @@ use Rattle.std.specs.Prelude.{◌≡◌, ◌⊎◌, ◌==◌, ℕ, Bool, true, f
 use Rattle.std.specs.{List.before_first, declared.alloc.Global.Global, declared.vec.Vec.Vec, declared.string.String.String, Io.KnownBytes.Keeps}
 use Rattle.kahn_streams.specs.{declared.config.Config.Config, declared.tree.Program.Program, declared.answer.Verdict.Verdict, declared.answer.Verdict.TheVariants.Finished, declared.fault.RunFault.RunFault, declared.fault.RunFault.TheVariants.NoMemory as NoMemoryRun, declared.fault.RunFault.TheVariants.UnknownWatch}
 use Rattle.kahn_sequential.specs.HeldRuns.{HeldRun}
-use Rattle.kahn_fault.specs.{Work.IsChecked, Work.IsUnchecked, declared.work.WorkFault.WorkFault, declared.work.WorkFault.TheVariants.Run as RunWork, declared.work.WorkFault.TheVariants.Write as WriteWork, Status.live_status_of, Telling.pointer_text, Telling.told_text, declared.fault.Fault.Fault, declared.fault.Fault.TheVariants.Work}
-use Rattle.kahn_line.specs.{declared.live.LiveOptions.LiveOptions, declared.live.PlainNames.PlainNames}
+use Rattle.kahn_fault.specs.{Work.IsChecked, Work.IsUnchecked, declared.work.WorkFault.WorkFault, declared.work.WorkFault.TheVariants.Run as RunWork, Status.live_status_of, Telling.pointer_text, Telling.told_text, declared.fault.Fault.Fault, declared.fault.Fault.TheVariants.Work}
+use Rattle.kahn_line.specs.{Parts.input_named, declared.live.LiveOptions.LiveOptions, declared.live.PlainNames.PlainNames}
 use Rattle.kahn_session.specs.{Live.HasOpened, Live.IsFaulty, Live.IsLastText, Live.IsRinged, Live.IsUnopened, Live.Live, Live.has_left, declared.refusal.Origin.Origin, declared.refusal.Origin.TheVariants.File, declared.refusal.Origin.TheVariants.Plain, declared.refusal.Origin.TheVariants.Watch}
 use Rattle.kahn_live.specs.Course.{AreCausesOf, HasSent, HasWaited, IsMoreTold, IsWriteFault, Point, LiveTelling, WasSaid, WasTold, no_memory, telling_of}
-use Rattle.kahn_live.specs.{InputMet.AreAllMet, Rows.AreNumbered, declared.running.Amiss.Amiss, declared.running.Amiss.TheVariants.Faulted, declared.running.Amiss.TheVariants.Ringed, declared.running.RunEnding.RunEnding, declared.running.RunEnding.TheVariants.Reached, declared.running.RunEnding.TheVariants.Gone, declared.running.RunEnding.TheVariants.Refused, declared.telling.Teller.Teller}
+use Rattle.kahn_live.specs.{InputMet.AreAllMet, Rows.AreNumbered, declared.outlet.DeferredWriter.DeferredWriter, declared.running.Amiss.Amiss, declared.running.Amiss.TheVariants.Faulted, declared.running.Amiss.TheVariants.Ringed, declared.running.RunEnding.RunEnding, declared.running.RunEnding.TheVariants.Reached, declared.running.RunEnding.TheVariants.Gone, declared.running.RunEnding.TheVariants.Refused, declared.telling.Teller.Teller}
 
 -- ---- the start
 
@@ -113,21 +113,28 @@ IsLacking r old new = (r ≡ Err no_memory) × (new ≡ old)
 abbrev pub HasServed : Bool → Option (List ℕ) → List (String Global) → Result RunEnding Fault → Option (List ℕ) → Point → Point → Type 0
 HasServed strict input at_end r text old new = HasServedAll strict input at_end r text old new ⊎ IsLacking r old new
 
--- whether the lines of a run ended since a write failed
-abbrev pub is_unwritten : Result RunEnding Fault → Bool
-is_unwritten (Err (Work (WriteWork f))) = true
-is_unwritten r = false
+-- what went out, and whether a write or a send answered that nobody reads it any more
+pub record Output : Type 0 where
+  pub bytes : Option (List ℕ)
+  pub gone : Bool
+
+abbrev pub output_of : {W : Type 0} → (W → Option (List ℕ)) → DeferredWriter W → Output
+output_of written o = record { bytes = written o.writer; gone = o.gone }
+
+-- before the first write
+abbrev pub unwritten : Option (List ℕ) → Output
+unwritten bytes = record { bytes = bytes; gone = false }
 
 -- what is new couldn't be sent in the end
 abbrev pub IsUnsent : Result RunEnding Fault → Result RunEnding Fault → Type 0
-IsUnsent (Ok x) (Ok y) = y ≡ Gone
 IsUnsent (Ok x) (Err fault) = IsWriteFault fault
-IsUnsent (Err f) r = (r ≡ Ok Gone) ⊎ (r ≡ Err f)
+IsUnsent ending r = ⊥
 
--- How a run ended is how its lines ended; or nobody reads what is new any more, only if these ended since a write failed. The same where the
--- last send failed, which is a write fault otherwise.
-abbrev pub WasSent : Result RunEnding Fault → Result RunEnding Fault → Type 0
-WasSent ending r = IsUnsent ending r ⊎ ((r ≡ ending) ⊎ ((is_unwritten ending ≡ true) × (r ≡ Ok Gone)))
+-- How a run ended. If a write or a send answered that nobody reads what is new any more, that is how; else it never is, and the run ended as its
+-- lines did, or by a fault of the last send.
+abbrev pub WasSent : Bool → Result RunEnding Fault → Result RunEnding Fault → Type 0
+WasSent true ending r = r ≡ Ok Gone
+WasSent false ending r = (r ≡ ending) ⊎ IsUnsent ending r
 
 -- ---- the whole run
 
@@ -136,18 +143,9 @@ abbrev pub Tells : {X E : Type 0} → (E → Option (List ℕ)) → Teller E →
 Tells said old done holds = holds (telling_of said old) (telling_of said done.1) done.0
 
 -- the same, and of what went out
-abbrev pub Gives : {W E : Type 0} → (W → Option (List ℕ)) → (E → Option (List ℕ)) → Teller E → Result RunEnding Fault × W × Teller E
-    → (Option (List ℕ) → LiveTelling → LiveTelling → Result RunEnding Fault → Type 0) → Type 0
-Gives written said old done holds = holds (written done.1) (telling_of said old) (telling_of said done.2) done.0
-
--- the channel whose values stand alone in the lines of input, where one is named
-abbrev pub named_input : List ℕ → Option (List ℕ)
-named_input [] = None
-named_input (b ∷ bs) = Some (b ∷ bs)
-
-abbrev pub input_of : Option PlainNames → Option (List ℕ)
-input_of None = None
-input_of (Some p) = named_input (string_bytes p.input)
+abbrev pub Gives : {W E : Type 0} → (W → Option (List ℕ)) → (E → Option (List ℕ)) → Teller E → Result RunEnding Fault × DeferredWriter W × Teller E
+    → (Output → LiveTelling → LiveTelling → Result RunEnding Fault → Type 0) → Type 0
+Gives written said old done holds = holds (output_of written done.1) (telling_of said old) (telling_of said done.2) done.0
 
 -- the option that names channels which have to have streams, and these names, where a run is refused since one has none
 abbrev pub unknown_shown : RunFault → Option PlainNames → Option (String Global) → Option (Origin × List ℕ)
@@ -162,19 +160,19 @@ IsUnstartedTold (Some (from, names)) f old new r =
     (r ≡ Ok Refused) × ((words : List ℕ) × WasSaid from (codes "no such channel") names (words ∷ []) old new)
 
 -- the lines were served from a session on; this went out in all, and this was told
-abbrev pub HasRunSession : LiveOptions → Live → Option (List ℕ) → Option (List ℕ) → Option (List ℕ) → LiveTelling → LiveTelling → Result RunEnding Fault → Type 0
+abbrev pub HasRunSession : LiveOptions → Live → Option (List ℕ) → Output → Output → LiveTelling → LiveTelling → Result RunEnding Fault → Type 0
 HasRunSession o s text out made old new r = (last : Point) × (ending : Result RunEnding Fault)
-    × HasServed o.strict (input_of o.plain) o.at_end.items ending text (record { session = s; out = out; told = old }) last
-    × WasSent ending r × Keeps last.out made × (new ≡ last.told)
+    × HasServed o.strict (input_named o.plain) o.at_end.items ending text (record { session = s; out = out.bytes; told = old }) last
+    × WasSent made.gone ending r × Keeps last.out made.bytes × (new ≡ last.told)
 
 -- a session of the network was set up and run, or why not: the run is refused, and nothing went out
-abbrev pub HasRunNetwork : LiveOptions → Program → Config → Option (List ℕ) → Option (List ℕ) → Option (List ℕ) → LiveTelling → LiveTelling → Result RunEnding Fault → Type 0
+abbrev pub HasRunNetwork : LiveOptions → Program → Config → Option (List ℕ) → Output → Output → LiveTelling → LiveTelling → Result RunEnding Fault → Type 0
 HasRunNetwork o t config text out made old new r =
     ((f : RunFault) × IsSetUp o.plain t config (Err f) × IsUnstartedTold (unknown_shown f o.plain o.config.watch) f old new r × (made ≡ out))
     ⊎ ((s : Live) × IsSetUp o.plain t config (Ok s) × HasRunSession o s text out made old new r)
 
 -- the network of the program text was run on this text of input, or why not: memory was refused, or the program text is
-abbrev pub HasRunText : List ℕ → LiveOptions → Option (List ℕ) → Option (List ℕ) → Option (List ℕ) → LiveTelling → LiveTelling → Result RunEnding Fault → Type 0
+abbrev pub HasRunText : List ℕ → LiveOptions → Option (List ℕ) → Output → Output → LiveTelling → LiveTelling → Result RunEnding Fault → Type 0
 HasRunText program o text out made old new r = (IsLacking r old new × (made ≡ out))
     ⊎ (((f : WorkFault) × IsUnchecked program f × (r ≡ Err (Work f)) × (new ≡ old) × (made ≡ out))
     ⊎ ((t : Program) × (config : Config) × IsChecked program t × Watches (name_watched o.plain o.config.watch) o.config config × HasRunNetwork o t config text out made old new r))
@@ -218,11 +216,11 @@ untold bytes keep_going path = record {
 
 -- a program text, of this file, was run as the options say, on this text of input, behind what was written and what was told before; how that
 -- ended was told, this is what went out, and the status is this
-abbrev pub HasRunAs : List ℕ → List ℕ → LiveOptions → Option (List ℕ) → Option (List ℕ) → Option (List ℕ) → Option (List ℕ) → LiveTelling → ℕ → Type 0
+abbrev pub HasRunAs : List ℕ → List ℕ → LiveOptions → Option (List ℕ) → Option (List ℕ) → Option (List ℕ) → Output → LiveTelling → ℕ → Type 0
 HasRunAs program path o text out bytes made new status =
-    (r : Result RunEnding Fault) × (last : LiveTelling) × HasRunText program o text out made (untold bytes o.keep_going path) last r
+    (r : Result RunEnding Fault) × (last : LiveTelling) × HasRunText program o text (unwritten out) made (untold bytes o.keep_going path) last r
     × IsEndingTold program r last new × (status ≡ ending_status last.refused r)
 
 -- this holds of what went out, of what is told, and of the status
-abbrev pub EndsAs : {W E : Type 0} → (W → Option (List ℕ)) → (E → Option (List ℕ)) → ℕ × W × Teller E → (Option (List ℕ) → LiveTelling → ℕ → Type 0) → Type 0
-EndsAs written said done holds = holds (written done.1) (telling_of said done.2) done.0
+abbrev pub EndsAs : {W E : Type 0} → (W → Option (List ℕ)) → (E → Option (List ℕ)) → ℕ × DeferredWriter W × Teller E → (Output → LiveTelling → ℕ → Type 0) → Type 0
+EndsAs written said done holds = holds (output_of written done.1) (telling_of said done.2) done.0

@@ -13,12 +13,13 @@ use outlet::Patient;
 use running::ran;
 use std::io::{BufWriter, Write};
 use std::process::ExitCode;
+use std::random::RandomSource;
 use std::rt::Runtime;
 use std::{env, io};
 use taking::wants_memory;
 
 /// Does what the command line asks for, and gives the status. Faults are told to the writer.
-fn answered<R: Runtime + AllocGlobal, W: Write>(
+fn answered<R: Runtime + AllocGlobal + RandomSource, W: Write>(
     rt: &R,
     mut options: LiveOptions,
     path: String,
@@ -38,8 +39,8 @@ fn answered<R: Runtime + AllocGlobal, W: Write>(
     let stream = io::writer(rt);
     match BufWriter::new(rt.alloc(), Patient { stream, clock }) {
         Ok(output) => {
-            let program = texts.program.as_str();
-            ran(rt.alloc(), program, path, options, input, output, writer).0
+            let (alloc, seed, program) = (rt.alloc(), texts.seed, texts.program.as_str());
+            ran(alloc, seed, program, path, options, input, output, writer).0
         }
         Err(_) => tell(&Err(wants_memory()), "", writer).status,
     }

@@ -2,7 +2,7 @@
 
 ghost use Rattle.std.specs.Prelude.{◌≡◌, ◌⊎◌, ◌↔◌, false, true, IfErr, IsErr, IsTrue};
 ghost use Rattle.std.specs.{Io.WritesAtMost, Io.KnownBytes.Keeps, Io.KnownBytes.WriteAppends};
-ghost use Rattle.kahn_live.specs.Course.{IsGone, IsWriteFault};
+ghost use Rattle.kahn_live.specs.{Course.IsGone, Course.IsWriteFault, Running.output_of, Running.unwritten};
 
 use kahn_fault::{Fault, WorkFault};
 use kahn_texts::WriteFault;
@@ -16,10 +16,21 @@ pub(crate) struct DeferredWriter<W: Write> {
     pub(crate) writer: W,
     // Whether something was written since it was flushed.
     pub(crate) due: bool,
+    // Whether a write or a flush answered that nobody reads it any more.
     pub(crate) gone: bool,
 }
 
 impl<W: Write> DeferredWriter<W> {
+    pub(crate) fn new(writer: W) -> DeferredWriter<W>
+        ensures { output_of W.contents result ≡ unwritten (W.contents writer) }
+    {
+        DeferredWriter {
+            writer,
+            due: false,
+            gone: false,
+        }
+    }
+
     pub(crate) fn send(&mut self) -> Result<(), Fault>
         ensures kept { Keeps (W.contents self.old.writer) (W.contents self.new.writer) }
         ensures sent { self.new.due ≡ false }

@@ -1,7 +1,8 @@
 //! A run on lines, from the program text to the status.
 
 ghost use Rattle.std.specs.Prelude.{◌≡◌, option_copied, option_map, string_bytes, false};
-ghost use Rattle.kahn_live.specs.{Course.telling_of, Running.IsEndingTold, Running.IsUnstartedTold, Running.ending_status, Running.input_of, Running.EndsAs, Running.Gives, Running.HasRunAs, Running.HasRunNetwork, Running.HasRunText, Running.ArePlainStreams, Running.IsSetUp, Running.Tells, Running.name_watched, Running.unknown_shown, Course.AcrossStage, Running.HasServed, Running.IsEndWanted, Running.IsJudged, Running.WasSent, Running.is_unwritten, Running.reached_status};
+ghost use Rattle.kahn_live.specs.{Course.telling_of, Running.IsEndingTold, Running.IsUnstartedTold, Running.ending_status, Running.EndsAs, Running.Gives, Running.HasRunAs, Running.HasRunNetwork, Running.HasRunText, Running.ArePlainStreams, Running.IsSetUp, Running.Tells, Running.name_watched, Running.unknown_shown, Course.AcrossStage, Running.HasServed, Running.IsEndWanted, Running.IsJudged, Running.WasSent, Running.output_of, Running.reached_status};
+ghost use Rattle.kahn_line.specs.Parts.{input_named};
 ghost use Rattle.std.specs.Io.KnownBytes.{Keeps};
 ghost use Rattle.kahn_session.specs.Live.{HasVerdict};
 
@@ -11,10 +12,11 @@ use crate::taking::{LiveStage, take_all, wants_memory};
 use crate::telling::Teller;
 use kahn_fault::{Fault, WorkFault, checked, live_status};
 use kahn_hints::add_unknown_channel;
-use kahn_line::{LiveOptions, PlainNames, copied, parted};
+use kahn_line::{LiveOptions, PlainNames, copied, input_named, parted};
 use kahn_session::{Origin, Session};
 use kahn_streams::{Config, Network, RunFault, Verdict};
 use std::alloc::Global;
+use std::hash::RandomState;
 use std::io::{BufReader, Read, Write};
 
 /// The name of the channel that is watched: where values stand alone, of the first one whose values are shown, which so has a stream.
@@ -106,66 +108,52 @@ fn run_network<I: Read + Drop, W: Write + Drop, E: Write + Drop>(
     config: Config,
     options: &LiveOptions,
     input: I,
-    output: W,
+    outlet: DeferredWriter<W>,
     teller: Teller<E>,
-) -> (Result<RunEnding, Fault>, W, Teller<E>)
-    ensures { Gives W.contents E.contents teller result (HasRunNetwork options.now network.now config (I.remaining input) (W.contents output)) }
+) -> (Result<RunEnding, Fault>, DeferredWriter<W>, Teller<E>)
+    ensures { Gives W.contents E.contents teller result (HasRunNetwork options.now network.now config (I.remaining input) (output_of W.contents outlet)) }
 {
     let session = match started(teller.alloc, network, config, &options.plain) {
         Ok(session) => session,
         Err(fault) => {
             let (ending, teller) = unstarted(network, fault, options, teller);
-            return (ending, output, teller);
+            return (ending, outlet, teller);
         }
     };
     let mut stage = LiveStage {
         session,
-        outlet: DeferredWriter {
-            writer: output,
-            due: false,
-            gone: false,
-        },
+        outlet,
         teller,
     };
-    let named = input_of(&options.plain);
+    let named = input_named(&options.plain);
     let at_end = options.at_end.as_slice();
     let strict = options.strict;
     let ending = work(program, &mut stage, input, named, at_end, strict);
     let ending = sent(&mut stage.outlet, ending);
     let LiveStage { outlet, teller, .. } = stage;
-    let output = outlet.writer;
-    (ending, output, teller)
-}
-
-fn input_of(plain: &Option<PlainNames>) -> Option<&str>
-    ensures { option_copied result ≡ input_of plain.now }
-{
-    match plain {
-        Some(plain) if !plain.input.is_empty() => Some(plain.input.as_str()),
-        Some(_) => None,
-        None => None,
-    }
+    (ending, outlet, teller)
 }
 
 fn run<I: Read + Drop, W: Write + Drop, E: Write + Drop>(
+    seed: RandomState,
     program: &str,
     options: LiveOptions,
     input: I,
-    output: W,
+    outlet: DeferredWriter<W>,
     teller: Teller<E>,
-) -> (Result<RunEnding, Fault>, W, Teller<E>)
-    ensures { Gives W.contents E.contents teller result (HasRunText program.now options (I.remaining input) (W.contents output)) }
+) -> (Result<RunEnding, Fault>, DeferredWriter<W>, Teller<E>)
+    ensures { Gives W.contents E.contents teller result (HasRunText program.now options (I.remaining input) (output_of W.contents outlet)) }
 {
     let Ok(watch) = copied(teller.alloc, name_watched(&options)) else {
-        return (Err(wants_memory()), output, teller);
+        return (Err(wants_memory()), outlet, teller);
     };
     let config = Config {
         watch,
         ..options.config
     };
-    match checked(teller.alloc, program) {
-        Ok(network) => run_network(program, &network, config, &options, input, output, teller),
-        Err(fault) => (Err(Fault::Work(fault)), output, teller),
+    match checked(teller.alloc, seed, program) {
+        Ok(network) => run_network(program, &network, config, &options, input, outlet, teller),
+        Err(fault) => (Err(Fault::Work(fault)), outlet, teller),
     }
 }
 
@@ -185,22 +173,24 @@ fn told<E: Write>(ending: Result<RunEnding, Fault>, program: &str, teller: &mut 
     }
 }
 
-/// Runs a program text, of that file, on the input as the options say, and gives the status, and both writers back.
+/// Runs a program text, of that file, on the input as the options say. Returns the status and both writers.
 pub(crate) fn ran<I: Read + Drop, W: Write + Drop, E: Write + Drop>(
     alloc: Global,
+    seed: RandomState,
     program: &str,
     path: String,
     options: LiveOptions,
     input: I,
     out: W,
     errors: E,
-) -> (u8, W, Teller<E>)
+) -> (u8, DeferredWriter<W>, Teller<E>)
     ensures { EndsAs W.contents E.contents result (HasRunAs program.now (string_bytes path) options (I.remaining input) (W.contents out) (E.contents errors)) }
 {
     let teller = Teller::new(alloc, errors, options.keep_going, path);
-    let (ending, output, mut teller) = run(program, options, input, out, teller);
+    let outlet = DeferredWriter::new(out);
+    let (ending, outlet, mut teller) = run(seed, program, options, input, outlet, teller);
     let status = told(ending, program, &mut teller);
-    (status, output, teller)
+    (status, outlet, teller)
 }
 
 /// What is amiss with a run that is judged.
@@ -296,22 +286,17 @@ pub(crate) fn work<I: Read + Drop, W: Write, E: Write>(
     Ok(RunEnding::Reached(verdict, amiss))
 }
 
-fn is_unwritten(ending: &Result<RunEnding, Fault>) -> bool
-    ensures { result ≡ is_unwritten ending.now }
-{
-    matches!(ending, Err(Fault::Work(WorkFault::Write(_))))
-}
-
-/// Sends what is new in the end, and gives how a run ended whose lines ended so: nobody reads it any more if that is why a write failed.
+/// Sends what is new in the end, and returns how a run ended whose lines ended so: nobody reads what is new any more, if a write or a send
+/// answered that.
 pub(crate) fn sent<W: Write>(
     outlet: &mut DeferredWriter<W>,
     ending: Result<RunEnding, Fault>,
 ) -> Result<RunEnding, Fault>
     ensures kept { Keeps (W.contents outlet.old.writer) (W.contents outlet.new.writer) }
-    ensures sent { WasSent ending result }
+    ensures sent { WasSent outlet.new.gone ending result }
 {
     let sent = outlet.send();
-    if outlet.gone && (sent.is_err() || is_unwritten(&ending)) {
+    if outlet.gone {
         return Ok(RunEnding::Gone);
     }
     let ending = ending?;

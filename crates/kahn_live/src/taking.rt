@@ -4,7 +4,7 @@ ghost use Rattle.std.specs.Prelude.{◌≡◌, ◌&&◌, IfErr, IfOk, IsTrue, No
 ghost use Rattle.std.specs.Io.Buffered.{reader_buffer, reader_remaining};
 ghost use Rattle.kahn_session.specs.{Live.HasVerdict, Pace.MayBeSlow};
 ghost use Rattle.kahn_live.specs.Course.{Across, AcrossStage, HasSent, IsAloneMet, IsAnswerTold, IsLineMet, IsRefusalTold, IsPartMet, IsWriteFault, Through, no_memory, point_of, telling_of};
-ghost use Rattle.kahn_live.specs.InputMet.{AreAllMet, AreCellsMet, AreEachMet, AreLastMet, AreLastTried, IsFirstPart, IsInputMet, IsAloneTold, IsCome, IsNextMet, IsReadMet, IsRowMet, is_idle, lacks_memory};
+ghost use Rattle.kahn_live.specs.InputMet.{AreAllMet, AreCellsFed, AreCellsMet, AreEachMet, AreLastMet, AreLastTried, IsFirstPart, IsInputMet, IsAloneTold, IsCome, IsNextMet, IsReadMet, IsRowMet, is_idle, lacks_memory};
 ghost use Rattle.kahn_live.specs.{Histories.HasHistories, Lines.IsReadyToRead, Lines.fed_text, Rows.bare_of, Rows.bytes_in};
 
 use crate::lines::{
@@ -187,20 +187,32 @@ impl<W: Write, E: Write> LiveStage<'_, W, E> {
         self.take_line(fed, number)
     }
 
-    /// Takes the lines of a row, each meant for an input channel. One that is refused all the same ends the run: others were taken.
-    fn take_cells(&mut self, cells: &[Vec<u8>], number: u64) -> Result<(), Fault>
+    /// Feeds the lines of a row, each meant for an input channel. One that is refused all the same ends the run: others were fed.
+    fn feed_cells(&mut self, cells: &[Vec<u8>], number: u64) -> Result<(), Fault>
         requires { self.old.session.broken ≡ false }
         ensures broken { IfOk result (λ _. self.new.session.broken ≡ false) }
-        ensures met { AcrossStage W.contents E.contents self.old self.new (λ p q. AreCellsMet number (map bytes_in cells.now) p q result) }
+        ensures fed { AcrossStage W.contents E.contents self.old self.new (λ p q. AreCellsFed number (map bytes_in cells.now) p q result) }
     {
         for cell in cells {
-            match self.take_line(cell, number) {
-                Ok(None) => {}
-                Ok(Some(_refused)) => return Err(wants_memory()),
-                Err(fault) => return Err(fault),
+            if let Err(fault) = self.session.feed(cell) {
+                self.tell_behind(fault, number, cell)?;
+                return Err(wants_memory());
             }
         }
         Ok(())
+    }
+
+    /// Takes the lines of a row, for channels of these names: feeds all, and then runs one part.
+    fn take_cells(&mut self, names: &str, cells: &[Vec<u8>], number: u64) -> Result<(), Fault>
+        requires { self.old.session.broken ≡ false }
+        ensures broken { IfOk result (λ _. self.new.session.broken ≡ false) }
+        ensures met { AcrossStage W.contents E.contents self.old self.new (λ p q. AreCellsMet number names.now (map bytes_in cells.now) p q result) }
+    {
+        self.feed_cells(cells, number)?;
+        match self.session.run(&Open, &mut self.outlet) {
+            Ok(verdict) => self.tell_part(verdict, number, names.as_bytes()),
+            Err(fault) => Err(Fault::Work(WorkFault::Write(fault))),
+        }
     }
 
     fn take_row(&mut self, names: &str, row: &[u8], number: u64) -> Result<Option<TakeFault>, Fault>
@@ -210,7 +222,7 @@ impl<W: Write, E: Write> LiveStage<'_, W, E> {
     {
         match row_cells(self.teller.alloc, &self.session, names.as_bytes(), row) {
             Ok(cells) => {
-                self.take_cells(&cells, number)?;
+                self.take_cells(names, &cells, number)?;
                 Ok(None)
             }
             Err((fault, cell)) => {

@@ -22,6 +22,9 @@ use kahn_why::causes;
 use std::alloc::{AllocError, Global};
 use std::io::Write;
 
+/// Of more letters of names none is looked for that is near to the name of a refused line: that would take longer than its lines.
+const MOST_LETTERS: u64 = 16_777_216;
+
 fn is_alike(last: Option<TakeFault>, fault: TakeFault) -> bool
     ensures { result ≡ is_alike last fault }
 {
@@ -66,6 +69,8 @@ pub(crate) struct Teller<E: Write> {
     pub(crate) waited: bool,
     pub(crate) faulted: bool,
     pub(crate) ringed: bool,
+    // How many letters of names were compared with those of refused lines.
+    letters: u64,
 }
 
 impl<E: Write> Teller<E> {
@@ -88,6 +93,7 @@ impl<E: Write> Teller<E> {
             waited: false,
             faulted: false,
             ringed: false,
+            letters: 0,
         }
     }
 
@@ -112,6 +118,23 @@ impl<E: Write> Teller<E> {
         let path = self.path.as_str();
         let told = write_said(&mut self.errors, path, from, words, part, first, next, last);
         self.failed |= told.is_err();
+    }
+
+    /// Returns what is said of the name of a line that no input channel has; or nothing, if memory is refused for it, or names of
+    /// `MOST_LETTERS` letters were compared with those of lines before.
+    fn words_of(&mut self, network: &Network, line: &[u8], fault: TakeFault) -> String
+        ensures { telling_of E.contents self.new ≡ telling_of E.contents self.old }
+    {
+        if self.letters > MOST_LETTERS {
+            return String::new(self.alloc);
+        }
+        let words = match fault {
+            TakeFault::Feed(FeedFault::UnknownName) => unknown_words(self.alloc, network, line),
+            TakeFault::Feed(FeedFault::NotAnInput) => inputs_words(self.alloc, network),
+            _ => return String::new(self.alloc),
+        };
+        self.letters = self.letters.saturating_add(letters_of(network));
+        words.unwrap_or(String::new(self.alloc))
     }
 
     /// Tells how many lines more were refused as the one that was told, where there are any.
@@ -369,14 +392,13 @@ fn hint_of<'s>(session: &'s Session<'_>, wanted: bool) -> Option<&'s str>
     if wanted { session.first_input() } else { None }
 }
 
-/// What is said of the name of a line that no input channel has, or nothing where memory is refused for it.
-fn words_of(alloc: Global, network: &Network, line: &[u8], fault: TakeFault) -> String {
-    let words = match fault {
-        TakeFault::Feed(FeedFault::UnknownName) => unknown_words(alloc, network, line),
-        TakeFault::Feed(FeedFault::NotAnInput) => inputs_words(alloc, network),
-        _ => Ok(String::new(alloc)),
-    };
-    words.unwrap_or(String::new(alloc))
+/// Returns how many letters the names of all channels have together.
+fn letters_of(network: &Network) -> u64 {
+    let mut letters: u64 = 0;
+    for number in 0..network.channels() {
+        letters = letters.saturating_add(network.channel(number).name.len() as u64);
+    }
+    letters
 }
 
 /// The part of a line that is at fault where it isn't taken, and what is wanted there; of a name these words.
@@ -418,7 +440,7 @@ pub(crate) fn tell_refused<E: Write>(
         return;
     }
     let network = session.network();
-    let words = words_of(teller.alloc, network, line, fault);
+    let words = teller.words_of(network, line, fault);
     let part = refused_part(network, line, fault, words.as_str());
     teller.tell(number, fault, part, input);
 }

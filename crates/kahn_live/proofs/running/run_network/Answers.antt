@@ -6,6 +6,6 @@ returns-in-Err g c = inl (c.in-Err.fault, c.in-Err.ensures, c.unstarted-ending.e
 
 pub returns : goal.returns
 returns g c =
-    let served = rw (c.input_of-named.ensures, c.as_slice-at_end.ensures.value) at c.work-ending.ensures in
+    let served = rw (c.input_named-named.ensures, c.as_slice-at_end.ensures.value) at c.work-ending.ensures in
     let last = point_of g.W.Write.contents g.E.Write.contents c.work-ending.new.stage in
     inr (c.in-Ok.session, c.in-Ok.ensures, (last, c.work-ending.result, served, c.sent-ending.ensures.sent, c.sent-ending.ensures.kept, refl))

@@ -1,4 +1,5 @@
-use Rattle.kahn_live.proofs.Common.{◌∙◌, Bool, subst, sym, option_copied, IsComplaint, telling_of}
+use Rattle.kahn_live.proofs.Common.{◌∙◌, Bool, subst, sym, option_copied, IsComplaint, LiveTelling, telling_of}
+use Rattle.kahn_live.specs.Course.{IsNextTold}
 use Rattle.kahn_live.proofs.telling.tell_refused.Goals as goal
 
 pub returns-then-is_again : goal.returns-then-is_again
@@ -20,5 +21,5 @@ returns g c =
       hint,
       rw c.wants_hint-wanted.ensures at c.hint_of-input.ensures,
       subst (λ (b : Bool). IsComplaint c.args.session.now c.args.number c.args.line.now c.args.fault hint b old new) (sym c.if-is_again.false ∙ c.is_again.ensures)
-          (c.refused_part-part.result, pointed, c.tell.ensures),
+          (c.refused_part-part.result, pointed, subst (λ (k : LiveTelling). IsNextTold c.args.number c.args.fault c.refused_part-part.result hint k new) c.words_of-words.ensures c.tell.ensures),
     )

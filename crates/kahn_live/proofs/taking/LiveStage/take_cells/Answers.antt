@@ -1,33 +1,27 @@
-use Rattle.kahn_live.proofs.Common.{arith, ◌≡◌, ◌+◌, ◌∷◌, inl, inr, List, None, Ok, Option, Some, ℕ, drop, subst, common_steps, TakeFault, IsLineMet, point_of}
+use Rattle.kahn_live.proofs.Common.{◌∙◌, ap, inl, inr, refl, Err, Keeps-refl, map, err_from_is_err_and, Live, Point, bytes_in, point_of}
+use Rattle.kahn_live.proofs.Meeting.{at_least, row_met}
 use Rattle.kahn_live.proofs.taking.LiveStage.take_cells.Goals as goal
 
-pub returns-in-Ok-Some-clause-met : goal.returns-in-Ok-Some-clause-met
-returns-in-Ok-Some-clause-met g c =
-    let i = c.loop-cell.cell-index in
-    let split : drop i c.args.cells.now ≡ c.cell-item.result ∷ drop (i + 1) c.args.cells.now = grind (arith, common_steps) in
-    let old = point_of g.W.Write.contents g.E.Write.contents c.loop-cell.self in
-    let new = point_of g.W.Write.contents g.E.Write.contents c.take_line.new.self in
-    let some = subst (λ (r : Option TakeFault). IsLineMet c.args.number c.deref.result.now old new (Ok r)) c.in-Ok-Some.field-0-is c.in-Ok-Some.ensures.met in
-    let met = subst (λ (l : List ℕ). IsLineMet c.args.number l old new (Ok (Some c.in-Ok-Some._refused))) c.deref.ensures.value some in
-    c.loop-cell.invariant.2 new c.wants_memory.result (rw split (inr (inl (c.in-Ok-Some._refused, met, c.wants_memory.ensures))))
+pub returns-in_err-feed_cells-clause-met : goal.returns-in_err-feed_cells-clause-met
+returns-in_err-feed_cells-clause-met g c =
+    let p = err_from_is_err_and c.from_residual.result c.from_residual.ensures.1 in
+    rw (p.1, p.2) (inr c.in_err-feed_cells.ensures.fed)
+
+pub returns-in-Ok-clause-met : goal.returns-in-Ok-clause-met
+returns-in-Ok-clause-met g c =
+    let (fed, out, told) = c.in_ok-feed_cells.ensures.fed in
+    let old = point_of g.W.Write.contents g.E.Write.contents c.args.self.now in
+    let mid = point_of g.W.Write.contents g.E.Write.contents c.feed_cells.new.self in
+    let run : Point = record { session = c.run.new.self; out = g.W.Write.contents c.run.new.writer.writer; told = mid.told } in
+    let new = point_of g.W.Write.contents g.E.Write.contents c.tell_part.new.self in
+    row_met c.args.number c.args.names.now (map bytes_in c.args.cells.now) c.in-Ok.verdict old mid run new c.tell_part.result fed out told c.in-Ok.ensures.shown
+    (rw c.as_bytes.ensures.value at c.tell_part.ensures.told)
+
+pub returns-in-Ok-clause-broken : goal.returns-in-Ok-clause-broken
+returns-in-Ok-clause-broken g c = at_least c.tell_part.result (ap (λ (s : Live). s.broken) c.tell_part.ensures.session ∙ c.in-Ok.ensures.broken)
 
 pub returns-in-Err-clause-met : goal.returns-in-Err-clause-met
 returns-in-Err-clause-met g c =
-    let i = c.loop-cell.cell-index in
-    let split : drop i c.args.cells.now ≡ c.cell-item.result ∷ drop (i + 1) c.args.cells.now = grind (arith, common_steps) in
-    let new = point_of g.W.Write.contents g.E.Write.contents c.take_line.new.self in
-    let broken = rw c.deref.ensures.value at c.in-Err.ensures.met in
-    c.loop-cell.invariant.2 new c.in-Err.fault (rw split (inl broken))
-
-pub loop-cell-preserved : goal.loop-cell-preserved
-loop-cell-preserved g c =
-    let i = c.loop-cell.cell-index in
-    let split : drop i c.args.cells.now ≡ c.cell-item.result ∷ drop (i + 1) c.args.cells.now = grind (arith, common_steps) in
-    let old = point_of g.W.Write.contents g.E.Write.contents c.loop-cell.self in
-    let new = point_of g.W.Write.contents g.E.Write.contents c.take_line.new.self in
-    let none = subst (λ (r : Option TakeFault). IsLineMet c.args.number c.deref.result.now old new (Ok r)) c.in-Ok-None.field-0-is c.in-Ok-None.ensures.met in
-    let (v, met) = subst (λ (l : List ℕ). IsLineMet c.args.number l old new (Ok None)) c.deref.ensures.value none in (
-      c.in-Ok-None.ensures.broken,
-      λ p are. c.loop-cell.invariant.1 p (rw split (v, new, met, are)),
-      λ p fault torn. c.loop-cell.invariant.2 p fault (rw split (inr (inr (v, new, met, torn)))),
-    )
+    let (fed, out, told) = c.in_ok-feed_cells.ensures.fed in
+    let made = g.W.Write.contents c.run.new.writer.writer in
+    inl ((c.in-Err.fault, refl), told, (c.feed_cells.new.self.session, made, Err c.in-Err.fault, fed, rw out at c.in-Err.ensures.shown, Keeps-refl made))
