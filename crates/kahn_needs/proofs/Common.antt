@@ -10,7 +10,7 @@ pub use Rattle.kahn_needs.specs.Finding.{AreNeedsFound, IsNetworkLine, Seeking, 
 pub use Rattle.kahn_needs.specs.Laws.{AreDone, AreEnough, AreExact, AreInOrder, AreOneCut, AreParts, AreRunsNeeds, AreSameNeeds, AreTight, GoBack, HaveNeeds, IsMadeIn, IsShortest, IsTakenBy, IsTight}
 pub use Rattle.kahn_needs.specs.Needs.{AreNeeds, Cut, IsCutWithin, Suffices, first_values, held_in}
 pub use Rattle.kahn_needs.specs.inner.Bench.{AreCounted, AreSeatsOf, AreUnmoved, HasActed, HasItsSeat, HaveNotMoved, HaveSeats, IsStopped, IsUnmoved, Seats, Stood, events_in, events_seen, seats_of, taken_in}
-pub use Rattle.kahn_needs.specs.inner.Finding.{AreForced, HasCome, HasSentSoMany, HasValue, HoldsAt, HoldsIn, IsDemand, IsNoLater, IsPausedAt, IsSearchState, IsSooner, IsWaitChain, IsWanted, seeking_of}
+pub use Rattle.kahn_needs.specs.inner.Finding.{AreDemands, AreForced, HasCome, HasSentSoMany, HasValue, HoldsAt, HoldsIn, IsDemand, IsNoLater, IsPausedAt, IsSearchState, IsSooner, IsWaitChain, IsWanted, seeking_of}
 pub use Rattle.kahn_streams.proofs.By_number.{mapped, there, within}
 pub use Rattle.kahn_streams.proofs.Finished.{counted, inputs_grow}
 pub use Rattle.kahn_streams.proofs.Framed.{and_more, grows_play}

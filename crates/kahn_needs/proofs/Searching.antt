@@ -1,8 +1,9 @@
 -- One turn of a search: what is forced stays so, and what a process waits for is wanted.
-use Rattle.kahn_needs.proofs.Common.{arith, ◌≡◌, inl, inr, ℕ, zero, suc, le_refl, ◌+◌, ◌≤◌, ◌<◌, length, take, refl, sym, ap, ◌∙◌, subst, Option, Some, slice_get, slice_index_or, same_Some, there, within, reads, reads_listed, Lists, inputs_of, IsWriter, Schema, Reads, Writes, Given, Written, actual_at, channel_source, instance_at, network_of, role_at, Dry, Inputs, Ending, Ended, Faulted, Waiting as Waits_for, ending, input_list, out, source, tape_of, Side, Program, Input, Failure, Line, Channel, Print, IsFed, set_each, set_here, StoodBy, exec_on, sent_on, next_at, taken_of, waiting_of, AreCounts, CellView, told_view, count, Pause, Cut, held_in, IsNetworkLine, HasActed, HaveSeats, AreSeatsOf, Stood, Seats, AreForced, HasSentSoMany, HoldsIn, HoldsAt, IsWaitChain, IsDemand, IsNoLater, IsPausedAt, IsSooner, IsWanted}
+use Rattle.kahn_needs.proofs.Common.{arith, ◌≡◌, inl, inr, ℕ, List, [], ◌∷◌, ◌++◌, zero, suc, le_refl, ◌+◌, ◌≤◌, ◌<◌, length, take, refl, sym, ap, ◌∙◌, subst, Option, Some, slice_get, slice_index_or, same_Some, there, within, reads, reads_listed, Lists, inputs_of, IsWriter, Schema, Reads, Writes, Given, Written, actual_at, channel_source, instance_at, network_of, role_at, Dry, Inputs, Ending, Ended, Faulted, Waiting as Waits_for, ending, input_list, out, source, tape_of, Side, Program, Input, Failure, Line, Channel, Print, IsFed, set_each, set_here, StoodBy, exec_on, sent_on, next_at, taken_of, waiting_of, AreCounts, CellView, told_view, count, Pause, Cut, held_in, IsNetworkLine, HasActed, HaveSeats, AreSeatsOf, Stood, Seats, AreDemands, AreForced, HasSentSoMany, HoldsIn, HoldsAt, IsWaitChain, IsDemand, IsNoLater, IsPausedAt, IsSooner, IsWanted}
 use Rattle.kahn_code.specs.Lines.{Waiting}
 use Rattle.kahn_code.specs.declared.progress.Pause.TheVariants as pause
-use Rattle.kahn_needs.specs.declared.search.Chain.{Chain}
+use Rattle.kahn_needs.specs.declared.search.{Chain.Chain, Demand.Demand}
+use Rattle.std.proofs.lemmas.List.Elements.{All-nil, All-push, All-weaker}
 use Rattle.kahn_needs.proofs.{Benched.found, Needing.held_all, Needing.held_before, Needing.held_given, Needing.prefix_length, Needing.take_below}
 use Rattle.kahn_needs.proofs.Ways as way
 
@@ -147,6 +148,17 @@ module _ (b b' : Seats) (names : AreSeatsOf b.network b.input b.watch b') (c : L
     marked = still (λ N I. (y : Cut) → HoldsAt N I y c k → HoldsAt N I y x.mark.line x.mark.place) h.marked;
     later = still (λ N I. (y : Cut) (h' : HoldsAt N I y x.mark.line x.mark.place) → (g : HoldsAt N I y x.demand.line x.demand.place) × (g.0 ≤ h'.0)) h.later;
   }
+
+  -- and the same demands
+  pub demands_on : (ds : List Demand) → AreDemands b c k ds → AreDemands b' c k ds
+  demands_on ds h = All-weaker (λ d. IsDemand b c k d.line d.place) (λ d. IsDemand b' c k d.line d.place) (λ d. demand_on d.line d.place) ds h
+
+-- none at first, and one more
+pub none_wait : (b : Seats) (c : Line) (k : ℕ) (ds : List Demand) → ds ≡ [] → AreDemands b c k ds
+none_wait b c k ds none = subst (AreDemands b c k) (sym none) (All-nil (λ x. IsDemand b c k x.line x.place))
+
+pub one_waits : (b : Seats) (c : Line) (k : ℕ) (ds es : List Demand) (d : Demand) → es ≡ ds ++ (d ∷ []) → AreDemands b c k ds → IsDemand b c k d.line d.place → AreDemands b c k es
+one_waits b c k ds es d more h one = subst (AreDemands b c k) (sym more) (All-push (λ x. IsDemand b c k x.line x.place) ds d h one)
 
 -- one that begins with a demand
 pub chain_begun : (b : Seats) (c : Line) (k : ℕ) (d : Line) (j : ℕ) → IsDemand b c k d j → (y : Cut) (h : HoldsIn b y d j) → (g : HoldsIn b y d j) × (g.0 ≤ h.0)

@@ -24,12 +24,13 @@ AreNeedsFound N I c k (found.Needs x) = AreNeeds N I c k x.value (cut_told N x.v
 AreNeedsFound N I c k found.Bound = Unit {0}
 AreNeedsFound N I c k f = (v : Value) → Stands N I c k v → ⊥
 
--- a search on a line of a network, for an input, that goes on from that place
+-- a search on a line of a network, for an input, that goes on from that place, for so many events
 pub record Seeking : Type 0 where
   pub network : Program
   pub input : Lists
   pub line : Line
   pub next : ℕ
+  pub left : ℕ
 
 abbrev pub IsSeeking : Program → Lists → Line → ℕ → Seeking → Type 0
 IsSeeking t lists c k s = (s.network ≡ t) × (s.input ≡ lists) × (s.line ≡ c) × (s.next ≡ k)

@@ -1,12 +1,12 @@
 //! What a value needs.
 
-ghost use Rattle.std.specs.Prelude.{◌≡◌, ◌≤◌, IfOk};
-ghost use Rattle.kahn_streams.specs.{Inputs.inputs_of, Network.Given, Network.network_of, Solution.source, Network.Schema, Solution.Inputs};
-ghost use Rattle.kahn_needs.specs.{Finding.AreNeedsFound, Finding.IsNetworkLine, Finding.IsSeeking, inner.Finding.AreForced, inner.Finding.HasCome, inner.Finding.watch_of, Laws.AreDone, Laws.AreEnough, Laws.AreExact, Laws.AreInOrder, Laws.AreOneCut, Laws.AreParts, Laws.AreRunsNeeds, Laws.AreSameNeeds, Laws.AreTight, Laws.GoBack, Laws.HaveNeeds, Example.SecondDoubled};
+ghost use Rattle.std.specs.Prelude.{◌≡◌, ◌≤◌, IfOk, Some, length, slice_get};
+ghost use Rattle.kahn_streams.specs.{Inputs.inputs_of, Network.Given, Network.network_of, Solution.source, Network.Schema, Solution.Inputs, declared.token.Token.Token};
+ghost use Rattle.kahn_needs.specs.{Finding.AreNeedsFound, Finding.IsNetworkLine, Finding.IsSeeking, inner.Bench.AreCounted, inner.Bench.events_in, inner.Bench.taken_in, inner.Finding.AreForced, inner.Finding.HasCome, inner.Finding.watch_of, Laws.AreDone, Laws.AreEnough, Laws.AreExact, Laws.AreInOrder, Laws.AreOneCut, Laws.AreParts, Laws.AreRunsNeeds, Laws.AreSameNeeds, Laws.AreTight, Laws.GoBack, Laws.HaveNeeds, Example.SecondDoubled};
 
-use crate::search::{Bench, Demand, Sought, all_events, all_taken, search};
+use crate::search::{Bench, Demand, Sought, search};
 use kahn_code::CodeFault;
-use kahn_streams::{Input, Line, Network, Value};
+use kahn_streams::{Input, Line, Network, Tokens, Value};
 use std::alloc::Global;
 use std::marker::{Brand, Model};
 use std::sync::ledger::Blank;
@@ -17,6 +17,39 @@ fn kept_of(line: Line) -> Option<usize>
     match line {
         Line::Channel(channel) => Some(channel),
         Line::Print(_) => None,
+    }
+}
+
+/// Of each channel, how many values were taken.
+#[tactic(auto, using(crate::proofs::Counted::counted_none, crate::proofs::Counted::counted_more))]
+fn all_taken(alloc: Global, bench: &Bench<'_>) -> Result<Vec<u64>, CodeFault>
+    ensures { IfOk result (λ v. AreCounted (taken_in bench.now) v.items (length (network_of bench.now.network).channels)) }
+{
+    let mut counts = Vec::with_capacity(alloc, bench.channels())?;
+    for channel in 0..bench.channels() {
+        counts.push(bench.taken(channel))?;
+    }
+    Ok(counts)
+}
+
+/// Of each instance, how many events were done.
+#[tactic(auto, using(crate::proofs::Counted::counted_none, crate::proofs::Counted::counted_more))]
+fn all_events(alloc: Global, bench: &Bench<'_>) -> Result<Vec<u64>, CodeFault>
+    ensures { IfOk result (λ v. AreCounted (events_in bench.now) v.items (length (network_of bench.now.network).instances)) }
+{
+    let mut counts = Vec::with_capacity(alloc, bench.instances())?;
+    for instance in 0..bench.instances() {
+        counts.push(bench.events(instance))?;
+    }
+    Ok(counts)
+}
+
+pub(crate) fn value_at(tokens: &Tokens, place: u64) -> Value
+    ensures { (t : Token) → slice_get tokens.now.items place ≡ Some t → result ≡ t.value }
+{
+    match tokens.values().get(place as usize) {
+        Some(value) => value,
+        None => Value::Integer(0),
     }
 }
 
@@ -58,7 +91,7 @@ impl<'n> Model for Seeker<'n> {
 
     ghost coded = { Prim.hlevel (codes, action.the_row.coded, form.the_row.coded) };
 
-    ghost view = { λ s. seeking_of s.bench s.line s.next };
+    ghost view = { λ s. seeking_of s.bench s.line s.next s.left };
 
     ghost invariant = { λ s. IsSearchState s.bench s.line s.next };
 }
@@ -68,13 +101,14 @@ impl<'n> Seeker<'n> {
     pub fn new(
         alloc: Global,
         network: &'n Network,
-        input: &Input,
+        input: &'n Input,
         line: Line,
         bound: u64,
     ) -> Result<Seeker<'n>, CodeFault>
         requires line { IsNetworkLine (network_of network.now) line }
         requires written { source (network_of network.now) line ≡ Given → ⊥ }
-        ensures { IfOk result (IsSeeking network.now input.now line 0) }
+        ensures seeking { IfOk result (IsSeeking network.now input.now line 0) }
+        ensures left { IfOk result (λ s. s.left ≡ bound) }
     {
         let bench = Bench::new(alloc, network, input, kept_of(line))?;
         Ok(Seeker {
@@ -85,24 +119,49 @@ impl<'n> Seeker<'n> {
         })
     }
 
+    /// Begins anew on another line, for as many events as are left. Fails only if memory was refused.
+    pub fn turned(self, alloc: Global, line: Line) -> Result<Seeker<'n>, CodeFault>
+        requires line { IsNetworkLine (network_of self.network) line }
+        requires written { source (network_of self.network) line ≡ Given → ⊥ }
+        ensures seeking { IfOk result (IsSeeking self.entry.network self.entry.input line 0) }
+        ensures left { IfOk result (λ s. s.left ≡ self.entry.left) }
+    {
+        let left = self.left;
+        let bench = self.bench.reopened(alloc, kept_of(line))?;
+        Ok(Seeker {
+            bench,
+            line,
+            next: 0,
+            left,
+        })
+    }
+
     /// What the value at a place needs, counted from 0, or that there is none. No place comes before that of the last call. All calls together
     /// do at most the events that the search may do, and none that isn't needed. It refuses only if memory was refused.
     pub fn find(&mut self, alloc: Global, place: u64) -> Result<Found, CodeFault>
         requires { self.old.next ≤ place }
         ensures same { IsSeeking self.old.network self.old.input self.old.line place self.new }
+        ensures left { self.new.left ≤ self.old.left }
         ensures found { IfOk result (AreNeedsFound (network_of self.old.network) (inputs_of self.old.input) self.old.line place) }
     {
         self.next = place;
         let line = self.line;
         let root = Demand { line, place };
         let blank = Blank::new(1);
-        match search::<Brand>(blank, &mut self.bench, root, &mut self.left) {
+        match search::<Brand>(alloc, blank, &mut self.bench, root, &mut self.left) {
             Sought::Come => told(alloc, &self.bench, line, place),
             Sought::Never => Ok(Found::Never),
             Sought::Ring => Ok(Found::Ring),
             Sought::Bound => Ok(Found::Bound),
             Sought::NoMemory => Err(CodeFault::NoMemory),
         }
+    }
+
+    /// How many events the next calls may do.
+    pub fn left(&self) -> u64
+        ensures { result ≡ self.now.left }
+    {
+        self.left
     }
 }
 

@@ -1,13 +1,14 @@
 //! The search for what a value needs, by demand: the writer of the value acts until it has sent it; where it waits for a value, the writer of
 //! that one acts. So nothing is done that isn't needed.
 
-ghost use Rattle.std.specs.Prelude.{◌≡◌, ◌<◌, true, MatchResult, length, ◌+◌, ◌^◌, ℕ, IfOk, IfSome, MatchOption, Some, slice_get};
-ghost use Rattle.kahn_streams.specs.{Network.Written, Network.network_of, Solution.source, Inputs.Lists, Network.Given, Network.Reads, Network.actual_at, Network.instance_at, declared.value.Line.TheVariants.Channel, declared.token.Token.Token};
-ghost use Rattle.kahn_needs.specs.{Finding.IsNetworkLine, inner.Bench.AreSeatsOf, declared.search.Turn.TheVariants.Waits, declared.search.Sought.TheVariants.Ring, inner.Finding.AreForced, inner.Finding.HasCome, inner.Finding.HasSearched, inner.Finding.IsAwaited, inner.Finding.IsWaitChain, inner.Finding.IsDemand, inner.Finding.IsPausedAt, inner.Finding.IsEndOfSearch, inner.Finding.IsTurnTold, inner.Finding.HasSentSoMany, inner.Finding.HasValue, inner.Finding.watch_of, inner.Bench.AreCounted, inner.Bench.AreUnmoved, inner.Bench.HaveNotMoved, inner.Bench.HasActed, inner.Bench.HaveSeats, inner.Bench.events_in, inner.Bench.events_seen, inner.Bench.seats_of, inner.Bench.taken_in};
+ghost use Rattle.std.specs.Prelude.{◌≡◌, ◌≤◌, ◌<◌, true, MatchResult, length, ◌+◌, ◌^◌, ℕ, IfOk, IfSome, MatchOption, slice_get};
+ghost use Rattle.kahn_streams.specs.{Network.Written, Network.network_of, Solution.source, Inputs.Lists, Network.Given, Network.Reads, Network.actual_at, Network.instance_at, declared.value.Line.TheVariants.Channel};
+ghost use Rattle.kahn_needs.specs.{Finding.IsNetworkLine, inner.Bench.AreSeatsOf, declared.search.Turn.TheVariants.Waits, declared.search.Sought.TheVariants.Ring, inner.Finding.AreForced, inner.Finding.HasCome, inner.Finding.HasSearched, inner.Finding.IsAwaited, inner.Finding.IsWaitChain, inner.Finding.IsDemand, inner.Finding.IsPausedAt, inner.Finding.IsEndOfSearch, inner.Finding.AreDemands, inner.Finding.IsTurnTold, inner.Finding.HasSentSoMany, inner.Finding.HasValue, inner.Finding.watch_of, inner.Bench.AreUnmoved, inner.Bench.HaveNotMoved, inner.Bench.HasActed, inner.Bench.HaveSeats, inner.Bench.events_seen, inner.Bench.seats_of};
 ghost use Rattle.kahn_code.specs.Lines.{taken_of};
 
+use crate::needs::value_at;
 use kahn_code::{Cell, Code, CodeFault, Pause, Plain, Steps, compile};
-use kahn_streams::{About, Input, Line, MOST_BOUND, Network, Tokens, Value};
+use kahn_streams::{Input, Line, MOST_BOUND, Network, Value};
 use std::alloc::Global;
 use std::marker::Model;
 use std::sync::ledger::{Blank, Ledger};
@@ -149,26 +150,76 @@ fn is_ring(bench: &Bench<'_>, root: Demand, chain: Chain, demand: Demand) -> boo
     is_same(chain.mark, demand)
 }
 
-// The chain after a turn: with the value for which the writer waits, or anew, once a value was sent; or how the search ends.
-fn next_chain(bench: &Bench<'_>, root: Demand, chain: Chain, turn: Turn) -> Result<Chain, Sought>
+// The chain with the value of a channel for which the writer of its last one waits; or that this closes a ring. The last one is kept, to go back
+// to.
+fn waited(
+    bench: &Bench<'_>,
+    root: Demand,
+    chain: Chain,
+    channel: usize,
+    waiting: &mut Vec<Demand>,
+) -> Result<Chain, Sought>
+    requires chain { IsWaitChain bench.now root.line root.place chain }
+    requires told { IsTurnTold bench.now root.line root.place chain.demand.line chain.demand.place (Waits channel) }
+    requires waiting { AreDemands bench.now root.line root.place waiting.old.items }
+    ensures chain { MatchResult result (IsWaitChain bench.now root.line root.place) (IsEndOfSearch bench.now root.line root.place) }
+    ensures waiting { IfOk result (λ _. AreDemands bench.now root.line root.place waiting.new.items) }
+{
+    let demand = awaited(bench, root, chain, channel);
+    if is_ring(bench, root, chain, demand) {
+        return Err(Sought::Ring);
+    }
+    match waiting.push(chain.demand) {
+        Ok(()) => Ok(longer(bench, root, chain, demand)),
+        Err(_) => Err(Sought::NoMemory),
+    }
+}
+
+// The chain once a value was sent: of what its reader wants that waited for it, or of the root.
+fn back(bench: &Bench<'_>, root: Demand, waiting: &mut Vec<Demand>) -> Chain
+    requires root { IsDemand bench.now root.line root.place root.line root.place }
+    requires waiting { AreDemands bench.now root.line root.place waiting.old.items }
+    ensures chain { IsWaitChain bench.now root.line root.place result }
+    ensures waiting { AreDemands bench.now root.line root.place waiting.new.items }
+{
+    match waiting.pop() {
+        Some(demand) => begun(bench, root, demand),
+        None => begun(bench, root, root),
+    }
+}
+
+// The chain after a turn, or how the search ends.
+fn next_chain(
+    bench: &Bench<'_>,
+    root: Demand,
+    chain: Chain,
+    turn: Turn,
+    waiting: &mut Vec<Demand>,
+) -> Result<Chain, Sought>
     requires root { IsDemand bench.now root.line root.place root.line root.place }
     requires chain { IsWaitChain bench.now root.line root.place chain }
     requires told { IsTurnTold bench.now root.line root.place chain.demand.line chain.demand.place turn }
-    ensures { MatchResult result (IsWaitChain bench.now root.line root.place) (IsEndOfSearch bench.now root.line root.place) }
+    requires waiting { AreDemands bench.now root.line root.place waiting.old.items }
+    ensures chain { MatchResult result (IsWaitChain bench.now root.line root.place) (IsEndOfSearch bench.now root.line root.place) }
+    ensures waiting { IfOk result (λ _. AreDemands bench.now root.line root.place waiting.new.items) }
 {
     match turn {
-        Turn::Sent => Ok(begun(bench, root, root)),
+        Turn::Sent => Ok(back(bench, root, waiting)),
         Turn::Acted => Ok(chain),
         Turn::Over => Err(Sought::Never),
         Turn::Bound => Err(Sought::Bound),
         Turn::NoMemory => Err(Sought::NoMemory),
-        Turn::Waits(channel) => {
-            let demand = awaited(bench, root, chain, channel);
-            if is_ring(bench, root, chain, demand) {
-                return Err(Sought::Ring);
-            }
-            Ok(longer(bench, root, chain, demand))
-        }
+        Turn::Waits(channel) => waited(bench, root, chain, channel, waiting),
+    }
+}
+
+// How many events are left after a turn.
+fn left_after(left: u64, turn: Turn) -> u64
+    ensures { result ≤ left }
+{
+    match turn {
+        Turn::Acted => left.saturating_sub(1),
+        Turn::Sent | Turn::Waits(_) | Turn::Over | Turn::Bound | Turn::NoMemory => left,
     }
 }
 
@@ -183,8 +234,9 @@ fn has_come(bench: &Bench<'_>, demand: Demand) -> bool
 }
 
 /// Processes act until the value of a demand was sent, or it is known that it never is, for as many events as are left. All that they do is
-/// needed.
+/// needed. It remembers who waits for whom, so a wait is looked at once for each value. Fails only if memory was refused.
 pub(crate) fn search<L: Ledger>(
+    alloc: Global,
     blank: Blank,
     bench: &mut Bench<'_>,
     root: Demand,
@@ -196,8 +248,10 @@ pub(crate) fn search<L: Ledger>(
     ensures same { AreSeatsOf bench.old.network bench.old.input bench.old.watch bench.new }
     ensures forced { AreForced bench.new root.line root.place }
     ensures sought { IsEndOfSearch bench.new root.line root.place result }
+    ensures left { left.new ≤ left.old }
 {
     let mut steps = Steps::<L>::open(blank);
+    let mut waiting = Vec::new(alloc);
     let mut chain = begun(bench, root, root);
     for _ in 0..u64::MAX {
         if has_come(bench, root) {
@@ -207,10 +261,8 @@ pub(crate) fn search<L: Ledger>(
             return Sought::Bound;
         }
         let turn = act(bench, root, chain.demand, &mut steps);
-        if matches!(turn, Turn::Acted) {
-            *left -= 1;
-        }
-        chain = match next_chain(bench, root, chain, turn) {
+        *left = left_after(*left, turn);
+        chain = match next_chain(bench, root, chain, turn, &mut waiting) {
             Ok(next) => next,
             Err(end) => return end,
         };
@@ -222,7 +274,7 @@ pub(crate) fn search<L: Ledger>(
 #[derive(Drop)]
 pub(crate) struct Bench<'n> {
     network: &'n Network,
-    input: About<Input>,
+    input: &'n Input,
     watch: Option<usize>,
     code: Code,
     cells: Vec<Cell>,
@@ -239,9 +291,9 @@ impl<'n> Model for Bench<'n> {
 
     ghost coded = { Prim.hlevel (codes, action.the_row.coded, form.the_row.coded) };
 
-    ghost view = { λ b. seats_of b.network.now b.input.value b.watch b.code.network.value b.cells.items b.queues };
+    ghost view = { λ b. seats_of b.network.now b.input.now b.watch b.code.network.value b.cells.items b.queues };
 
-    ghost invariant = { λ b. HaveSeats (seats_of b.network.now b.input.value b.watch b.code.network.value b.cells.items b.queues) };
+    ghost invariant = { λ b. HaveSeats (seats_of b.network.now b.input.now b.watch b.code.network.value b.cells.items b.queues) };
 }
 
 fn named_cells(
@@ -263,20 +315,47 @@ fn named_cells(
 }
 
 impl<'n> Bench<'n> {
-    /// All processes at their openings. It keeps what is sent on the channel `watch`, on output channels and on print streams. It refuses
+    /// Returns all processes at their openings. They keep what is sent on the channel `watch`, on output channels and on print streams. Fails
     /// only if memory was refused.
     pub(crate) fn new(
         alloc: Global,
         network: &'n Network,
-        input: &Input,
+        input: &'n Input,
         watch: Option<usize>,
     ) -> Result<Bench<'n>, CodeFault>
         ensures names { IfOk result (AreSeatsOf network.now input.now watch) }
         ensures idle { IfOk result (λ b. HaveNotMoved b.cells) }
     {
         let code = compile(alloc, network)?;
+        Bench::opened(alloc, network, input, watch, code)
+    }
+
+    /// Returns the same processes at their openings again, which keep what is sent on another channel. They aren't compiled anew.
+    pub(crate) fn reopened(
+        self,
+        alloc: Global,
+        watch: Option<usize>,
+    ) -> Result<Bench<'n>, CodeFault>
+        ensures names { IfOk result (AreSeatsOf self.entry.network self.entry.input watch) }
+        ensures idle { IfOk result (λ b. HaveNotMoved b.cells) }
+    {
+        self.laid();
+        Bench::opened(alloc, self.network, self.input, watch, self.code)
+    }
+
+    fn opened(
+        alloc: Global,
+        network: &'n Network,
+        input: &'n Input,
+        watch: Option<usize>,
+        code: Code,
+    ) -> Result<Bench<'n>, CodeFault>
+        requires { code.network.value ≡ network.now }
+        ensures names { IfOk result (AreSeatsOf network.now input.now watch) }
+        ensures idle { IfOk result (λ b. HaveNotMoved b.cells) }
+    {
         let cells = named_cells(alloc, network, &code, input, watch)?;
-        let queues = Plain::new(alloc, network, input, None)?;
+        let queues = Plain::new(alloc, network, input, Some(input))?;
         queues.counted();
         let _program = network.program();
         Ok(Bench::named(network, input, watch, code, cells, queues))
@@ -284,19 +363,18 @@ impl<'n> Bench<'n> {
 
     fn named(
         network: &'n Network,
-        _input: &Input,
+        input: &'n Input,
         watch: Option<usize>,
         code: Code,
         cells: Vec<Cell>,
         queues: Plain<'n, Global>,
     ) -> Bench<'n>
-        ghost input: { Lists }
-        requires { HaveSeats (seats_of network.now input watch code.network.value cells.items queues) }
-        ensures { result ≡ seats_of network.now input watch code.network.value cells.items queues.entry }
+        requires { HaveSeats (seats_of network.now input.now watch code.network.value cells.items queues) }
+        ensures { result ≡ seats_of network.now input.now watch code.network.value cells.items queues.entry }
     {
         Bench {
             network,
-            input: About::named(),
+            input,
             watch,
             code,
             cells,
@@ -415,38 +493,5 @@ impl<'n> Bench<'n> {
             },
             Line::Print(instance) => value_at(self.cells[instance].printed(), place),
         }
-    }
-}
-
-/// Of each channel, how many values were taken.
-#[tactic(auto, using(crate::proofs::Counted::counted_none, crate::proofs::Counted::counted_more))]
-pub(crate) fn all_taken(alloc: Global, bench: &Bench<'_>) -> Result<Vec<u64>, CodeFault>
-    ensures { IfOk result (λ v. AreCounted (taken_in bench.now) v.items (length (network_of bench.now.network).channels)) }
-{
-    let mut counts = Vec::new(alloc);
-    for channel in 0..bench.channels() {
-        counts.push(bench.taken(channel))?;
-    }
-    Ok(counts)
-}
-
-/// Of each instance, how many events were done.
-#[tactic(auto, using(crate::proofs::Counted::counted_none, crate::proofs::Counted::counted_more))]
-pub(crate) fn all_events(alloc: Global, bench: &Bench<'_>) -> Result<Vec<u64>, CodeFault>
-    ensures { IfOk result (λ v. AreCounted (events_in bench.now) v.items (length (network_of bench.now.network).instances)) }
-{
-    let mut counts = Vec::new(alloc);
-    for instance in 0..bench.instances() {
-        counts.push(bench.events(instance))?;
-    }
-    Ok(counts)
-}
-
-fn value_at(tokens: &Tokens, place: u64) -> Value
-    ensures { (t : Token) → slice_get tokens.now.items place ≡ Some t → result ≡ t.value }
-{
-    match tokens.values().get(place as usize) {
-        Some(value) => value,
-        None => Value::Integer(0),
     }
 }

@@ -1,5 +1,5 @@
 -- Inner. What is known in a search for needs.
-use Rattle.std.specs.Prelude.{◌≡◌, ℕ, ◌≤◌, ◌<◌, length, Option, Some, None, slice_get}
+use Rattle.std.specs.Prelude.{◌≡◌, ℕ, ◌≤◌, ◌<◌, All, List, length, Option, Some, None, slice_get}
 use Rattle.kahn_streams.specs.{Inputs.inputs_of, Network.Schema, Network.Reads, Network.Given, Network.Written, Network.actual_at, Network.instance_at, Network.network_of, Solution.Inputs, Solution.input_list, Solution.source, declared.value.Line.Line, declared.value.Line.TheVariants.Channel, declared.value.Line.TheVariants.Print, declared.value.Value.Value}
 use Rattle.kahn_code.specs.{Cells.sent_on, Lines.taken_of, Progress.Paused, Progress.CellView, Progress.told_view, Standing.count, declared.progress.Pause.Pause}
 use Rattle.kahn_needs.specs.{Needs.Cut, Needs.held_in, Finding.IsNetworkLine, Finding.Seeking, inner.Bench.IsStopped, inner.Bench.AreSeatsOf, inner.Bench.Stood, inner.Bench.Seats, declared.search.Chain.Chain, declared.search.Demand.Demand, declared.search.Turn.Turn, declared.search.Sought.Sought}
@@ -36,6 +36,10 @@ pub record IsDemand (b : Seats) (c : Line) (k : ℕ) (d : Line) (j : ℕ) : Type
   pub wanted : IsWanted b c k d j
   pub given : source (network_of b.network) d ≡ Given → length (input_list (inputs_of b.input) d) ≤ j
 
+-- each of them is wanted
+abbrev pub AreDemands : Seats → Line → ℕ → List Demand → Type 0
+AreDemands b c k ds = All (λ d. IsDemand b c k d.line d.place) ds
+
 -- in each cut in which a value at place j of line d comes, one at place i of line e came earlier, or at the latest with it
 abbrev pub IsSooner : Seats → Line → ℕ → Line → ℕ → Type 0
 IsSooner b d j e i = (y : Cut) (h : HoldsIn b y d j) → (g : HoldsIn b y e i) × (g.0 < h.0)
@@ -54,8 +58,8 @@ abbrev pub IsAwaited : Seats → Line → ℕ → Chain → Demand → Type 0
 IsAwaited b c k x d = IsDemand b c k d.line d.place × IsSooner b x.demand.line x.demand.place d.line d.place
 
 -- what contracts see of a search
-abbrev pub seeking_of : Seats → Line → ℕ → Seeking
-seeking_of b c k = record { network = b.network; input = b.input; line = c; next = k }
+abbrev pub seeking_of : Seats → Line → ℕ → ℕ → Seeking
+seeking_of b c k n = record { network = b.network; input = b.input; line = c; next = k; left = n }
 
 -- what is kept between the searches for the values of line c from place k on
 pub record IsSearchState (b : Seats) (c : Line) (k : ℕ) : Type 0 where

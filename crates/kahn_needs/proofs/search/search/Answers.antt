@@ -1,9 +1,9 @@
-use Rattle.std.proofs.Common.{refl, ◌∙◌}
-use Rattle.kahn_needs.proofs.Searching.{chain_on, demand_on}
+use Rattle.std.proofs.Common.{refl, le_refl, le_trans, ◌∙◌}
+use Rattle.kahn_needs.proofs.Searching.{chain_on, demand_on, demands_on, none_wait}
 use Rattle.kahn_needs.proofs.search.search.Goals as goal
 
 pub loop-init : goal.loop-init
-loop-init g c = record { same = (refl, refl, refl); forced = c.requires.forced; root = c.requires.root; chain = c.begun-chain.ensures }
+loop-init g c = record { same = (refl, refl, refl); forced = c.requires.forced; root = c.requires.root; chain = c.begun-chain.ensures; waiting = none_wait c.args.bench.now c.args.root.line c.args.root.place c.new-waiting.result.items c.new-waiting.ensures.items; left = le_refl _ }
 
 pub has_come-requires : goal.has_come-requires
 has_come-requires g c = c.loop.invariant.root.listed
@@ -16,8 +16,14 @@ loop-preserved g c =
       same = (a.same.0 ∙ i.same.0, a.same.1 ∙ i.same.1, a.same.2 ∙ i.same.2);
       forced = a.forced;
       root = demand_on c.loop.bench c.act-turn.new.bench a.same c.args.root.line c.args.root.place c.args.root.line c.args.root.place i.root;
-      chain = c.in-Ok.ensures;
+      chain = c.in-Ok.ensures.chain;
+      waiting = c.in-Ok.ensures.waiting;
+      left = le_trans c.left_after.ensures c.loop.invariant.left;
     }
+
+pub next_chain-requires-clause-waiting : goal.next_chain-requires-clause-waiting
+next_chain-requires-clause-waiting g c =
+    demands_on c.loop.bench c.act-turn.new.bench c.act-turn.ensures.same c.args.root.line c.args.root.place c.loop.waiting.items c.loop.invariant.waiting
 
 pub next_chain-requires-clause-chain : goal.next_chain-requires-clause-chain
 next_chain-requires-clause-chain g c =

@@ -1,4 +1,4 @@
-use Rattle.kahn_needs.proofs.Common.{AreSeatsOf, AreForced, IsWaitChain, IsDemand}
+use Rattle.kahn_needs.proofs.Common.{◌≤◌, AreSeatsOf, AreForced, AreDemands, IsWaitChain, IsDemand}
 use Rattle.kahn_needs.proofs.search.search.Given as goal
 
 abbrev pub invariant-loop : goal.invariant-loop
@@ -7,4 +7,6 @@ invariant-loop g l = record {
   forced : AreForced l.bench l.root.line l.root.place;
   root : IsDemand l.bench l.root.line l.root.place l.root.line l.root.place;
   chain : IsWaitChain l.bench l.root.line l.root.place l.chain;
+  waiting : AreDemands l.bench l.root.line l.root.place l.waiting.items;
+  left : l.left ≤ l.fn.left;
 }

@@ -11,7 +11,7 @@ search-requires-clause-root c = root_there c.self.inside.bench c.self.inside.lin
 pub search-requires-clause-forced : goal.search-requires-clause-forced
 search-requires-clause-forced c =
     let i = c.self.inside in
-    forced_later i.bench i.line i.next c.args.place (first_later i.bench i.line i.next c.args.place c.self.view_is c.requires) c.self.invariant.forced
+    forced_later i.bench i.line i.next c.args.place (first_later i.bench i.line i.next i.left c.args.place c.self.view_is c.requires) c.self.invariant.forced
 
 pub returns-clause-found : goal.returns-clause-found
 returns-clause-found c =
@@ -22,12 +22,12 @@ returns-clause-found c =
     let same = c.search.ensures.same in
     elim c.match-search.branch [
       | in-Come w ↦ subst (λ r. IfOk r (AreNeedsFound (network_of s.network) (inputs_of s.input) s.line k)) (sym w.result-is)
-          (as_sought i.bench b i.line i.next (λ t l d. IfOk w.told.result (AreNeedsFound (network_of t) (inputs_of l) d k)) c.self.view_is same w.told.ensures)
+          (as_sought i.bench b i.line i.next i.left (λ t l d. IfOk w.told.result (AreNeedsFound (network_of t) (inputs_of l) d k)) c.self.view_is same w.told.ensures)
       | in-Never w ↦ subst (λ r. IfOk r (AreNeedsFound (network_of s.network) (inputs_of s.input) s.line k)) (sym w.result-is)
-          (as_sought i.bench b i.line i.next (λ t l d. AreNeedsFound (network_of t) (inputs_of l) d k found.Never) c.self.view_is same
+          (as_sought i.bench b i.line i.next i.left (λ t l d. AreNeedsFound (network_of t) (inputs_of l) d k found.Never) c.self.view_is same
           (never_stands b b.network b.input refl refl i.line k w.in-Never.ensures.sought))
       | in-Ring w ↦ subst (λ r. IfOk r (AreNeedsFound (network_of s.network) (inputs_of s.input) s.line k)) (sym w.result-is)
-          (as_sought i.bench b i.line i.next (λ t l d. AreNeedsFound (network_of t) (inputs_of l) d k found.Ring) c.self.view_is same
+          (as_sought i.bench b i.line i.next i.left (λ t l d. AreNeedsFound (network_of t) (inputs_of l) d k found.Ring) c.self.view_is same
           (never_stands b b.network b.input refl refl i.line k w.in-Ring.ensures.sought))
       | in-Bound w ↦ subst (λ r. IfOk r (AreNeedsFound (network_of s.network) (inputs_of s.input) s.line k)) (sym w.result-is) tt
       | in-NoMemory w ↦ subst (λ r. IfOk r (AreNeedsFound (network_of s.network) (inputs_of s.input) s.line k)) (sym w.result-is) tt

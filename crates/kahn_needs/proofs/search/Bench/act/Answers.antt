@@ -22,7 +22,7 @@ invariant_of-self g c =
 pub returns : goal.returns
 returns g c =
     let i = c.self.inside in
-    let b : Seats = seats_of i.network.now i.input.value i.watch i.code.network.value i.cells.items i.queues in
+    let b : Seats = seats_of i.network.now i.input.now i.watch i.code.network.value i.cells.items i.queues in
     let at = Benched.found c.self.view_is c.self.invariant c.args.instance c.requires.here c.index_mut.ensures.value in
     let e = c.run-pause.ensures.ran in
     subst (λ (x : Seats). HasActed x (Benched.ran b c.args.instance c.run-pause.new.self c.run-pause.new.ports) c.args.instance c.run-pause.result) c.self.view_is
