@@ -6,6 +6,7 @@ The status, nothing on standard error, and something of each instance that hasn'
   >   [ ! -e $name.input ] || words=(--input $name.input)
   >   ! grep -q ': fault ' $report || wanted=8
   >   ! grep -q '^stopped by bound' $report || wanted=3
+  >   [ $name != examples/control ] || wanted=7
   >   status=0; kahn_explain $name.kahn "${words[@]}" --all > said 2> error || status=$?
   >   told=$(grep -cE '^([^ ].*: error: )?[0-9]+ [a-z_0-9A-Z]+ (waits on|has a fault|wants more)' said)
   >   first=$(grep -cE '^[0-9]+ process(es)? ' said)

@@ -87,11 +87,12 @@ A file that isn't UTF-8.
   $ printf '\377' > bytes; kahn_explain bytes
   ! kahn: bytes is not UTF-8
   [5]
-A file that may not be read; root may read all.
-  $ cp one.kahn closed; chmod 000 closed
-  $ if [ "$(id -u)" = 0 ]; then echo 'kahn: cannot read closed'; echo 'kahn_explain: there is no permission to read it'; else kahn_explain closed 2>&1; fi
-  kahn: cannot read closed
-  kahn_explain: there is no permission to read it
+A file that may not be read. Root may read all, so its rights are taken away first.
+  $ cp one.kahn closed; chmod 000 closed; cp "$(command -v kahn_explain)" .; user=()
+  > [ "$(id -u)" != 0 ] || user=(setpriv --inh-caps=-all --bounding-set=-all); "${user[@]}" ./kahn_explain closed
+  ! kahn: cannot read closed
+  ! kahn_explain: there is no permission to read it
+  [5]
 An empty text.
   $ kahn_explain
   <stdin>:1:1: error: expected `begin`, found the end of the text
@@ -112,7 +113,7 @@ An input that is too long.
   [1]
 A full disk.
   $ kahn_explain one.kahn > /dev/full
-  ! kahn: report could not be written
+  ! kahn_explain: report could not be written
   [5]
 
 Arguments that are refused.

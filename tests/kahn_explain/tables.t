@@ -89,5 +89,5 @@ A reader that goes.
   5
 A table on a full disk.
   $ kahn_explain marked.kahn --trace > /dev/full
-  ! kahn: report could not be written
+  ! kahn_explain: report could not be written
   [5]

@@ -1,5 +1,5 @@
 -- The columns of a run that keeps all channels.
-use Rattle.kahn_explain.proofs.Common.{◌≡◌, ◌∙◌, ℕ, ◌<◌, ap, arith, false, length, Some, slice_get, sym, length-map, Config, Program, Line, Kind, Role, Output, Node, channels_of, network_of, role_at, Lists, inputs_of, Channel, Print, HasStream, IsRightRun, is_output, stream_line, stream_lines, Stream, IsNetworkLine, IsLine, channel_count, instance_count, IsRecordedRun, Recorded, HasLine, IsAny, IsHistoryOf, IsRecord, IsPrefix, IsWhole, iterate, subst, values_of}
+use Rattle.kahn_explain.proofs.Common.{◌≡◌, ◌∙◌, ℕ, ◌<◌, ap, arith, false, length, Some, slice_get, sym, length-map, Config, Program, Line, Kind, Role, Output, Node, channels_of, network_of, role_at, Lists, inputs_of, Channel, Print, HasStream, IsRightRun, is_output, stream_line, stream_lines, Stream, IsNetworkLine, IsLine, channel_count, instance_count, HasCounts, Counted, IsRecordedRun, Recorded, HasLine, IsAny, IsHistoryOf, IsRecord, IsPrefix, IsWhole, iterate, subst, values_of}
 use Rattle.kahn_streams.proofs.By_number.{all_at, mapped}
 use Rattle.kahn_texts.proofs.Answer_lines.{streamed_lines}
 use Rattle.kahn_explain.proofs.Cells.{has_line, output_streamed}
@@ -48,7 +48,7 @@ network_line : (t : Program) (c : Line) → IsLine t c → IsNetworkLine (networ
 network_line t (Channel c) h = let e : length (network_of t).channels ≡ channel_count t = length-map {B = Kind × Role} (channels_of t.declarations.items) (λ x. x.1) in omega (arith, h, e)
 network_line t (Print p) h = let e : length (network_of t).instances ≡ instance_count t = length-map {B = Node} t.instances.items _ in omega (arith, h, e)
 
-pub stream_listed : (t : Program) (x : Recorded) (k : ℕ) (s : Stream) → IsRecord t x → slice_get x.answer.streams.items k ≡ Some s → IsNetworkLine (network_of t) s.line
-stream_listed t x k s (lists, config, (allowed, (w, watched, (right, counts, kept)))) at =
+pub stream_listed : (t : Program) (x : Counted) (k : ℕ) (s : Stream) → HasCounts t x → slice_get x.answer.streams.items k ≡ Some s → IsNetworkLine (network_of t) s.line
+stream_listed t x k s (lists, config, (allowed, (w, watched, (right, counts)))) at =
     network_line t s.line (all_at (IsLine t) (stream_lines (network_of t) w) k s.line (streamed_lines t w)
     (ap (λ l. slice_get l k) (sym right.named) ∙ mapped stream_line x.answer.streams.items k s at))

@@ -1,7 +1,7 @@
 -- Believed. The histories of all channels of a run: which columns there are, and what their values are.
 use Rattle.std.specs.Prelude.{◌≡◌, ◌⊎◌, ℕ, zero, suc, List, [], ◌∷◌, ◌++◌, All, length, map}
 use Rattle.kahn_streams.specs.{declared.config.Config.Config, declared.tree.Program.Program, declared.value.Line.Line, Network.Schema, declared.value.Line.TheVariants.Channel, Solution.Inputs, Solution.IsPrefix, Solution.IsWhole, Solution.iterate, Inputs.Lists, Answers.print_lines, Answers.stream_line, Answers.values_of, declared.answer.Stream.Stream, declared.answer.Verdict.Verdict, declared.answer.Verdict.TheVariants.Finished, declared.fault.RunFault.TheVariants.NoMemory}
-use Rattle.kahn_sequential.specs.{Recordings.IsRecordedRun, declared.counted.Recorded.Recorded}
+use Rattle.kahn_sequential.specs.{Recordings.IsCountedRun, Recordings.IsRecordedRun, declared.counted.Counted.Counted, declared.counted.Recorded.Recorded}
 use Rattle.kahn_texts.specs.Formats.{StandsFor}
 use Rattle.kahn_fault.specs.{Work.IsUnanswered, declared.work.WorkFault.WorkFault, declared.work.WorkFault.TheVariants.Run}
 
@@ -30,6 +30,14 @@ IsRecordedFor t text config x = (lists : Lists) × StandsFor t text lists × IsR
 -- a run that keeps all that is sent
 abbrev pub IsRecord : Program → Recorded → Type 0
 IsRecord t x = (lists : Lists) × (config : Config) × IsRecordedRun t lists config x
+
+-- the run of what a text stands for that counts what each channel had
+abbrev pub IsCountedFor : Program → List ℕ → Config → Counted → Type 0
+IsCountedFor t text config x = (lists : Lists) × StandsFor t text lists × IsCountedRun t lists config x
+
+-- a run that counts what each channel had
+abbrev pub HasCounts : Program → Counted → Type 0
+HasCounts t x = (lists : Lists) × (config : Config) × IsCountedRun t lists config x
 
 -- why there is no run: memory was wanted, or there is no answer
 abbrev pub IsUntraced : Program → List ℕ → Config → WorkFault → Type 0

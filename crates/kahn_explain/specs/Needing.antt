@@ -1,15 +1,15 @@
 -- Believed. What is told of the needs of values (this project's profile): of one, and of all of a line as a table; and of which values need one.
 use Rattle.std.specs.Prelude.{◌≡◌, ℕ, zero, suc, ◌+◌, ◌≤◌, ◌<◌, ◌^◌, List, Option, Some, None, Bool, true, false, ⊤, length, slice_get, slice_index_or, unwrap_or}
 use Rattle.std.specs.Str.Parse.{IsNumeral, digits_value, without_leading_plus}
-use Rattle.kahn_streams.specs.{declared.answer.Stream.Stream, declared.answer.Verdict.Verdict, declared.answer.Verdict.TheVariants.Finished, declared.answer.Verdict.TheVariants.Bound, declared.answer.Verdict.TheVariants.Memory, declared.config.Config.Config, declared.tree.Program.Program, declared.value.Line.Line, declared.value.Line.TheVariants.Channel, declared.value.Line.TheVariants.Print, declared.value.Value.Value, Inputs.Lists, Inputs.inputs_of, Inputs.IsNameOf, Inputs.IsNoName, Network.Given, Network.Schema, Network.network_of, Solution.Inputs, Solution.source}
+use Rattle.kahn_streams.specs.{declared.answer.Answer.Answer, declared.answer.Stream.Stream, declared.answer.Verdict.Verdict, declared.answer.Verdict.TheVariants.Finished, declared.answer.Verdict.TheVariants.Bound, declared.answer.Verdict.TheVariants.Memory, declared.config.Config.Config, declared.tree.Program.Program, declared.value.Line.Line, declared.value.Line.TheVariants.Channel, declared.value.Line.TheVariants.Print, declared.value.Value.Value, Inputs.Lists, Inputs.inputs_of, Inputs.IsNameOf, Inputs.IsNoName, Network.Given, Network.Schema, Network.network_of, Solution.Inputs, Solution.source}
 use Rattle.kahn_needs.specs.{Finding.AreNeedsFound, Needs.AreNeeds, Needs.Cut, declared.needs.Found.Found, declared.needs.Needs.Needs}
 use Rattle.kahn_needs.specs.declared.needs.Found.TheVariants as found
-use Rattle.kahn_sequential.specs.declared.counted.Recorded.{Recorded}
+use Rattle.kahn_sequential.specs.declared.counted.Counted.{Counted}
 use Rattle.kahn_texts.specs.Formats.{StandsFor}
 use Rattle.kahn_fault.specs.Work.{IsChecked}
 use Rattle.kahn_why.specs.{declared.why.told.Finding.Finding, declared.why.told.Finding.TheVariants.Stop}
 use Rattle.kahn_line.specs.Parts.{parted}
-use Rattle.kahn_explain.specs.{Histories.IsRecordedFor, declared.needing.AskFault.AskFault, declared.needing.Question.Question}
+use Rattle.kahn_explain.specs.{Histories.IsCountedFor, declared.needing.AskFault.AskFault, declared.needing.Question.Question}
 use Rattle.kahn_explain.specs.declared.needing.AskFault.TheVariants as ask
 
 -- ---- what is asked
@@ -104,17 +104,17 @@ worse Finished v = v
 worse u v = u
 
 -- for the first n streams of the report, how the searches for the first that needs the value at place j of input d ended
-abbrev pub AreFirstEnds : Schema → Recorded → Inputs → Line → ℕ → ℕ → Verdict → Type 0
-AreFirstEnds N x I d j zero v = v ≡ Finished
-AreFirstEnds N x I d j (suc n) v =
-    (s : Stream) × (u w : Verdict) × (slice_get x.answer.streams.items n ≡ Some s) × AreFirstEnds N x I d j n u × IsFirstEnd N I d j s.line w × (v ≡ worse u w)
+abbrev pub AreFirstEnds : Schema → Answer → Inputs → Line → ℕ → ℕ → Verdict → Type 0
+AreFirstEnds N a I d j zero v = v ≡ Finished
+AreFirstEnds N a I d j (suc n) v =
+    (s : Stream) × (u w : Verdict) × (slice_get a.streams.items n ≡ Some s) × AreFirstEnds N a I d j n u × IsFirstEnd N I d j s.line w × (v ≡ worse u w)
 
 -- what a word asks for is told, for the input that a text stands for: of a place, or of all places; the other way round, without a place of the first
 abbrev pub IsReply : Bool → Program → List ℕ → Config → Line → Option ℕ → Verdict → Type 0
 IsReply false t input config c (Some k) v = (lists : Lists) × StandsFor t input lists × IsSearchEnd (AreNeedsFound (network_of t) (inputs_of lists) c k) v
 IsReply false t input config c None v = (lists : Lists) × StandsFor t input lists × IsSearchEnd (AreAllNeeds (network_of t) (inputs_of lists) c) v
-IsReply true t input config c k v = (x : Recorded) × (lists : Lists) × IsRecordedFor t input config x × StandsFor t input lists
-    × AreFirstEnds (network_of t) x (inputs_of lists) c (unwrap_or k 0) (length x.answer.streams.items) v
+IsReply true t input config c k v = (x : Counted) × (lists : Lists) × IsCountedFor t input config x × StandsFor t input lists
+    × AreFirstEnds (network_of t) x.answer (inputs_of lists) c (unwrap_or k 0) (length x.answer.streams.items) v
 
 -- ---- all of it
 

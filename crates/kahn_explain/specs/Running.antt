@@ -1,14 +1,14 @@
 -- Believed. A run of the program, from the bytes of the two texts to the bytes that go out, those beside them and the exit status (this project's
 -- profile).
-use Rattle.std.specs.Prelude.{◌≡◌, ◌⊎◌, ◌++◌, ℕ, Bool, true, List, [], Option, Some, None, Result, Ok, Err}
+use Rattle.std.specs.Prelude.{◌≡◌, ◌⊎◌, ◌++◌, ℕ, Bool, true, false, List, [], Option, Some, None, Result, Ok, Err, codes}
 use Rattle.std.specs.Io.KnownBytes.{Appends}
-use Rattle.kahn_streams.specs.{Answers.IsUnrun, Inputs.Lists, Written.AppendsFront, declared.answer.Verdict.TheVariants.Finished, declared.answer.Verdict.TheVariants.Bound, declared.answer.Verdict.TheVariants.Memory, declared.config.Config.Config, declared.fault.RunFault.RunFault, declared.fault.RunFault.TheVariants.NoMemory, declared.tree.Program.Program}
+use Rattle.kahn_streams.specs.{Answers.IsUnrun, Inputs.Lists, Written.AppendsFront, Written.Writes, declared.answer.Verdict.TheVariants.Finished, declared.answer.Verdict.TheVariants.Bound, declared.answer.Verdict.TheVariants.Memory, declared.config.Config.Config, declared.fault.RunFault.RunFault, declared.fault.RunFault.TheVariants.NoMemory, declared.tree.Program.Program}
 use Rattle.kahn_texts.specs.{Formats.StandsFor, Formats.IsInputTextFault, declared.input.TextFault.TextFault}
-use Rattle.kahn_fault.specs.{Status.status_of, Telling.WasWritten, Telling.told_text, Work.IsChecked, Work.IsUnchecked, declared.fault.Fault.TheVariants.Work, declared.work.WorkFault.WorkFault, declared.work.WorkFault.TheVariants.Syntax, declared.work.WorkFault.TheVariants.Check, declared.work.WorkFault.TheVariants.Text, declared.work.WorkFault.TheVariants.Run, declared.work.WorkFault.TheVariants.Write}
+use Rattle.kahn_fault.specs.{Status.status_of, Telling.WasWritten, Reasons.reason_line, Telling.told_text, Work.IsChecked, Work.IsUnchecked, declared.fault.Fault.TheVariants.Work, declared.work.WorkFault.WorkFault, declared.work.WorkFault.TheVariants.Syntax, declared.work.WorkFault.TheVariants.Check, declared.work.WorkFault.TheVariants.Text, declared.work.WorkFault.TheVariants.Run, declared.work.WorkFault.TheVariants.Write}
 use Rattle.kahn_sequential.specs.{Recordings.IsCountedRun, declared.counted.Counted.Counted, declared.counted.Recorded.Recorded}
 use Rattle.kahn_why.specs.{Data.HasToldData, Refusing.AreAllowed, Refusing.IsRefusal, Refusing.IsRefusedFor, Telling.HasToldInput, declared.explaining.Came.Came, declared.explaining.Came.TheVariants.Stopped, declared.explaining.Came.TheVariants.Refused, declared.why.told.Finding.Finding}
 use Rattle.kahn_why.specs.declared.why.told.Finding.TheVariants as told
-use Rattle.kahn_explain.specs.{Histories.IsRecordedFor, Needing.AreNeedsTold, Needing.IsUnaskedOf, Untaken.IsToldFor, declared.running.Pipe.Pipe, declared.running.Request.Request, declared.running.Sheet.Sheet, declared.running.Wish.Wish}
+use Rattle.kahn_explain.specs.{Histories.IsCountedFor, Histories.IsRecordedFor, Needing.AreNeedsTold, Needing.IsUnaskedOf, Untaken.IsToldFor, declared.running.Pipe.Pipe, declared.running.Request.Request, declared.running.Sheet.Sheet, declared.running.Wish.Wish}
 use Rattle.kahn_explain.specs.declared.running.Sheet.TheVariants as sheet
 use Rattle.kahn_explain.specs.declared.running.Wish.TheVariants as wish
 
@@ -17,9 +17,22 @@ abbrev pub beside : Finding → List ℕ → List ℕ
 beside (told.Stop Finished) text = []
 beside x text = text
 
+-- some text went out
+abbrev pub HasSentSome : Option (List ℕ) → Option (List ℕ) → Type 0
+HasSentSome old new = (text : List ℕ) × Appends old new text
+
+-- a part of a table went out, or a beginning of it
+abbrev pub HasPut : {X E : Type 0} → Option (List ℕ) → Option (List ℕ) → Result X E → Type 0
+HasPut old new r = (text : List ℕ) × Writes old new r text
+
 -- one writer broke off in its text
 abbrev pub BreaksOff : List ℕ → List ℕ → Option (List ℕ) → Option (List ℕ) → Option (List ℕ) → Option (List ℕ) → Type 0
 BreaksOff text more out made old new = (AppendsFront out made text × (new ≡ old)) ⊎ (Appends out made text × AppendsFront old new more)
+
+-- rows of needs go out as they are found, until memory is refused
+abbrev pub HasBrokenOff : Sheet → RunFault → Option (List ℕ) → Option (List ℕ) → Type 0
+HasBrokenOff (sheet.Table counts) f out made = made ≡ out
+HasBrokenOff (sheet.Needs wakes) f out made = (made ≡ out) ⊎ ((f ≡ NoMemory) × HasSentSome out made)
 
 -- of these texts
 module _ (x : Request) where
@@ -76,9 +89,11 @@ module _ (x : Request) where
 
   -- ---- sheets
 
-  -- what is told beside what is asked for: beside the table of a run that keeps all that is sent, why it stopped
+  -- what is told beside what is asked for: beside the table of a run that counts what each channel had, or keeps all that is sent, why it stopped
   abbrev pub IsSheet : Sheet → Config → Finding → List ℕ → Type 0
-  IsSheet (sheet.Table counts) config y more = (t : Program) × (run : Recorded) × (words : List ℕ) × IsChecked x.program.now t
+  IsSheet (sheet.Table true) config y more = (t : Program) × (run : Counted) × (words : List ℕ) × IsChecked x.program.now t
+      × IsCountedFor t x.input.now config run × IsToldFor t run.answer y words × (more ≡ beside y words)
+  IsSheet (sheet.Table false) config y more = (t : Program) × (run : Recorded) × (words : List ℕ) × IsChecked x.program.now t
       × IsRecordedFor t x.input.now config run × IsToldFor t run.answer y words × (more ≡ beside y words)
   IsSheet (sheet.Needs wakes) config y more = AreNeedsTold wakes x.word.now x.program.now x.input.now config y × (more ≡ [])
 
@@ -92,11 +107,11 @@ module _ (x : Request) where
   Replies kind config (Stopped y) text more = (notes words : List ℕ) × IsWarned notes × IsSheet kind config y words × (more ≡ notes ++ words)
   Replies kind config Refused text more = (text ≡ []) × (IsRefusedFor x.path.now x.program.now x.strict more ⊎ IsNoSheet kind)
 
-  -- That went out; or why not: the first of the faults in this order, after which nothing was written, or a writer's.
+  -- That went out; or why not: the first of the faults in this order, after which nothing was written but such rows, or a writer's.
   abbrev pub HasReplied : Sheet → Config → Option (List ℕ) → Option (List ℕ) → Option (List ℕ) → Option (List ℕ) → Result Came WorkFault → Type 0
   HasReplied kind config out made old new (Ok came) = (text more : List ℕ) × Replies kind config came text more × Appends out made text × Appends old new more
   HasReplied kind config out made old new (Err (Text f)) = IsInputless f × (made ≡ out) × (new ≡ old)
-  HasReplied kind config out made old new (Err (Run f)) = ((f ≡ NoMemory) ⊎ ((notes : List ℕ) × AreNotesOfUnrun config f notes)) × (made ≡ out) × (new ≡ old)
+  HasReplied kind config out made old new (Err (Run f)) = ((f ≡ NoMemory) ⊎ ((notes : List ℕ) × AreNotesOfUnrun config f notes)) × HasBrokenOff kind f out made × (new ≡ old)
   HasReplied kind config out made old new (Err (Write f)) =
       (came : Came) × (text more : List ℕ) × Replies kind config came text more × BreaksOff text more out made old new
   HasReplied kind config out made old new (Err f) = IsUnchecked x.program.now f × IsRefusal x.path.now x.program.now f None × (made ≡ out) × (new ≡ old)
@@ -126,6 +141,7 @@ module _ (x : Request) where
 abbrev pub IsFaultTold : Bool → List ℕ → Result Came WorkFault → Option (List ℕ) → Option (List ℕ) → Type 0
 IsFaultTold gone program (Ok came) old new = new ≡ old
 IsFaultTold true program (Err (Write f)) old new = new ≡ old
+IsFaultTold false program (Err (Write f)) old new = WasWritten (reason_line (codes "kahn_explain") (codes "report could not be written")) old new
 IsFaultTold gone program (Err f) old new = WasWritten (told_text program (Err (Work f))) old new
 
 -- the status for what the explaining came to

@@ -3,15 +3,20 @@
 #![tactic(auto)]
 
 mod needing;
+mod replies;
+mod rows;
 mod running;
 mod tracing;
 
 use kahn_fault::{read_texts, shown_path, tell_unread};
-use kahn_line::{ExplainOptions, read_explain_line, tell_line, tell_no_memory, tell_words};
+use kahn_line::{
+    ExplainOptions, Patient, read_explain_line, tell_line, tell_no_memory, tell_words,
+};
 use running::{Pipe, Request, Sheet, Wish, ran};
 use std::alloc::{AllocError, Global};
-use std::io::Write;
+use std::io::{BufWriter, Write};
 use std::process::ExitCode;
+use std::random::RandomSource;
 use std::rt::Runtime;
 use std::{env, io};
 
@@ -36,7 +41,7 @@ fn wish_of(options: &ExplainOptions) -> Wish {
 }
 
 /// Does what the command line asks for, and gives the status. Faults are told to the writer.
-fn answered<R: Runtime + AllocGlobal, W: Write>(
+fn answered<R: Runtime + AllocGlobal + RandomSource, W: Write>(
     rt: &R,
     options: ExplainOptions,
     paths: &(String, String),
@@ -50,6 +55,7 @@ fn answered<R: Runtime + AllocGlobal, W: Write>(
     };
     let needs = options.needs.as_deref();
     let request = Request {
+        seed: texts.seed,
         path: paths.0.as_str(),
         program: texts.program.as_str(),
         input_path: paths.1.as_str(),
@@ -58,11 +64,17 @@ fn answered<R: Runtime + AllocGlobal, W: Write>(
         strict,
         all,
     };
-    let mut out = Pipe {
-        writer: io::writer(rt),
-        gone: false,
-    };
-    ran(rt.alloc(), wish, request, config, &mut out, writer)
+    let (stream, clock) = (io::writer(rt), rt);
+    match BufWriter::new(rt.alloc(), Patient { stream, clock }) {
+        Ok(output) => {
+            let mut out = Pipe {
+                writer: output,
+                gone: false,
+            };
+            ran(rt.alloc(), wish, request, config, &mut out, writer)
+        }
+        Err(_) => tell_no_memory(rt),
+    }
 }
 
 fn main(rt: HostRuntime) -> ExitCode {

@@ -1,11 +1,11 @@
 //! What the value or the values that a word names need, or which are the first that need one.
 
-ghost use Rattle.std.specs.Prelude.{◌≡◌, ◌↔◌, ℕ, true, IfOk, MatchOption, MatchResult, Option, option_map, length};
+ghost use Rattle.std.specs.Prelude.{◌≡◌, ◌↔◌, ℕ, Some, false, true, IfOk, MatchOption, MatchResult, Option, option_map, length};
 ghost use Rattle.kahn_streams.specs.{Network.Given, Network.network_of, Solution.source, declared.value.Line.Line, Inputs.inputs_of};
-ghost use Rattle.kahn_needs.specs.Finding.{IsNetworkLine, AreNeedsFound};
-ghost use Rattle.kahn_explain.specs.{inner.Told.IsGivenAs, Needing.IsAskable, Needing.IsLineNamed, Needing.IsPlaceWord, Needing.IsQuestion, Needing.IsUnasked, Histories.IsUntraced, Needing.IsSearchEnd, Needing.IsReply, Needing.AreAllNeeds, Needing.found_end, Needing.AreFirstEnds, Needing.IsFirstEnd, Needing.IsFirstNeeding, Needing.worse, Histories.IsRecord, inner.Told.EndsSearch};
+ghost use Rattle.kahn_needs.specs.Finding.{IsNetworkLine, IsSeeking, AreNeedsFound};
+ghost use Rattle.kahn_explain.specs.{inner.Told.IsGivenAs, Needing.IsAskable, Needing.IsLineNamed, Needing.IsPlaceWord, Needing.IsQuestion, Needing.IsUnasked, Histories.IsUntraced, Needing.IsSearchEnd, Needing.IsReply, Needing.found_end, Needing.AreFirstEnds, Needing.IsFirstEnd, Needing.IsFirstNeeding, Needing.worse, Histories.HasCounts, inner.Told.EndsSearch, inner.Told.IsSeekerOf};
 
-use crate::tracing::{TableText, add_line, add_numbers, add_value, recorded};
+use crate::tracing::{TableText, add_line, add_value, counted};
 use itoa::Buffer;
 use kahn_code::CodeFault;
 use kahn_fault::{WorkFault, shown_path};
@@ -13,7 +13,7 @@ use kahn_hints::add_unknown_channel;
 use kahn_line::parted;
 use kahn_marks::add;
 use kahn_needs::{Found, Seeker};
-use kahn_sequential::Recorded;
+use kahn_sequential::Counted;
 use kahn_streams::{Config, Input, Line, Network, RunFault, Verdict, channel_named};
 use kahn_texts::read_input;
 use std::alloc::{AllocError, Global};
@@ -143,7 +143,7 @@ pub(crate) fn sought(network: &Network, word: &str, wakes: bool) -> Result<Quest
 fn place_told(
     alloc: Global,
     network: &Network,
-    run: &Recorded,
+    run: &Counted,
     input: &Input,
     line: Line,
     place: u64,
@@ -161,7 +161,7 @@ fn place_told(
 }
 
 /// What is told of the first values that need the one at a place of an input, with the counts of the whole run.
-fn firsts_told(
+pub(crate) fn firsts_told(
     alloc: Global,
     network: &Network,
     text: &str,
@@ -172,49 +172,39 @@ fn firsts_told(
     ensures { MatchResult result (λ r. IsReply true network.now text.now config question.line question.place r.1) (IsUntraced network.now text.now config) }
 {
     let bound = config.bound;
-    let kept = recorded(alloc, network, text, config)?;
+    let kept = counted(alloc, network, text, config)?;
     let lists = read_input(alloc, text, network)?;
     let place = question.place.unwrap_or(0);
-    match firsts(alloc, network, &kept, &lists, question.line, place, bound) {
+    match firsts(alloc, network, &kept, &lists, (question.line, place), bound) {
         Ok(told) => Ok(told),
         Err(_) => Err(WorkFault::Run(RunFault::NoMemory)),
     }
 }
 
-/// What is told of what is asked for: of what is needed by a place, or by all; or of what needs one.
-pub(crate) fn replied(
+/// What is told of what the value at a place of a line needs.
+pub(crate) fn needs_told(
     alloc: Global,
     network: &Network,
     text: &str,
     config: Config,
-    wakes: bool,
-    question: Question,
+    line: Line,
+    place: u64,
 ) -> Result<(String, Verdict), WorkFault>
-    requires line { IsNetworkLine (network_of network.now) question.line }
-    requires askable { IsAskable wakes network.now question.line }
-    ensures { MatchResult result (λ r. IsReply wakes network.now text.now config question.line question.place r.1) (IsUntraced network.now text.now config) }
+    requires line { IsNetworkLine (network_of network.now) line }
+    requires written { source (network_of network.now) line ≡ Given → ⊥ }
+    ensures { MatchResult result (λ r. IsReply false network.now text.now config line (Some place) r.1) (IsUntraced network.now text.now config) }
 {
-    if wakes {
-        return firsts_told(alloc, network, text, config, question);
-    }
-    let (line, bound) = (question.line, config.bound);
+    let bound = config.bound;
     let input = read_input(alloc, text, network)?;
-    match question.place {
-        None => match table_of(alloc, network, &input, line, bound) {
-            Ok(told) => Ok(told),
-            Err(_) => Err(WorkFault::Run(RunFault::NoMemory)),
-        },
-        Some(place) => {
-            let kept = recorded(alloc, network, text, config)?;
-            match place_told(alloc, network, &kept, &input, line, place, bound) {
-                Ok(told) => Ok(told),
-                Err(_) => Err(WorkFault::Run(RunFault::NoMemory)),
-            }
-        }
+    let kept = counted(alloc, network, text, config)?;
+    match place_told(alloc, network, &kept, &input, line, place, bound) {
+        Ok(told) => Ok(told),
+        Err(_) => Err(WorkFault::Run(RunFault::NoMemory)),
     }
 }
 
-fn needs_head(alloc: Global, network: &Network) -> TableText {
+/// The row that heads the columns of a table of needs.
+pub(crate) fn needs_head(alloc: Global, network: &Network) -> TableText {
     let mut text = String::from_str(alloc, "place,value")?;
     for channel in 0..network.channels() {
         text.push_str(",")?;
@@ -228,53 +218,11 @@ fn needs_head(alloc: Global, network: &Network) -> TableText {
     Ok(text)
 }
 
-/// Adds the rows of a line up to its end or to the bound, and tells which.
-fn add_rows(alloc: Global, text: &mut String, seeker: &mut Seeker<'_>) -> Result<Found, CodeFault>
-    requires { seeker.old.next ≡ 0 }
-    ensures { IfOk result (AreAllNeeds (network_of seeker.old.network) (inputs_of seeker.old.input) seeker.old.line) }
-{
-    for place in 0..u64::MAX {
-        let found = seeker.find(alloc, place)?;
-        let mut digits = Buffer::new();
-        let number = digits.format(place as u128 + 1);
-        match found {
-            Found::Needs(needs) => {
-                add(text, &[number, ","])?;
-                add_value(text, needs.value)?;
-                add_numbers(text, needs.values.as_slice())?;
-                add_numbers(text, needs.events.as_slice())?;
-                text.push_str("\n")?;
-            }
-            Found::Never => return Ok(Found::Never),
-            Found::Ring => return Ok(Found::Ring),
-            Found::Bound => return Ok(Found::Bound),
-        }
-    }
-    Ok(Found::Bound)
-}
-
-fn table_of(
-    alloc: Global,
-    network: &Network,
-    input: &Input,
-    line: Line,
-    bound: u64,
-) -> Result<(String, Verdict), CodeFault>
-    requires line { IsNetworkLine (network_of network.now) line }
-    requires written { source (network_of network.now) line ≡ Given → ⊥ }
-    ensures { IfOk result (λ r. IsSearchEnd (AreAllNeeds (network_of network.now) (inputs_of input.now) line) r.1) }
-{
-    let mut text = needs_head(alloc, network)?;
-    let mut seeker = Seeker::new(alloc, network, input, line, bound)?;
-    let found = add_rows(alloc, &mut text, &mut seeker)?;
-    Ok((text, found_end(&found)))
-}
-
 /// Adds how many of each channel or process are needed, by its name, where any are. Where the run has finished, of how many.
 fn add_counts(
     text: &mut String,
     network: &Network,
-    run: &Recorded,
+    run: &Counted,
     counts: &[u64],
     are_sent: bool,
 ) -> Result<(), AllocError> {
@@ -305,7 +253,7 @@ fn add_counts(
 fn add_found(
     text: &mut String,
     network: &Network,
-    run: &Recorded,
+    run: &Counted,
     line: Line,
     place: u64,
     wakes: bool,
@@ -341,7 +289,7 @@ fn add_found(
 }
 
 /// How a search ended: only a bound leaves something untold.
-fn found_end(found: &Found) -> Verdict
+pub(crate) fn found_end(found: &Found) -> Verdict
     ensures { result ≡ found_end found.now }
 {
     match found {
@@ -375,7 +323,8 @@ fn first_needing(
 ) -> Result<(u64, Found), CodeFault>
     requires first { seeker.old.next ≡ 0 }
     requires given { source (network_of seeker.old.network) input ≡ Given }
-    ensures { IfOk result (λ r. IsFirstNeeding (network_of seeker.old.network) (inputs_of seeker.old.input) seeker.old.line input wanted r.0 r.1) }
+    ensures same { (seeker.new.network ≡ seeker.old.network) × (seeker.new.input ≡ seeker.old.input) }
+    ensures first { IfOk result (λ r. IsFirstNeeding (network_of seeker.old.network) (inputs_of seeker.old.input) seeker.old.line input wanted r.0 r.1) }
 {
     for place in 0..u64::MAX {
         let found = seeker.find(alloc, place)?;
@@ -397,54 +346,77 @@ fn worse(first: Verdict, second: Verdict) -> Verdict
     }
 }
 
-/// Adds what is told of a line, if an instance sends on it, and tells how the search ended.
-fn add_first(
+/// Returns a search on a line for the events that the last search left, or for `bound` if there was none.
+fn seeker_on<'n>(
     alloc: Global,
-    text: &mut String,
-    network: &Network,
-    run: &Recorded,
-    lists: &Input,
+    network: &'n Network,
+    lists: &'n Input,
     line: Line,
-    input: Line,
-    place: u64,
     bound: u64,
-) -> Result<Verdict, CodeFault>
+    last: Option<Seeker<'n>>,
+) -> Result<Seeker<'n>, CodeFault>
     requires line { IsNetworkLine (network_of network.now) line }
-    requires given { source (network_of network.now) input ≡ Given }
-    ensures { IfOk result (IsFirstEnd (network_of network.now) (inputs_of lists.now) input place line) }
+    requires written { source (network_of network.now) line ≡ Given → ⊥ }
+    requires last { IsSeekerOf network.now lists.now last }
+    ensures { IfOk result (IsSeeking network.now lists.now line 0) }
 {
-    if is_given(network, line) {
-        return Ok(Verdict::Finished);
+    match last {
+        Some(seeker) => seeker.turned(alloc, line),
+        None => Seeker::new(alloc, network, lists, line, bound),
     }
-    let mut seeker = Seeker::new(alloc, network, lists, line, bound)?;
-    let first = first_needing(alloc, &mut seeker, input, place)?;
-    add_found(text, network, run, line, first.0, true, &first.1)?;
-    Ok(found_end(&first.1))
 }
 
-/// What is told of all streams of a run, and how the searches ended.
+/// Adds what is told of a line, if an instance sends on it, and returns how the search ended, and the search itself for the next line.
+fn add_first<'n>(
+    alloc: Global,
+    text: &mut String,
+    network: &'n Network,
+    run: &Counted,
+    lists: &'n Input,
+    line: Line,
+    question: (Line, u64),
+    bound: u64,
+    last: Option<Seeker<'n>>,
+) -> Result<(Verdict, Option<Seeker<'n>>), CodeFault>
+    requires line { IsNetworkLine (network_of network.now) line }
+    requires given { source (network_of network.now) question.0 ≡ Given }
+    requires last { IsSeekerOf network.now lists.now last }
+    ensures end { IfOk result (λ r. IsFirstEnd (network_of network.now) (inputs_of lists.now) question.0 question.1 line r.0) }
+    ensures last { IfOk result (λ r. IsSeekerOf network.now lists.now r.1) }
+{
+    if is_given(network, line) {
+        return Ok((Verdict::Finished, last));
+    }
+    let mut seeker = seeker_on(alloc, network, lists, line, bound, last)?;
+    let first = first_needing(alloc, &mut seeker, question.0, question.1)?;
+    add_found(text, network, run, line, first.0, true, &first.1)?;
+    Ok((found_end(&first.1), Some(seeker)))
+}
+
+/// What is told of all streams of a run, and how the searches ended, which do at most `bound` events together.
 fn firsts(
     alloc: Global,
     network: &Network,
-    run: &Recorded,
+    run: &Counted,
     lists: &Input,
-    input: Line,
-    place: u64,
+    at: (Line, u64),
     bound: u64,
 ) -> Result<(String, Verdict), CodeFault>
-    requires run { IsRecord network.now run.now }
-    requires given { source (network_of network.now) input ≡ Given }
-    ensures { IfOk result (λ r. AreFirstEnds (network_of network.now) run.now (inputs_of lists.now) input place (length run.now.answer.streams.items) r.1) }
+    requires run { HasCounts network.now run.now }
+    requires given { source (network_of network.now) at.0 ≡ Given }
+    ensures { IfOk result (λ r. AreFirstEnds (network_of network.now) run.now.answer (inputs_of lists.now) at.0 at.1 (length run.now.answer.streams.items) r.1) }
 {
     let mut text = String::new(alloc);
     let mut verdict = Verdict::Finished;
+    let mut seeker = None;
     for number in 0..run.answer.streams.len() {
         let stream = &run.answer.streams[number];
         let line = stream.line;
-        let end = add_first(
-            alloc, &mut text, network, run, lists, line, input, place, bound,
+        let told = add_first(
+            alloc, &mut text, network, run, lists, line, at, bound, seeker,
         )?;
-        verdict = worse(verdict, end);
+        verdict = worse(verdict, told.0);
+        seeker = told.1;
     }
     Ok((text, verdict))
 }

@@ -1,19 +1,20 @@
 //! What is asked for, from the bytes of the texts to the exit status.
 
-ghost use Rattle.std.specs.Prelude.{◌≡◌, IfOk, string_bytes, MatchResult};
-ghost use Rattle.kahn_explain.specs.{Running.HasDone, Running.HasDoneAsData, Running.HasExplainedAs, Running.IsFaultTold, Running.IsOrRefused, Running.end_status, Running.HasExplained, Running.HasLooked, Untaken.IsToldFor, Histories.IsUntraced, Running.HasReplied, Running.beside, declared.running.Sheet.TheVariants.Table as TableSheet, inner.Told.IsReplyFor, inner.Told.notes_for};
+ghost use Rattle.std.specs.Prelude.{◌≡◌, IfOk, string_bytes};
+ghost use Rattle.kahn_explain.specs.{Running.HasDone, Running.HasDoneAsData, Running.HasExplainedAs, Running.IsFaultTold, Running.IsOrRefused, Running.end_status, Running.HasExplained, Running.HasLooked, Untaken.IsToldFor, Running.beside};
 ghost use Rattle.kahn_streams.specs.Network.{network_of};
 ghost use Rattle.kahn_chain.specs.Chain.{AreStandings};
-ghost use Rattle.kahn_why.specs.{Why.standings_of, inner.Told.IsAdmitted};
+ghost use Rattle.kahn_why.specs.{Why.standings_of};
 
-use crate::needing::{fault_text, replied, sought};
-use crate::tracing::{counts_text, recorded, trace_text, untaken_line, with_line};
-use kahn_fault::{Fault, WorkFault, tell};
+use crate::replies::sheet_out;
+use crate::tracing::{untaken_line, with_line};
+use kahn_fault::{Fault, WorkFault, tell, tell_reason};
 use kahn_sequential::{Count, run_counted};
 use kahn_streams::{Answer, Config, Network, NoMemory, RunFault, Verdict};
 use kahn_texts::{read_input, write_line};
 use kahn_why::{Admitted, Came, Finding, admit, explained, refuse_input, write_both, write_data};
 use std::alloc::Global;
+use std::hash::RandomState;
 use std::io;
 use std::io::{ErrorKind, Write};
 
@@ -28,7 +29,15 @@ fn or_refused<W: Write>(
 {
     match came {
         Err(WorkFault::Text(fault)) => {
-            refuse_input(alloc, of.input_path, of.program, of.input, fault, writer)
+            refuse_input(
+                alloc,
+                of.seed,
+                of.input_path,
+                of.program,
+                of.input,
+                fault,
+                writer,
+            )
         }
         came => came,
     }
@@ -42,7 +51,9 @@ fn done_as_data<W: Write>(alloc: Global, of: Request<'_>, out: &mut W) -> Result
     let came = look(alloc, of, &mut lines);
     let came = or_refused(alloc, of, came, &mut lines);
     let paths = (of.path, of.input_path);
-    write_data(alloc, paths, of.program, of.input, of.strict, came, out)
+    write_data(
+        alloc, of.seed, paths, of.program, of.input, of.strict, came, out,
+    )
 }
 
 /// Explains the run of the program on the input; or looks at the texts alone; or writes a sheet, and to the other writer what is told beside
@@ -87,6 +98,11 @@ fn ended<E: Write>(came: Result<Came, WorkFault>, program: &str, gone: bool, err
         Ok(Came::Stopped(Finding::Stop(Verdict::Memory))) => 4,
         Ok(Came::Refused) => 1,
         Err(WorkFault::Write(_)) if gone => 5,
+        Err(WorkFault::Write(_)) => {
+            // What can't be written here changes no status.
+            let _told = tell_reason("kahn_explain", "report could not be written", errors);
+            5
+        }
         Err(fault) => tell(&Err(Fault::Work(fault)), program, errors).status,
     }
 }
@@ -131,6 +147,8 @@ pub(crate) enum Wish {
 /// The texts and what they are called in notes, and how they are looked at.
 #[derive(Clone, Copy)]
 pub(crate) struct Request<'t> {
+    /// The secret under which the names of the program are hashed.
+    pub(crate) seed: RandomState,
     pub(crate) path: &'t str,
     pub(crate) program: &'t str,
     pub(crate) input_path: &'t str,
@@ -205,7 +223,7 @@ pub(crate) fn explain<W: Write>(
 ) -> Result<Came, WorkFault>
     ensures { HasExplained of.entry config (W.contents writer.old) (W.contents writer.new) result }
 {
-    let it = match admit(alloc, of.path, of.program, of.strict, writer) {
+    let it = match admit(alloc, of.seed, of.path, of.program, of.strict, writer) {
         Ok(it) => it,
         Err(came) => return came,
     };
@@ -235,7 +253,7 @@ pub(crate) fn look<W: Write>(
 ) -> Result<Came, WorkFault>
     ensures { HasLooked of.entry (W.contents writer.old) (W.contents writer.new) result }
 {
-    let it = match admit(alloc, of.path, of.program, of.strict, writer) {
+    let it = match admit(alloc, of.seed, of.path, of.program, of.strict, writer) {
         Ok(it) => it,
         Err(came) => return came,
     };
@@ -245,127 +263,4 @@ pub(crate) fn look<W: Write>(
     };
     let came = Came::Stopped(Finding::Stop(Verdict::Finished));
     write_both("", it.notes.as_str(), came, writer)
-}
-
-/// What goes out, the words beside it, and what it came to.
-#[derive(Drop)]
-pub(crate) struct Reply {
-    pub(crate) text: String,
-    pub(crate) words: String,
-    pub(crate) came: Came,
-}
-
-/// What is told beside a table: the explanation, where the status isn't 0.
-fn beside(alloc: Global, told: Finding, text: String) -> String
-    ensures { string_bytes result ≡ beside told (string_bytes text) }
-{
-    match told {
-        Finding::Stop(Verdict::Finished) => String::new(alloc),
-        _ => text,
-    }
-}
-
-/// The table of a run of an allowed program, which keeps all that is sent, and why it stopped.
-fn table_of(
-    alloc: Global,
-    of: Request<'_>,
-    it: &Admitted,
-    config: Config,
-    counts: bool,
-) -> Result<Reply, WorkFault>
-    requires { IsAdmitted of.path.now of.program.now of.strict it.now }
-    ensures { MatchResult result (IsReplyFor (TableSheet counts) of.entry config it.now) (IsUntraced it.now.network of.entry.input.now config) }
-{
-    let kept = recorded(alloc, &it.network, of.input, config)?;
-    let text = if counts {
-        counts_text(alloc, &it.network, &kept)
-    } else {
-        trace_text(alloc, &it.network, &kept)
-    };
-    let Ok(text) = text else {
-        return Err(WorkFault::Run(RunFault::NoMemory));
-    };
-    let Ok((told, words)) = told_of(alloc, of, &it.network, &kept.answer, &kept.counts) else {
-        return Err(WorkFault::Run(RunFault::NoMemory));
-    };
-    Ok(Reply {
-        text,
-        words: beside(alloc, told, words),
-        came: Came::Stopped(told),
-    })
-}
-
-/// A sheet of an allowed program; or why the word asks for none.
-fn sheet_of(
-    alloc: Global,
-    kind: Sheet,
-    of: Request<'_>,
-    it: &Admitted,
-    config: Config,
-) -> Result<Reply, WorkFault>
-    requires { IsAdmitted of.path.now of.program.now of.strict it.now }
-    ensures { MatchResult result (IsReplyFor kind of.entry config it.now) (IsUntraced it.now.network of.entry.input.now config) }
-{
-    let wakes = match kind {
-        Sheet::Table(counts) => return table_of(alloc, of, it, config, counts),
-        Sheet::Needs(wakes) => wakes,
-    };
-    let question = match sought(&it.network, of.word, wakes) {
-        Ok(question) => question,
-        Err(fault) => match fault_text(alloc, &it.network, of.word, wakes, fault) {
-            Ok(words) => {
-                return Ok(Reply {
-                    text: String::new(alloc),
-                    words,
-                    came: Came::Refused,
-                });
-            }
-            Err(_) => return Err(WorkFault::Run(RunFault::NoMemory)),
-        },
-    };
-    let (text, verdict) = replied(alloc, &it.network, of.input, config, wakes, question)?;
-    Ok(Reply {
-        text,
-        words: String::new(alloc),
-        came: Came::Stopped(Finding::Stop(verdict)),
-    })
-}
-
-/// What is warned of in a program, unless the word is refused.
-fn notes_for(came: Came, notes: &str) -> &str
-    ensures { result.now ≡ notes_for came notes.now }
-{
-    match came {
-        Came::Stopped(_) => notes,
-        Came::Refused => "",
-    }
-}
-
-/// Writes a sheet, and then to another writer what is warned of in the program, and why the run stopped where its status isn't 0; or to
-/// that writer why the program text or the word is refused, and for a warning too where it is asked to be strict. Nothing is written
-/// before all that is to be written stands. Faults are found in this order: of the program text, of the network, warnings, of the word, of
-/// the input text, of the run, want of memory, of the writers.
-pub(crate) fn sheet_out<T: Write, W: Write>(
-    alloc: Global,
-    kind: Sheet,
-    of: Request<'_>,
-    config: Config,
-    out: &mut T,
-    log: &mut W,
-) -> Result<Came, WorkFault>
-    ensures { HasReplied of.entry kind config (T.contents out.old) (T.contents out.new) (W.contents log.old) (W.contents log.new) result }
-{
-    let it = match admit(alloc, of.path, of.program, of.strict, log) {
-        Ok(it) => it,
-        Err(came) => return came,
-    };
-    let reply = match sheet_of(alloc, kind, of, &it, config) {
-        Ok(reply) => reply,
-        Err(fault) => return Err(fault),
-    };
-    if let Err(fault) = write_line(out, &[reply.text.as_bytes()]) {
-        return Err(WorkFault::Write(fault));
-    }
-    let notes = notes_for(reply.came, it.notes.as_str());
-    write_both(notes, reply.words.as_str(), reply.came, log)
 }

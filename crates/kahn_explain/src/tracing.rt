@@ -1,19 +1,37 @@
-//! Tables of a run that keeps all that is sent, of histories by place and of counts; and of which channel most values were left.
+//! Runs for a table: of histories, and of counts; and the channel of which most values were left.
 
 ghost use Rattle.std.specs.Prelude.{◌≡◌, ◌<◌, ◌++◌, IfOk, MatchResult, false, length, map, ◌+◌, string_bytes};
 ghost use Rattle.kahn_streams.specs.{Answers.HasStream, Answers.is_output, Network.network_of, Network.role_at, declared.value.Line.TheVariants.Channel};
 ghost use Rattle.kahn_fault.specs.Work.{IsUnanswered};
-ghost use Rattle.kahn_explain.specs.{Histories.IsRecordedFor, inner.Columns.AreAllHistories, inner.Columns.HasLine, inner.Columns.IsHistoryOf, Histories.IsRecord, inner.Columns.print_part, Untaken.IsFullest, Untaken.left_of, Untaken.put_line};
+ghost use Rattle.kahn_explain.specs.{Histories.IsCountedFor, Histories.IsRecordedFor, inner.Columns.AreAllHistories, inner.Columns.HasLine, inner.Columns.IsHistoryOf, Histories.IsRecord, Running.HasPut, inner.Columns.print_part, Untaken.IsFullest, Untaken.left_of, Untaken.put_line};
 ghost use Rattle.kahn_line.specs.Parts.{parted as parted_at};
 
+use crate::rows::{flush_all, put, put_value};
 use itoa::Buffer;
 use kahn_fault::WorkFault;
 use kahn_line::parted;
 use kahn_marks::add;
-use kahn_sequential::{Count, Recorded, run_recorded};
+use kahn_sequential::{Count, Counted, Recorded, run_counted, run_recorded};
 use kahn_streams::{Answer, Config, Line, Network, Role, Side, Stream, Value, Verdict};
-use kahn_texts::{channel_name, process_name, read_input};
+use kahn_texts::{WriteFault, channel_name, process_name, read_input};
 use std::alloc::{AllocError, Global};
+use std::io::Write;
+
+/// Runs a network for an input text, and counts what each channel had. Fails as `read_input` and `run_counted` do.
+pub(crate) fn counted(
+    alloc: Global,
+    network: &Network,
+    text: &str,
+    config: Config,
+) -> Result<Counted, WorkFault>
+    ensures { MatchResult result (IsCountedFor network.now text.now config) (IsUnanswered network.now text.now config) }
+{
+    let input = read_input(alloc, text, network)?;
+    match run_counted(alloc, network, input, config) {
+        Ok(run) => Ok(run),
+        Err(fault) => Err(WorkFault::Run(fault)),
+    }
+}
 
 /// The run of a network for an input text, with all that was sent. It refuses as `read_input` and `run_recorded` do.
 pub(crate) fn recorded(
@@ -127,35 +145,132 @@ pub(crate) fn add_value(text: &mut String, value: Value) -> Result<(), AllocErro
     }
 }
 
-/// The table of a run: a row that heads the columns of its channels and prints, the first with the word `place`, and a row for each place,
-/// from 1 to that of the last value of all, with the value of each column there, or nothing where it has none.
-pub(crate) fn trace_text(alloc: Global, network: &Network, run: &Recorded) -> TableText
-    requires { IsRecord network.now run.now }
-{
-    let columns = columns_of(alloc, network, run)?;
-    let mut text = String::from_str(alloc, "place")?;
-    let mut places = 0;
-    for column in &columns {
-        text.push_str(match column.line {
-            Line::Channel(_) => ",",
-            Line::Print(_) => ",print ",
-        })?;
-        add_line(&mut text, network, column.line)?;
-        places = places.max(column.tokens.len());
+/// The table of all that the channels of a run carried: a row that heads the columns of its channels and prints, the first with the word
+/// `place`, and a row for each place, from 1 to that of the last value of all, with the value of each column there, or nothing if it has none.
+#[derive(Drop)]
+pub(crate) struct Trace<'r> {
+    head: String,
+    columns: Vec<&'r Stream>,
+    // The columns that have more values, by their numbers, from the first on.
+    open: Vec<usize>,
+    // A comma for each column.
+    commas: Vec<u8>,
+    places: usize,
+}
+
+impl<'r> Trace<'r> {
+    /// Makes the table ready, so that nothing is allocated once a part of it went out.
+    pub(crate) fn new(
+        alloc: Global,
+        network: &Network,
+        run: &'r Recorded,
+    ) -> Result<Trace<'r>, AllocError>
+        requires { IsRecord network.now run.now }
+    {
+        let columns = columns_of(alloc, network, run)?;
+        let mut head = String::from_str(alloc, "place")?;
+        let mut open = Vec::new(alloc);
+        let mut places = 0;
+        for (number, column) in columns.iter().enumerate() {
+            head.push_str(match column.line {
+                Line::Channel(_) => ",",
+                Line::Print(_) => ",print ",
+            })?;
+            add_line(&mut head, network, column.line)?;
+            places = places.max(column.tokens.len());
+            open.push(number)?;
+        }
+        head.push_str("\n")?;
+        let commas = vec![in alloc; b','; columns.len()]?;
+        Ok(Trace {
+            head,
+            columns,
+            open,
+            commas,
+            places,
+        })
     }
-    text.push_str("\n")?;
-    for place in 0..places {
+
+    // As many commas as lead from one column to another.
+    fn gap(&self, from: usize, to: usize) -> &[u8] {
+        let count = to.saturating_sub(from).min(self.commas.len());
+        &self.commas[..count]
+    }
+
+    fn value(&self, number: usize, place: usize) -> Option<Value> {
+        match self.columns.get(number) {
+            Some(column) => column.tokens.values().get(place),
+            None => None,
+        }
+    }
+
+    // Writes the value of a column at a place, if it has one, after the commas since the last one, and returns how many columns are written.
+    #[tactic(auto, using(crate::proofs::Pieces::fails, crate::proofs::Pieces::next_piece, crate::proofs::Pieces::no_piece))]
+    fn put_column<W: Write>(
+        &self,
+        out: &mut W,
+        number: usize,
+        place: usize,
+        from: usize,
+    ) -> Result<usize, WriteFault>
+        ensures { HasPut (W.contents out.old) (W.contents out.new) result }
+    {
+        let Some(value) = self.value(number, place) else {
+            return Ok(from);
+        };
+        let to = number.saturating_add(1);
+        put_value(out, self.gap(from, to), value)?;
+        Ok(to)
+    }
+
+    #[tactic(auto, using(crate::proofs::Pieces::fails, crate::proofs::Pieces::next_piece, crate::proofs::Pieces::no_piece))]
+    fn put_columns<W: Write>(&self, out: &mut W, place: usize) -> Result<usize, WriteFault>
+        ensures { HasPut (W.contents out.old) (W.contents out.new) result }
+    {
+        let mut from = 0;
+        for number in &self.open {
+            from = self.put_column(out, *number, place, from)?;
+        }
+        Ok(from)
+    }
+
+    #[tactic(auto, using(crate::proofs::Pieces::fails, crate::proofs::Pieces::next_piece, crate::proofs::Pieces::no_piece))]
+    fn put_row<W: Write>(&self, out: &mut W, place: usize) -> Result<(), WriteFault>
+        ensures { HasPut (W.contents out.old) (W.contents out.new) result }
+    {
         let mut digits = Buffer::new();
-        text.push_str(digits.format(place as u128 + 1))?;
-        for column in &columns {
-            text.push_str(",")?;
-            if let Some(value) = column.tokens.values().get(place) {
-                add_value(&mut text, value)?;
+        put(out, &[digits.format(place as u128 + 1).as_bytes()])?;
+        let from = self.put_columns(out, place)?;
+        put(out, &[self.gap(from, self.columns.len()), b"\n"])
+    }
+
+    // Leaves out the columns that have no values from a place on.
+    fn close(&mut self, place: usize) {
+        let mut kept = 0;
+        for index in 0..self.open.len() {
+            let number = self.open[index];
+            if self.value(number, place).is_some() {
+                if let Some(slot) = self.open.get_mut(kept) {
+                    *slot = number;
+                }
+                kept = index.min(kept) + 1;
             }
         }
-        text.push_str("\n")?;
+        self.open.truncate(kept);
     }
-    Ok(text)
+
+    /// Writes the table, and flushes. Never allocates.
+    #[tactic(auto, using(crate::proofs::Pieces::fails, crate::proofs::Pieces::next_piece, crate::proofs::Pieces::no_piece))]
+    pub(crate) fn put<W: Write>(mut self, out: &mut W) -> Result<(), WriteFault>
+        ensures { HasPut (W.contents out.old) (W.contents out.new) result }
+    {
+        put(out, &[self.head.as_bytes()])?;
+        for place in 0..self.places {
+            self.close(place);
+            self.put_row(out, place)?;
+        }
+        flush_all(out)
+    }
 }
 
 /// Adds the number and the name of the process on a side of a channel; nothing where none is there.
@@ -168,10 +283,10 @@ fn add_side(text: &mut String, network: &Network, side: Option<Side>) -> Result<
 
 /// The table of the counts of the channels of a run: a row that heads the columns, and for each channel a row with its name, the
 /// processes that write and read it, and how many values were sent, taken and left.
-pub(crate) fn counts_text(alloc: Global, network: &Network, run: &Recorded) -> TableText {
+pub(crate) fn counts_text(alloc: Global, network: &Network, counts: &[Count]) -> TableText {
     let mut text = String::from_str(alloc, "channel,from,to,sent,taken,left\n")?;
     for number in 0..network.channels() {
-        if let Some(count) = run.counts.get(number) {
+        if let Some(count) = counts.get(number) {
             add(&mut text, &[channel_name(network, number), ","])?;
             add_side(&mut text, network, network.writer(number))?;
             text.push_str(",")?;

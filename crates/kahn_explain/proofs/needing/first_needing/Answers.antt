@@ -21,8 +21,14 @@ loop-place-preserved c =
           (iff_false c.ends_search.ensures c.if-ends_search.false) i.before;
     }
 
-pub returns-then-ends_search : goal.returns-then-ends_search
-returns-then-ends_search c =
+pub returns-then-ends_search-clause-same : goal.returns-then-ends_search-clause-same
+returns-then-ends_search-clause-same c =
+    let i = c.loop-place.invariant in
+    let s = c.in_ok-found.ensures.same in
+    (s.0 ∙ i.same.0, s.1 ∙ i.same.1)
+
+pub returns-then-ends_search-clause-first : goal.returns-then-ends_search-clause-first
+returns-then-ends_search-clause-first c =
     let i = c.loop-place.invariant in
     let o = c.args.seeker.now in
     let k = c.loop-place.place in

@@ -16,5 +16,8 @@ loop-number-preserved c =
     let k = c.loop-number.number in
     let s = c.index-stream.result.now in
     let at = slice_get_read ss (length ss) k s refl (search rules) c.index-stream.ensures in
-    subst (λ m. AreFirstEnds (network_of a.network.now) a.run.now (inputs_of a.lists.now) a.input a.place m c.worse-verdict.result) (sym (add-one k))
-    (s, c.loop-number.verdict, c.in_ok-end.end, at, c.loop-number.invariant, c.in_ok-end.ensures, c.worse-verdict.ensures)
+    record {
+      ends = subst (λ m. AreFirstEnds (network_of a.network.now) a.run.now.answer (inputs_of a.lists.now) a.at.0 a.at.1 m c.worse-verdict.result) (sym (add-one k))
+          (s, c.loop-number.verdict, c.in_ok-told.told.0, at, c.loop-number.invariant.ends, c.in_ok-told.ensures.end, c.worse-verdict.ensures);
+      seeker = c.in_ok-told.ensures.last;
+    }

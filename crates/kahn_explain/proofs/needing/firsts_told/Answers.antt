@@ -12,5 +12,5 @@ returns-in-Ok c =
       lists,
       c.in_ok-kept.ensures,
       c.in_ok-lists.ensures.read,
-      subst (λ j. AreFirstEnds (network_of c.args.network.now) run (inputs_of lists) c.args.question.line j (length run.answer.streams.items) c.in-Ok.told.1) c.unwrap_or-place.ensures c.in-Ok.ensures,
+      subst (λ j. AreFirstEnds (network_of c.args.network.now) run.answer (inputs_of lists) c.args.question.line j (length run.answer.streams.items) c.in-Ok.told.1) c.unwrap_or-place.ensures c.in-Ok.ensures,
     )
