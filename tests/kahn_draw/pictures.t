@@ -57,6 +57,20 @@ alternating-bit, as it ran.
     c5 [label="output", shape=plaintext];
     p2 -> c5 [label="RECEIVED\n6", style=solid, taillabel="W"];
   }
+bits, as it ran.
+  $ kahn_draw examples/bits.kahn --input examples/bits.input
+  digraph network {
+    rankdir=LR;
+    node [shape=box];
+    edge [labelfontsize=9, labeldistance=1.5, labelangle=45];
+    p0 [label="1 exclusive\nwaits on A after 23", tooltip="exclusive at 18:3"];
+    c0 [label="input", shape=plaintext];
+    c0 -> p0 [label="A", style=solid, headlabel="U"];
+    c1 [label="input", shape=plaintext];
+    c1 -> p0 [label="B", style=solid, headlabel="V"];
+    c2 [label="output", shape=plaintext];
+    p0 -> c2 [label="XOR\n2", style=solid, taillabel="W"];
+  }
 buffer, as it ran.
   $ kahn_draw examples/buffer.kahn --input /dev/null
   digraph network {
@@ -69,6 +83,23 @@ buffer, as it ran.
     p1 -> p0 [label="CREDITS", style=solid, taillabel="CREDIT", headlabel="CREDIT"];
     c2 [label="output", shape=plaintext];
     p1 -> c2 [label="CONSUMED\n10", style=solid, taillabel="W"];
+  }
+control, as it ran.
+  $ kahn_draw examples/control.kahn --input examples/control.input
+  digraph network {
+    rankdir=LR;
+    node [shape=box];
+    edge [labelfontsize=9, labeldistance=1.5, labelangle=45];
+    p0 [label="1 err\nwaits on Y after 2", color=red, tooltip="err at 10:3"];
+    p1 [label="2 ctl\nwaits on E after 1", color=red, tooltip="ctl at 10:22"];
+    p2 [label="3 plant\nwaits on U after 1", color=red, tooltip="plant at 10:36"];
+    c0 [label="input", shape=plaintext];
+    c0 -> p0 [label="SET", style=solid, headlabel="R"];
+    p2 -> p0 [label="Y", style=solid, taillabel="Y", headlabel="Y", color=red, penwidth=2];
+    p0 -> p1 [label="E", style=solid, taillabel="E", headlabel="E", color=red, penwidth=2];
+    p1 -> p2 [label="U", style=solid, taillabel="U", headlabel="U", color=red, penwidth=2];
+    c4 [label="output", shape=plaintext];
+    p2 -> c4 [label="HEAT\n0", style=solid, taillabel="O"];
   }
 count, as it ran.
   $ kahn_draw examples/count.kahn --input /dev/null
@@ -91,6 +122,18 @@ double, as it ran.
     c0 -> p0 [label="A", style=solid, headlabel="U"];
     c1 [label="output", shape=plaintext];
     p0 -> c1 [label="B\n3", style=solid, taillabel="W"];
+  }
+fahrenheit, as it ran.
+  $ kahn_draw examples/fahrenheit.kahn --input examples/fahrenheit.input
+  digraph network {
+    rankdir=LR;
+    node [shape=box];
+    edge [labelfontsize=9, labeldistance=1.5, labelangle=45];
+    p0 [label="1 convert\nwaits on C after 10", tooltip="convert at 10:3"];
+    c0 [label="input", shape=plaintext];
+    c0 -> p0 [label="C", style=solid, headlabel="U"];
+    c1 [label="output", shape=plaintext];
+    p0 -> c1 [label="F\n3", style=solid, taillabel="W"];
   }
 farm, as it ran.
   $ kahn_draw examples/farm.kahn --input /dev/null
@@ -167,6 +210,28 @@ filter, as it ran.
     p0 -> c1 [label="KEPT\n3", style=solid, taillabel="W"];
     c2 [label="output", shape=plaintext];
     p0 -> c2 [label="TESTED\n7", style=dashed, taillabel="T"];
+  }
+go-back-n, as it ran.
+  $ kahn_draw examples/go-back-n.kahn --input examples/go-back-n.input
+  digraph network {
+    rankdir=LR;
+    node [shape=box];
+    edge [labelfontsize=9, labeldistance=1.5, labelangle=45];
+    p0 [label="1 sender\nWINDOW=4\nended after 723", style=filled, fillcolor=lightgrey, tooltip="sender at 50:3"];
+    p1 [label="2 line\nSIZE=2, EACH=3\nwaits on FRAMES after 562", tooltip="line at 50:66"];
+    p2 [label="3 receiver\nwaits on FRAMES_LEFT after 301", tooltip="receiver at 51:7"];
+    p3 [label="4 line\nSIZE=1, EACH=4\nwaits on ACKS after 352", tooltip="line at 51:50"];
+    c0 [label="input", shape=plaintext];
+    c0 -> p0 [label="DATA", style=solid, headlabel="U"];
+    p0 -> p1 [label="FRAMES", style=solid, taillabel="FRAME", headlabel="U"];
+    p1 -> p2 [label="FRAMES_LEFT", style=solid, taillabel="W", headlabel="FRAME"];
+    p2 -> p3 [label="ACKS", style=solid, taillabel="ACK", headlabel="U"];
+    p3 -> p0 [label="ACKS_LEFT", style=solid, taillabel="W", headlabel="ACK"];
+    p0 -> p0 [label="PENDING", style=solid, taillabel="KEPT", headlabel="OLD"];
+    c6 [label="output", shape=plaintext];
+    p2 -> c6 [label="DELIVERED\n20", style=solid, taillabel="W"];
+    c7 [label="output", shape=plaintext];
+    p0 -> c7 [label="SENT\n1", style=solid, taillabel="COUNT"];
   }
 hamming, as it ran.
   $ kahn_draw examples/hamming.kahn --input /dev/null
@@ -351,6 +416,16 @@ moving-average, as it ran.
     c1 [label="output", shape=plaintext];
     p0 -> c1 [label="MEANS\n6", style=solid, taillabel="W"];
   }
+noise.
+  $ kahn_draw examples/noise.kahn
+  digraph network {
+    rankdir=LR;
+    node [shape=box];
+    edge [labelfontsize=9, labeldistance=1.5, labelangle=45];
+    p0 [label="1 noise\nSEED=1", tooltip="noise at 9:3"];
+    c0 [label="output", shape=plaintext];
+    p0 -> c0 [label="NOISE", style=solid, taillabel="W"];
+  }
 pipeline, as it ran.
   $ kahn_draw examples/pipeline.kahn --input /dev/null
   digraph network {
@@ -524,6 +599,19 @@ squares, as it ran.
     p0 -> p1 [label="NUMBERS", style=solid, taillabel="W", headlabel="U"];
     c1 [label="output", shape=plaintext];
     p1 -> c1 [label="SQUARES\n5", style=solid, taillabel="W"];
+  }
+table, as it ran.
+  $ kahn_draw examples/table.kahn --input examples/table.input
+  digraph network {
+    rankdir=LR;
+    node [shape=box];
+    edge [labelfontsize=9, labeldistance=1.5, labelangle=45];
+    p0 [label="1 look_up\nwaits on N after 289", tooltip="look_up at 22:3"];
+    c0 [label="input", shape=plaintext];
+    c0 -> p0 [label="N", style=solid, headlabel="U"];
+    p0 -> p0 [label="TABLE", style=solid, taillabel="KEPT", headlabel="OLD"];
+    c2 [label="output", shape=plaintext];
+    p0 -> c2 [label="SINE\n10", style=solid, taillabel="W"];
   }
 Rings: two rings.
   $ echo '' > given; sed '' rings.kahn | kahn_draw --input given

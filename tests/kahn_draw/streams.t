@@ -54,5 +54,5 @@ A run that is stopped.
   wants more after 3", style=filled, fillcolor=palegreen
 A full disk.
   $ kahn_draw examples/count.kahn > /dev/full
-  ! kahn: report could not be written
+  ! kahn_draw: picture could not be written
   [5]

@@ -4,14 +4,17 @@ ghost use Rattle.std.specs.Prelude.{◌≡◌, ◌⊎◌, [], map, option_copied
 ghost use Rattle.kahn_streams.specs.Network.{network_of};
 ghost use Rattle.kahn_fault.specs.Work.{IsChecked};
 ghost use Rattle.kahn_chain.specs.Chain.{AreStandings, stands};
-ghost use Rattle.kahn_draw.specs.{Drawing.IsDrawn, Drawing.IsDrawnFor, Drawing.IsPictured, Running.HasDrawnAs, Running.IsPointed, Running.drawn_answer};
+ghost use Rattle.kahn_draw.specs.{Drawing.IsDrawn, Drawing.IsDrawnFor, Drawing.IsPictured, Drawing.IsEndedPicture, Running.HasDrawnAs, Running.IsPointed, Running.drawing_text, Running.drawn_answer};
+ghost use Rattle.kahn_fault.specs.Status.{status_of};
+ghost use Rattle.kahn_streams.specs.Written.{Writes};
 
-use kahn_fault::{Fault, Texts, Told, WorkFault, checked, tell, tell_explain};
+use kahn_fault::{Fault, Texts, Told, WorkFault, checked, tell, tell_explain, tell_reason};
 use kahn_graph::picture_text;
 use kahn_sequential::run_one;
 use kahn_streams::{End, Network, RunFault, Stream, Verdict};
 use kahn_texts::{read_input, write_line};
 use std::alloc::Global;
+use std::hash::RandomState;
 use std::io::Write;
 
 /// What is drawn.
@@ -40,6 +43,22 @@ fn pictured(
     }
 }
 
+/// A picture, and how the run ended that it shows. A network without a run has finished.
+#[derive(Drop)]
+pub(crate) struct DrawnPicture {
+    pub(crate) text: String,
+    pub(crate) verdict: Verdict,
+}
+
+fn shown(picture: Result<String, WorkFault>, verdict: Verdict) -> Result<DrawnPicture, WorkFault>
+    ensures { IsEndedPicture verdict picture result }
+{
+    match picture {
+        Ok(text) => Ok(DrawnPicture { text, verdict }),
+        Err(fault) => Err(fault),
+    }
+}
+
 /// The picture of a network, or of a run of it on an input text.
 fn picture(
     alloc: Global,
@@ -47,47 +66,74 @@ fn picture(
     program: &str,
     input: &str,
     drawn: Drawn,
-) -> Result<String, WorkFault>
+) -> Result<DrawnPicture, WorkFault>
     requires { IsChecked program.now network.now }
     ensures { IsDrawnFor network.now program.now input.now drawn result }
 {
     let bound = match drawn {
-        Drawn::Network => return pictured(alloc, network, program, &[], &[]),
+        Drawn::Network => {
+            let still = pictured(alloc, network, program, &[], &[]);
+            return shown(still, Verdict::Finished);
+        }
         Drawn::Run(bound) => bound,
     };
     let input = read_input(alloc, input, network)?;
     match run_one(alloc, network, input, bound) {
-        Ok(answer) => pictured(alloc, network, program, &answer.streams, &answer.ends),
+        Ok(answer) => {
+            let run = pictured(alloc, network, program, &answer.streams, &answer.ends);
+            shown(run, answer.verdict)
+        }
         Err(fault) => Err(WorkFault::Run(fault)),
     }
 }
 
-/// Writes the picture of the network of a program text, or of a run of it on an input text. Faults are found in this order: of the
-/// program text, of the network, of the input text, want of memory, of the writer; before a fault of the writer nothing is written.
+/// Writes the picture of the network of a program text, or of a run of it on an input text, and returns how that ended. Faults are found in this
+/// order: of the program text, of the network, of the input text, want of memory, of the writer; before a fault of the writer nothing is
+/// written.
 fn draw<W: Write>(
     alloc: Global,
+    seed: RandomState,
     program: &str,
     input: &str,
     drawn: Drawn,
     writer: &mut W,
-) -> Result<(), WorkFault>
+) -> Result<Verdict, WorkFault>
     ensures { IsDrawn program.now input.now drawn (W.contents writer.old) (W.contents writer.new) result }
 {
-    let network = checked(alloc, program)?;
+    let network = checked(alloc, seed, program)?;
     let picture = picture(alloc, &network, program, input, drawn)?;
-    match write_line(writer, &[picture.as_bytes()]) {
-        Ok(()) => Ok(()),
+    match write_line(writer, &[picture.text.as_bytes()]) {
+        Ok(()) => Ok(picture.verdict),
         Err(fault) => Err(WorkFault::Write(fault)),
     }
 }
 
-/// What drawing came to, in the words of a run.
-fn drawn_answer(drawn: Result<(), WorkFault>) -> Result<Verdict, Fault>
+/// What drawing came to, in the words of a run: one that its bound stopped was drawn as far as it was asked for.
+fn drawn_answer(drawn: Result<Verdict, WorkFault>) -> Result<Verdict, Fault>
     ensures { result ≡ drawn_answer drawn }
 {
     match drawn {
-        Ok(()) => Ok(Verdict::Finished),
+        Ok(Verdict::Memory) => Ok(Verdict::Memory),
+        Ok(Verdict::Finished | Verdict::Bound) => Ok(Verdict::Finished),
         Err(fault) => Err(Fault::Work(fault)),
+    }
+}
+
+/// Reports a fault, or that memory stopped the run that is drawn, in one line, and returns the status.
+fn drawing_told<E: Write>(answer: &Result<Verdict, Fault>, program: &str, errors: &mut E) -> Told
+    ensures status { result.status ≡ status_of answer.now }
+    ensures line { Writes (E.contents errors.old) (E.contents errors.new) result.line (drawing_text program.now answer.now) }
+{
+    match answer {
+        Ok(Verdict::Memory) => Told {
+            status: 4,
+            line: tell_reason("kahn_draw", "run was stopped by memory", errors),
+        },
+        Err(Fault::Work(WorkFault::Write(_))) => Told {
+            status: 5,
+            line: tell_reason("kahn_draw", "picture could not be written", errors),
+        },
+        _ => tell(answer, program, errors),
     }
 }
 
@@ -104,7 +150,7 @@ fn point<E: Write>(path: Option<&str>, answer: &Result<Verdict, Fault>, errors: 
 }
 
 /// Draws the program of the texts, or a run of it, to `out`. A fault is told to `log`. It gives the exit status, and whether the line
-/// of the fault went out.
+/// of the fault, or that memory stopped the run, went out.
 pub(crate) fn ran<W: Write, E: Write>(
     alloc: Global,
     texts: &Texts,
@@ -115,9 +161,9 @@ pub(crate) fn ran<W: Write, E: Write>(
 ) -> Told
     ensures { HasDrawnAs texts.now (option_copied path.entry) drawn (W.contents out.old) (W.contents out.new) (E.contents log.old) (E.contents log.new) result }
 {
-    let program = texts.program.as_str();
-    let answer = drawn_answer(draw(alloc, program, texts.input.as_str(), drawn, out));
-    let told = tell(&answer, program, log);
+    let (program, input) = (texts.program.as_str(), texts.input.as_str());
+    let answer = drawn_answer(draw(alloc, texts.seed, program, input, drawn, out));
+    let told = drawing_told(&answer, program, log);
     point(path, &answer, log);
     told
 }

@@ -5,10 +5,11 @@ mod drawing;
 
 use drawing::{Drawn, ran};
 use kahn_fault::{read_texts, shown_path, tell_shown};
-use kahn_line::{DrawOptions, read_draw_line, tell_line, tell_no_memory, tell_words};
+use kahn_line::{DrawOptions, Patient, read_draw_line, tell_line, tell_no_memory, tell_words};
 use std::alloc::{AllocError, Global};
 use std::io::Write;
 use std::process::ExitCode;
+use std::random::RandomSource;
 use std::rt::Runtime;
 use std::{env, io};
 
@@ -21,7 +22,7 @@ fn path_of(alloc: Global, program: &Option<String>) -> Result<Option<String>, Al
 }
 
 /// Draws what the command line asks for, and gives the status. Faults are told to the writer.
-fn answered<R: Runtime + AllocGlobal, W: Write>(
+fn answered<R: Runtime + AllocGlobal + RandomSource, W: Write>(
     rt: &R,
     options: DrawOptions,
     path: Option<String>,
@@ -33,7 +34,8 @@ fn answered<R: Runtime + AllocGlobal, W: Write>(
     };
     match read_texts(rt, options.program, options.input) {
         Ok(texts) => {
-            let (path, out) = (path.as_deref(), &mut io::writer(rt));
+            let (stream, clock) = (io::writer(rt), rt);
+            let (path, out) = (path.as_deref(), &mut Patient { stream, clock });
             ran(rt.alloc(), &texts, path, drawn, out, writer).status
         }
         Err(fault) => tell_shown(rt.alloc(), fault, writer),

@@ -12,10 +12,10 @@ returns-in_err-picture g c =
 
 pub returns-in-Ok : goal.returns-in-Ok
 returns-in-Ok g c =
-    went_out c.args.program.now c.args.input.now c.args.drawn c.in_ok-network.network (string_bytes c.in_ok-picture.picture) _ _ c.in_ok-network.ensures c.in_ok-picture.ensures
+    went_out c.args.program.now c.args.input.now c.args.drawn c.in_ok-network.network c.in_ok-picture.picture.verdict (string_bytes c.in_ok-picture.picture.text) _ _ c.in_ok-network.ensures c.in_ok-picture.ensures
     (rw c.as_bytes.ensures.value at c.in-Ok.ensures)
 
 pub returns : goal.returns
 returns g c =
-    broke_off c.args.program.now c.args.input.now c.args.drawn c.in_ok-network.network (string_bytes c.in_ok-picture.picture) _ _ c.in_ok-network.ensures c.in_ok-picture.ensures
+    broke_off c.args.program.now c.args.input.now c.args.drawn c.in_ok-network.network c.in_ok-picture.picture.verdict (string_bytes c.in_ok-picture.picture.text) _ _ c.in_ok-network.ensures c.in_ok-picture.ensures
     (rw c.as_bytes.ensures.value at c.in-Err.ensures)

@@ -5,11 +5,11 @@ use Rattle.kahn_draw.proofs.drawing.picture.Goals as goal
 
 pub returns-in-Network : goal.returns-in-Network
 returns-in-Network c =
-    subst (λ drawn. IsDrawnFor c.args.network.now c.args.program.now c.args.input.now drawn c.pictured.result) (sym c.in-Network.is)
-    (still c.args.network.now c.args.program.now c.args.input.now _ c.pictured.ensures)
+    subst (λ drawn. IsDrawnFor c.args.network.now c.args.program.now c.args.input.now drawn c.shown.result) (sym c.in-Network.is)
+    (still c.args.network.now c.args.program.now c.args.input.now _ _ c.pictured-still.ensures c.shown.ensures)
 
-pub pictured-requires-in-Ok : goal.pictured-requires-in-Ok
-pictured-requires-in-Ok c =
+pub pictured-run-requires : goal.pictured-run-requires
+pictured-run-requires c =
     inr (subst (λ ends. AreStandings (network_of c.args.network.now) (map stands ends)) (sym c.deref-in-Ok.ensures.value)
     (standing c.args.program.now c.args.network.now c.in_ok-input.input c.in-Run.bound c.in-Ok.answer c.requires c.in-Ok.ensures.right))
 
@@ -19,9 +19,9 @@ returns-in_err-input c =
 
 pub returns-in-Ok : goal.returns-in-Ok
 returns-in-Ok c =
-    subst (λ drawn. IsDrawnFor c.args.network.now c.args.program.now c.args.input.now drawn c.pictured-in-Ok.result) (sym c.in-Run.is)
-    (moving c.args.network.now c.args.program.now c.args.input.now c.in-Run.bound c.in-Ok.answer _ _ _ (c.in_ok-input.input, c.in_ok-input.ensures.read, c.in-Ok.ensures.right)
-    c.deref.ensures.value c.deref-in-Ok.ensures.value c.pictured-in-Ok.ensures)
+    subst (λ drawn. IsDrawnFor c.args.network.now c.args.program.now c.args.input.now drawn c.shown-in-Ok.result) (sym c.in-Run.is)
+    (moving c.args.network.now c.args.program.now c.args.input.now c.in-Run.bound c.in-Ok.answer _ _ _ _ (c.in_ok-input.input, c.in_ok-input.ensures.read, c.in-Ok.ensures.right)
+    c.deref.ensures.value c.deref-in-Ok.ensures.value c.pictured-run.ensures c.shown-in-Ok.ensures)
 
 pub returns-in-Err : goal.returns-in-Err
 returns-in-Err c =
