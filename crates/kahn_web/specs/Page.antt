@@ -4,13 +4,22 @@ use Rattle.std.specs.{declared.result.Result.TheVariants.Ok, declared.result.Res
 use Rattle.kahn_streams.specs.{declared.answer.Verdict.Verdict, Written.Writes}
 use Rattle.kahn_fault.specs.{declared.fault.Fault.Fault, declared.fault.Fault.TheVariants.Open, declared.fault.Fault.TheVariants.Program, declared.fault.Fault.TheVariants.InputText, declared.fault.Fault.TheVariants.Work, Status.status_of, Work.IsWorked, Telling.told_text}
 use Rattle.kahn_texts.specs.declared.bytes.WriteFault.{WriteFault}
+use Rattle.kahn_texts.specs.declared.read.ReadFault.{ReadFault}
+use Rattle.kahn_texts.specs.declared.read.ReadFault.TheVariants.{Failed, NoMemory, NotUtf8, TooLong}
 use Rattle.kahn_web.specs.Alone.{alone}
+
+-- why a program text counts as unread: it isn't UTF-8, or there is no secret for the hashes of its names
+abbrev pub IsUnreadAlone : List ℕ → ReadFault → Type 0
+IsUnreadAlone program NotUtf8 = IsUtf8 program → ⊥
+IsUnreadAlone program Failed = Unit {0}
+IsUnreadAlone program TooLong = ⊥
+IsUnreadAlone program NoMemory = ⊥
 
 -- what the work by one thread did, or which text isn't UTF-8, after which nothing was written
 abbrev pub IsAnswerAlone : List ℕ → List ℕ → ℕ → Option (List ℕ) → Option (List ℕ) → Result Verdict Fault → Type 0
 IsAnswerAlone program input bound old new (Ok verdict) = IsWorked program input (alone bound) old new (Ok verdict)
 IsAnswerAlone program input bound old new (Err (Open path)) = ⊥
-IsAnswerAlone program input bound old new (Err (Program path fault)) = (IsUtf8 program → ⊥) × (new ≡ old)
+IsAnswerAlone program input bound old new (Err (Program path fault)) = IsUnreadAlone program fault × (new ≡ old)
 IsAnswerAlone program input bound old new (Err (InputText path fault)) = (IsUtf8 input → ⊥) × (new ≡ old)
 IsAnswerAlone program input bound old new (Err (Work fault)) = IsWorked program input (alone bound) old new (Err fault)
 

@@ -4,12 +4,15 @@
 
 ghost use Rattle.kahn_web.specs.{Explained.IsReason, Page.IsPut, Page.IsPutIf, Page.IsRunInto, Picture.IsNetworkPicture, Whole.IsWholeText};
 
+mod secret;
 mod whole;
 
+use crate::secret::PageSecret;
 use crate::whole::{kept, reason, run_texts};
 use kahn_fault::checked;
 use kahn_graph::picture_text;
 use std::alloc::Global;
+use std::hash::RandomState;
 
 /// The result of a run.
 #[repr(C)]
@@ -36,6 +39,7 @@ fn put(bytes: &[u8], room: &mut [u8]) -> u64
 #[unsafe(no_mangle)]
 pub extern "C" fn kahn_web_run(
     alloc: Global,
+    secret: &PageSecret,
     program: &[u8],
     input: &[u8],
     bound: u64,
@@ -45,7 +49,7 @@ pub extern "C" fn kahn_web_run(
     ensures { IsRunInto program.now input.now bound room.old room.new outcome.new.status outcome.new.length }
 {
     let mut written = Vec::new(alloc);
-    let status = run_texts(alloc, program, input, bound, &mut written);
+    let status = run_texts(alloc, secret, program, input, bound, &mut written);
     *outcome = RunOutcome {
         status: status as u64,
         length: put(written.as_slice(), room),
@@ -55,13 +59,21 @@ pub extern "C" fn kahn_web_run(
 /// Draws the network of a program. The picture, in the language of Graphviz, is copied as a report is, and its length is given, which
 /// is 0 where there is none: where the text isn't UTF-8, where the program is refused, and where memory is.
 #[unsafe(no_mangle)]
-pub extern "C" fn kahn_web_draw(alloc: Global, program: &[u8], room: &mut [u8]) -> u64
+pub extern "C" fn kahn_web_draw(
+    alloc: Global,
+    secret: &PageSecret,
+    program: &[u8],
+    room: &mut [u8],
+) -> u64
     ensures { IsPutIf (IsNetworkPicture program.now) room.old room.new result }
 {
     let Ok(program) = std::str::from_utf8(program) else {
         return 0;
     };
-    let Ok(network) = checked(alloc, program) else {
+    let Ok(seed) = RandomState::new(secret) else {
+        return 0;
+    };
+    let Ok(network) = checked(alloc, seed, program) else {
         return 0;
     };
     match picture_text(alloc, &network, program, &[], &[]) {
@@ -75,6 +87,7 @@ pub extern "C" fn kahn_web_draw(alloc: Global, program: &[u8], room: &mut [u8]) 
 #[unsafe(no_mangle)]
 pub extern "C" fn kahn_web_explain(
     alloc: Global,
+    secret: &PageSecret,
     program: &[u8],
     input: &[u8],
     bound: u64,
@@ -82,7 +95,7 @@ pub extern "C" fn kahn_web_explain(
 ) -> u64
     ensures { IsPutIf (IsReason program.now input.now bound) room.old room.new result }
 {
-    match reason(alloc, program, input, bound) {
+    match reason(alloc, secret, program, input, bound) {
         Some(text) => put(text.as_slice(), room),
         None => 0,
     }
@@ -95,6 +108,7 @@ pub extern "C" fn kahn_web_explain(
 #[unsafe(no_mangle)]
 pub extern "C" fn kahn_web_whole(
     alloc: Global,
+    secret: &PageSecret,
     program: &[u8],
     input: &[u8],
     quantum: u64,
@@ -103,7 +117,7 @@ pub extern "C" fn kahn_web_whole(
 ) -> u64
     ensures { IsPutIf (IsWholeText program.now input.now quantum bound) room.old room.new result }
 {
-    match kept(alloc, program, input, quantum, bound) {
+    match kept(alloc, secret, program, input, quantum, bound) {
         Some(text) => put(text.as_slice(), room),
         None => 0,
     }

@@ -8,6 +8,7 @@ ghost use Rattle.kahn_web.specs.{Whole.IsWholeText, Whole.flow_text, Whole.histo
 ghost use Rattle.kahn_fault.specs.Work.{IsTextAnswer, IsUnanswered};
 ghost use Rattle.kahn_why.specs.inner.Told.{IsAdmitted};
 
+use crate::secret::PageSecret;
 use itoa::Buffer;
 use kahn_fault::{Fault, WorkFault, checked, tell};
 use kahn_sequential::{Recorded, run_one, run_recorded};
@@ -18,6 +19,7 @@ use kahn_texts::{
 };
 use kahn_why::{Admitted, Came, admit, explained, refuse_input, write_both};
 use std::alloc::Global;
+use std::hash::RandomState;
 use std::io::Write;
 
 /// Writes how many values a channel had, and how many of them were taken.
@@ -78,6 +80,7 @@ fn written(alloc: Global, network: &Network, run: &Recorded) -> Result<Vec<u8>, 
 /// text is refused, where a number is past its limit, and where memory is refused.
 pub fn kept(
     alloc: Global,
+    secret: &PageSecret,
     program: &[u8],
     input: &[u8],
     quantum: u64,
@@ -91,7 +94,10 @@ pub fn kept(
     let Ok(input) = std::str::from_utf8(input) else {
         return None;
     };
-    let Ok(network) = checked(alloc, program) else {
+    let Ok(seed) = RandomState::new(secret) else {
+        return None;
+    };
+    let Ok(network) = checked(alloc, seed, program) else {
         return None;
     };
     let Ok(input) = read_input(alloc, input, &network) else {
@@ -130,6 +136,7 @@ pub(crate) fn answered(
 /// Reads a program and an input, runs the program on the caller's thread, and writes the report of its answer.
 fn work_alone<W: Write>(
     alloc: Global,
+    seed: RandomState,
     program: &str,
     input: &str,
     bound: u64,
@@ -137,7 +144,7 @@ fn work_alone<W: Write>(
 ) -> Result<Verdict, Fault>
     ensures { IsAnswerAlone program.now input.now bound (W.contents writer.old) (W.contents writer.new) result }
 {
-    let network = match checked(alloc, program) {
+    let network = match checked(alloc, seed, program) {
         Ok(network) => network,
         Err(fault) => return Err(Fault::Work(fault)),
     };
@@ -151,9 +158,11 @@ fn work_alone<W: Write>(
     }
 }
 
-/// Runs a program on an input, both bytes. The writer gets the report, or the line of the fault. Returns the status.
+/// Runs a program on an input, both bytes. The writer gets the report, or the line of the fault. Returns the status. If there
+/// is no secret, the program text counts as one that can't be read.
 pub fn run_texts<W: Write>(
     alloc: Global,
+    secret: &PageSecret,
     program: &[u8],
     input: &[u8],
     bound: u64,
@@ -168,13 +177,18 @@ pub fn run_texts<W: Write>(
         let fault = Fault::InputText(String::new(alloc), ReadFault::NotUtf8);
         return tell(&Err(fault), text, writer).status;
     };
-    let answer = work_alone(alloc, text, input, bound, writer);
+    let Ok(seed) = RandomState::new(secret) else {
+        let fault = Fault::Program(None, ReadFault::Failed);
+        return tell(&Err(fault), text, writer).status;
+    };
+    let answer = work_alone(alloc, seed, text, input, bound, writer);
     tell(&answer, text, writer).status
 }
 
 /// Why the input of a program is refused, as `kahn_explain program --input input` tells it.
 fn refused(
     alloc: Global,
+    seed: RandomState,
     program: &str,
     it: &Admitted,
     input: &str,
@@ -185,7 +199,7 @@ fn refused(
     ensures { IfSome result (λ text. IsInputRefused program.now input.now text.items) }
 {
     let mut written = Vec::new(alloc);
-    match refuse_input(alloc, "input", program, input, fault, &mut written) {
+    match refuse_input(alloc, seed, "input", program, input, fault, &mut written) {
         Ok(_) => Some(written),
         Err(_) => None,
     }
@@ -221,7 +235,13 @@ fn stopped(
 
 /// Why a program is refused, or its input, or else why its run for at most `bound` events stopped, behind the warnings on the program.
 /// There is nothing where a text isn't UTF-8, where the fault has no place, where the bound is past its limit, and where memory is refused.
-pub fn reason(alloc: Global, program: &[u8], input: &[u8], bound: u64) -> Option<Vec<u8>>
+pub fn reason(
+    alloc: Global,
+    secret: &PageSecret,
+    program: &[u8],
+    input: &[u8],
+    bound: u64,
+) -> Option<Vec<u8>>
     ensures { IfSome result (λ text. IsReason program.now input.now bound text.items) }
 {
     let Ok(program) = std::str::from_utf8(program) else {
@@ -230,15 +250,18 @@ pub fn reason(alloc: Global, program: &[u8], input: &[u8], bound: u64) -> Option
     let Ok(input) = std::str::from_utf8(input) else {
         return None;
     };
+    let Ok(seed) = RandomState::new(secret) else {
+        return None;
+    };
     let mut written = Vec::new(alloc);
-    let it = match admit(alloc, "program", program, false, &mut written) {
+    let it = match admit(alloc, seed, "program", program, false, &mut written) {
         Ok(it) => it,
         Err(Ok(_came)) => return Some(written),
         Err(Err(_)) => return None,
     };
     match answered(alloc, &it.network, input, bound) {
         Ok(answer) => stopped(alloc, program, &it, input, bound, &answer),
-        Err(WorkFault::Text(fault)) => refused(alloc, program, &it, input, fault),
+        Err(WorkFault::Text(fault)) => refused(alloc, seed, program, &it, input, fault),
         Err(_) => None,
     }
 }
