@@ -48,7 +48,7 @@ def try_session(page, path, tried):
 
 
 def try_examples(page, tried):
-    """Each has the kept report, letters of 10 px or more, and no sideways scroll; and what is said of its events agrees with the module."""
+    """Each has the kept report, letters of 8 px or more, and the whole picture in sight; and what is said of its events agrees with the module."""
     page.size(1400, 900)
     for name in EXAMPLES:
         page.value(f"shows('{name}')")
@@ -105,7 +105,7 @@ def try_reader(page, tried):
         write(TREE, tree)
     tried.same("what a reader of the screen is told", tree, text_of(TREE))
     live = "[...document.querySelectorAll('[role=status], [aria-live], [role=alert]')].map((it) => it.id)"
-    tried.same("what is live", page.value(live), ["status", "toast"])
+    tried.same("what is live", page.value(live), ["toast", "status"])
     page.value("showTab('table')")
 
 

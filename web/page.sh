@@ -3,17 +3,17 @@
 
 # page_crates: kahn_web and each crate that it stands on, one a line.
 page_crates() {
-  tac "$top/crates.txt" | awk -F '[: ]+' 'BEGIN { used["kahn_web"] } $1 in used { print $1; for (i = 2; i <= NF; i++) used[$i] }'
+  tac "${top:?}/crates.txt" | awk -F '[: ]+' 'BEGIN { used["kahn_web"] } $1 in used { print $1; for (i = 2; i <= NF; i++) used[$i] }'
 }
 
-# page_sources: one hash of all that the page is made of.
+# page_sources: one hash of all that the page is made of, without files that editors leave.
 page_sources() {
   local names
   mapfile -t names < <(page_crates)
   (
     cd "$top" || return
     for name in "${names[@]}"; do grep "^$name\b" crates.txt; done
-    find "${names[@]/#/crates/}" web examples -name out -prune -o -type f \( -path '*/src/*' -o -path '*/specs/*' -o -path '*/proofs/*' \
+    find "${names[@]/#/crates/}" web examples -name out -prune -o -type f ! -name '[.#]*' ! -name '*~' \( -path '*/src/*' -o -path '*/specs/*' -o -path '*/proofs/*' \
       -o -path 'web/*' -o -name '*.kahn' -o -name '*.input' \) -print | LC_ALL=C sort | xargs sha256sum HANDLES
   ) | sha256sum | cut -d ' ' -f 1
 }

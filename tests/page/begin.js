@@ -25,6 +25,7 @@ Object.assign(globalThis, {
     await until(settled);
   },
 
+  isShown: (selector) => document.querySelector(selector).checkVisibility(),
   told: () => [at("verdict").className, at("status").textContent],
   eachText: (selector) => [...document.querySelectorAll(selector)].map((it) => it.textContent),
 
@@ -40,16 +41,159 @@ end
 `;
   },
 
+  // Whether a cell of the table is in sight: below the head, right of the places.
+  isInSight(cell) {
+    const pane = at("table"), it = cell.getBoundingClientRect(), room = pane.getBoundingClientRect(), corner = pane.querySelector("th").getBoundingClientRect();
+    return it.left >= corner.right - 1 && it.right <= room.left + pane.clientWidth + 1 && it.top >= corner.bottom - 1 && it.bottom <= room.top + pane.clientHeight + 1;
+  },
+  // The steps at which the value that came or went isn't in sight.
+  async unseen() {
+    const found = [], { last } = page.run;
+    for (let k = 1; k <= last; k += Math.ceil(last / 150)) {
+      await go(k);
+      const cell = document.querySelector("#table .newest, #table .took");
+      if (page.moment.event?.stream >= 0 && !(cell && isInSight(cell))) found.push(k);
+    }
+    return found;
+  },
+
+  // A network of so many boxes by chance: to each leads one of the six before it, and to each second one of the three before it; some lead back.
+  byChance(count, seed) {
+    let at = seed * 7919 + 13;
+    const pick = (most) => Math.floor(((at = (at * 48271) % 2147483647) / 2147483647) * most), ends = [];
+    for (let i = 1; i < count; i++) {
+      ends.push([Math.max(0, i - 1 - pick(6)), i]);
+      if (pick(2) < 1) ends.push([Math.max(0, i - 1 - pick(3)), i]);
+    }
+    for (let i = Math.max(1, Math.round(count / 40)); i > 0; i--) {
+      const from = pick(count);
+      ends.push([from, Math.max(0, from - pick(6))]);
+    }
+    return wired(count, ends.filter(([from, to]) => from !== to));
+  },
+  // A grid of cells, each with an arrow to the next one in its row and in its column, with a source before each row and column.
+  grid(side) {
+    const ends = [], cell = (row, column) => row * side + column;
+    for (let row = 0; row < side; row++) {
+      for (let column = 0; column < side; column++) {
+        if (column + 1 < side) ends.push([cell(row, column), cell(row, column + 1)]);
+        if (row + 1 < side) ends.push([cell(row, column), cell(row + 1, column)]);
+      }
+    }
+    for (let i = 0; i < side; i++) ends.push([side * side + i, cell(i, 0)], [side * side + side + i, cell(0, i)]);
+    return wired(side * side + 2 * side, ends);
+  },
+  wired: (count, ends) => ({
+    processes: Array.from({ length: count }, (_, i) => ({ number: i + 1, name: `p${i}`, values: "" })),
+    channels: ends.map(([writer, reader], number) => ({ number, name: `E${number}`, writer, reader })),
+  }),
+  // How many arrows of a wiring cross, as its module counts them; or that they cross otherwise along the drawn paths.
+  crossingsOf(wiring) {
+    const { crossings, edges } = fitted(wiring, 820, 400), drawn = crossingsAlong(edges.map((it) => it.path));
+    return drawn === crossings ? crossings : `${crossings} counted, ${drawn} drawn`;
+  },
+  crossingsAlong(paths) {
+    const lines = paths.map(pointsOf);
+    let count = 0;
+    lines.forEach((some, i) => lines.slice(0, i).forEach((others) => {
+      for (let a = 1; a < some.length; a++) for (let b = 1; b < others.length; b++) if (doCross(some[a - 1], some[a], others[b - 1], others[b])) count += 1;
+    }));
+    return count;
+  },
+  // Points along a path of straight lines and bends.
+  pointsOf(path) {
+    const points = [];
+    for (const [, kind, words] of path.matchAll(/([MLCQ])([^MLCQ]*)/g)) {
+      const numbers = words.trim().split(/\s+/).map(Number), ends = [points.at(-1)], steps = { M: 1, L: 1, Q: 6, C: 16 }[kind];
+      for (let i = 0; i < numbers.length; i += 2) ends.push(numbers.slice(i, i + 2));
+      if (kind === "M") points.push(ends[1]);
+      else for (let step = 1; step <= steps; step++) points.push(along(ends, step / steps));
+    }
+    return points;
+  },
+  along: (ends, part) => (ends.length === 1 ? ends[0]
+    : along(ends.slice(1).map(([x, y], i) => [ends[i][0] + (x - ends[i][0]) * part, ends[i][1] + (y - ends[i][1]) * part]), part)),
+  doCross(a, b, c, d) {
+    if (Math.max(a[0], b[0]) < Math.min(c[0], d[0]) || Math.max(c[0], d[0]) < Math.min(a[0], b[0])) return false;
+    const side = (p, q, r) => { const it = (q[0] - p[0]) * (r[1] - p[1]) - (q[1] - p[1]) * (r[0] - p[0]); return Math.abs(it) < 1e-9 ? 0 : Math.sign(it); };
+    return side(a, b, c) * side(a, b, d) < 0 && side(c, d, a) * side(c, d, b) < 0;
+  },
+  // The examples in which arrows cross, and how many.
+  async allCrossings() {
+    const found = {};
+    for (const { name, program, input } of groups().flatMap((it) => it.list)) {
+      const { wiring } = await checked(checker, { program, input, bound: "0" }), count = crossingsOf(wiring);
+      if (count) found[name] = count;
+    }
+    return found;
+  },
+  dispatchKey: (key) => document.body.dispatchEvent(new KeyboardEvent("keydown", { key, bubbles: true })),
+  drags(element, dx, dy) {
+    const { left, top, width, height } = element.getBoundingClientRect(), x = left + width / 2, y = top + height / 2;
+    const told = (type, by) => element.dispatchEvent(new PointerEvent(type, { clientX: x + by * dx, clientY: y + by * dy, pointerId: 1, bubbles: true }));
+    element.setPointerCapture = () => {};
+    told("pointerdown", 0);
+    told("pointermove", 0.5);
+    told("pointermove", 1);
+    told("pointerup", 1);
+    element.querySelector(".box").dispatchEvent(new MouseEvent("click", { bubbles: true }));
+  },
+  wheels: (element, deltaY) => element.dispatchEvent(new WheelEvent("wheel", { deltaY, ctrlKey: true, bubbles: true, cancelable: true })),
+  // Whether the box of a process is in sight.
+  sights(i) {
+    const it = picture.boxes[i].group.querySelector(".frame").getBoundingClientRect(), room = at("picture").getBoundingClientRect();
+    return it.left >= room.left - 1 && it.right <= room.right + 1 && it.top >= room.top - 1 && it.bottom <= room.bottom + 1;
+  },
+  // Milliseconds of a step, the median of nine; and from a text to its picture, the least of three.
+  async stepTime() {
+    const times = [];
+    await go(20);
+    for (let k = 21; k < 30; k++) {
+      const start = performance.now();
+      await go(k);
+      await new Promise((done) => requestAnimationFrame(() => setTimeout(done)));
+      times.push(performance.now() - start);
+    }
+    return times.sort((a, b) => a - b)[4];
+  },
+  async pictureTime() {
+    const times = [], { program: text } = page.run.texts;
+    for (let i = 0; i < 3; i++) {
+      const start = performance.now();
+      await puts(`${text}${" ".repeat(i + 1)}`);
+      await new Promise((done) => requestAnimationFrame(() => setTimeout(done)));
+      times.push(performance.now() - start);
+    }
+    return Math.min(...times);
+  },
+  // Whether the machine is so full of work that no time can be judged: a fixed piece of work takes more than twice as long as on a quiet one.
+  isBusy() {
+    const start = performance.now();
+    let sum = 0;
+    for (let i = 0; i < 2e7; i++) sum = (sum + i * i) % 1000003;
+    return performance.now() - start > 400 + 0 * sum;
+  },
+
   // How often `--` stands in what the page says of itself; a program and a report may have it.
   options: () => (document.querySelector("#verdict").innerText + at("problems").innerText + at("waits").innerText + at("network").innerText).split("--").length - 1,
   // Whether no arrow reaches out of the picture.
   arrowsFit: () => [...document.querySelectorAll("#picture .line")].map((it) => it.getBBox())
     .every(({ x, y, width, height }) => x >= 0 && y >= 0 && x + width <= picture.laid.width && y + height <= picture.laid.height),
-  pictureFits: () => at("picture").scrollWidth <= at("picture").clientWidth + 1,
-  lettersAreLarge: () => Math.min(...[...document.querySelectorAll("#picture text")].map((it) => parseFloat(getComputedStyle(it).fontSize) * picture.scale)) >= 9.99,
+  pictureFits: () => picture.view.isWhole && picture.laid.width * picture.scale <= at("picture").clientWidth && picture.laid.height * picture.scale <= at("picture").clientHeight,
+  // Whether the picture is in sight from its left to its right, and its names can be read.
+  isAcross: () => picture.laid.width * picture.scale <= at("picture").clientWidth,
+  lettersAreShown: () => 12 * picture.scale >= 6 && !picture.svg.classList.contains("numbers"),
+  // What of the page is below an element that is in sight.
+  covers(selector) {
+    const here = document.querySelector(selector), { left, top, right, bottom } = here.getBoundingClientRect();
+    const below = [[left + 5, top + 5], [right - 5, bottom - 5]].flatMap(([x, y]) => document.elementsFromPoint(x, y));
+    return [...new Set(below)].filter((it) => !it.contains(here) && !here.contains(it)).map((it) => it.id || it.tagName);
+  },
+  // Letters of eight pixels or more, and none is left out.
+  lettersAreLarge: () => picture.svg.classList.contains("all") && 12 * picture.scale >= 7.9,
   // Buttons that reach out of the window.
   cut: () => [...document.querySelectorAll("header button, #transport button, #panes button, .strip button")].filter((it) => it.checkVisibility())
-    .map((it) => [it.id || it.textContent, it.getBoundingClientRect()])
+    .map((it) => [it.id || it.textContent, (it.scrollIntoView({ block: "nearest" }), it.getBoundingClientRect())])
     .filter(([, { left, right, top, bottom }]) => left < 0 || right > innerWidth + 0.5 || top < 0 || bottom > innerHeight + 0.5)
     .map(([name]) => name),
 
@@ -60,7 +204,7 @@ end
       show(pane);
       await pause();
       if (document.documentElement.scrollWidth !== innerWidth || document.body.scrollHeight !== innerHeight) found.push(`${pane} scrolls`);
-      if (pane === "network" && !(pictureFits() && lettersAreLarge())) found.push("the picture or its letters");
+      if (pane === "network" && !(isAcross() && lettersAreShown())) found.push("the picture or its letters");
     }
     for (const tab of ["plots", "waits", "report", "table"]) {
       showTab(tab);

@@ -14,6 +14,32 @@ Nothing scrolls, nothing is cut off.
   $ unfit()
   []
 
+In a low window, as a large page or a phone on its side has, the picture keeps its room, and the rest is below it.
+  $ size 720 450
+  $ shows("hamming").then(unfit)
+  []
+  $ [at("picture").clientHeight >= 180, isShown("#legend")]
+  [true, false]
+  $ size 844 390
+  $ unfit()
+  []
+  $ [at("picture").clientHeight >= 150, at("results").scrollHeight > at("results").clientHeight]
+  [true, true]
+  $ size 1024 600
+  $ unfit()
+  []
+  $ at("picture").clientHeight >= 280
+  true
+
+A note covers nothing.
+  $ (toast("Your texts were replaced, and kept.", "Undo", () => {}), covers("#toast"))
+  []
+  $ size 390 844
+  $ (toast("Your texts were replaced, and kept.", "Undo", () => {}), covers("#toast"))
+  []
+  $ void at("toast").replaceChildren()
+  $ size 1400 900
+
 Contrast, by day and by night.
   $ size 1400 900
   $ allFaint()

@@ -53,6 +53,18 @@ A deadlock: its place, its mark, its boxes; nothing is blue.
   $ [document.activeElement.id, at("program").selectionStart === programs.deadlock.indexOf("wait(U)")]
   ["program", true]
 
+Processes with several waits on one channel: it isn't known which, and that is said, for each process by itself.
+  $ puts(programs.places)
+  $ [...document.querySelectorAll("#details .spot")].map((it) => it.textContent.trim())
+  ["1 a waits at 2:78, 2:105, 2:132 or 2:146", "2 b waits at 3:61"]
+  $ [document.querySelectorAll("#programInk .stuck").length, document.querySelectorAll("#programInk .either").length]
+  [1, 4]
+  $ (showTab("waits"), document.querySelector("#waits tbody td:nth-child(4)").textContent.split(", in")[0])
+  "at 2:78, 2:105, 2:132 or 2:146 from 2 b"
+  $ (choose({ process: 0 }), at("chain").firstChild.textContent)
+  "1 a waits on X at 2:78, 2:105, 2:132 or 2:146"
+  $ (chooseNothing(), showTab("table"))
+
 A fault: what waits because of it, its mark, its box, and why it stopped.
   $ puts(programs.fault)
   $ told()

@@ -49,8 +49,8 @@ An event, its place, and its values: the newest one, those that haven't come, th
   $ go(14)
   $ [at("event").textContent, eachText("#programInk .now")[0], eachText("#table .newest")]
   ["Event 14 of 27 2 square sends 0 on SQUARES 5:47", "send", ["0"]]
-  $ [eachText("#table .later"), eachText("#table .waiting"), eachText("#picture .count"), eachText("#picture .last"), table.streams.map((it) => it.name)]
-  [["1", "4", "9", "16"], ["1", "2", "3", "4"], ["4", "1"], ["4 3 2 1", "0"], ["NUMBERS", "SQUARES"]]
+  $ [eachText("#table .later"), eachText("#table .waiting"), eachText("#picture .count"), eachText("#picture .last"), table.columns.map((it) => it.stream.name)]
+  [["1", "4", "9", "16"], ["1", "2", "3", "4"], ["4", "1"], ["4 3 2 1", "0"], ["SQUARES", "NUMBERS"]]
   $ (choose({ channel: 0 }), at("chain").firstChild.textContent)
   "NUMBERS integer · from 1 count to 2 square · 5 sent, 1 taken, 4 wait"
   $ chooseNothing()
@@ -66,11 +66,11 @@ An event inside: no further value.
   ["Event 2 of 27 1 count sends 0 on NUMBERS 3:41", ["1", "0", "", "", "0"]]
 
 A value goes to its event, also one inside.
-  $ click #table tbody tr:nth-child(4) td:nth-of-type(2)
+  $ click #table tbody tr:nth-child(4) td:nth-of-type(1)
   $ until(() => page.moment.k === page.k && page.k > 3)
   $ [page.moment.streams[1].count, page.moment.event.words]
   [3, "sends 4 on SQUARES"]
-  $ click #table tbody tr:nth-child(4) td
+  $ click #table tbody tr:nth-child(4) td:nth-of-type(2)
   $ until(() => page.moment.k === page.k && page.k < 12)
   $ [page.moment.streams[0].count, page.moment.event.words]
   [3, "sends 2 on NUMBERS"]
@@ -98,10 +98,48 @@ Of an input the plot has what was taken, and so has the table.
   $ eachText("#table .took, #table .waiting, #picture .count, #picture .last")
   ["2", "9 8", "", "", "7", "8", "9"]
 
-A long run has its first steps and its end, and its values are counted.
+The value of each step is in sight.
+  $ size 1440 900
+  $ shows("sieve").then(unseen)
+  []
+  $ shows("hamming").then(unseen)
+  []
+  $ shows("matrix-product").then(unseen)
+  []
+
+After a run the outputs are in sight, from their first value on.
+  $ shows("sieve")
+  $ [table.columns[0].stream.role, at("table").scrollTop, isInSight(table.cells[0].each[0])]
+  ["output", 0, true]
+  $ size 1400 900
+
+A run of up to a million events has a step for each, also the way into the deadlock at its end.
+  $ puts(programs.late)
+  $ [told()[0], page.run.events > 36000, page.run.last === page.run.events]
+  ["deadlock", true, true]
+  $ go(page.run.last - 1)
+  $ [page.run.events - page.moment.k, Boolean(page.moment.event), page.moment.isEnd]
+  [1, true, false]
+  $ puts(programs.endless)
+  $ go(900000)
+  $ [page.moment.k, page.moment.event.words, page.run.last]
+  [900000, "sends 450000 on X", 1000000]
+  $ [0, 99999, 100000, 300000, 449999].map((it) => page.moment.streams[0].valueAt(it))
+  ["1", "100000", "100001", "300001", "450000"]
+
+Of a longer one the first steps can be seen, and its end: the number of its last event is right.
+  $ puts(programs.endless, { bound: "1000002" })
+  $ [page.run.last, page.run.steps, page.run.isCut]
+  [20001, 20000, true]
+  $ [at("event").textContent.trim(), at("slider").getAttribute("aria-valuetext")]
+  ["Event 1,000,002 of 1,000,002 the end of the run", "event 1,000,002: the end of the run"]
+
+The values of a long run are counted.
   $ puts(programs.endless)
   $ [page.run.last, page.run.steps, page.run.isCut, page.moment.streams[0].count, page.moment.streams[0].values.length]
-  [20001, 20000, true, 500000, 100000]
+  [1000000, 1000000, false, 500000, 100000]
+  $ at("table").scrollTo(0, 1e9)
+  $ until(() => table.cells.at(-1).row === 99999)
   $ [eachText("#table tbody tr:nth-last-child(2) th"), / \.\. and [0-9,]+ more$/m.test(at("report").textContent)]
   [["100000"], true]
 

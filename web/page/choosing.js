@@ -2,7 +2,7 @@
 
 import { at, made, numbered } from "./elements.js";
 import { lexemesOf } from "./lexer.js";
-import { atEnd, placeButton, placesOf, waitsOf, withPlaces } from "./marking.js";
+import { atEnd, eitherButtons, placesOf, waitsOf, withPlaces } from "./marking.js";
 import { chainOf, stateWords } from "./moment.js";
 import { NOTHING, page, program } from "./state.js";
 import { asked, go, update } from "./steps.js";
@@ -59,7 +59,7 @@ function channelWords(number) {
 function chainWords({ processes, channels, ring }) {
   const named = (i) => `${page.moment.processes[i].number} ${page.moment.processes[i].name}`, arrow = () => made("i", {}, "←");
   const parts = processes.flatMap((i, step) => {
-    const places = waitsOf(i).flatMap((it) => [" ", placeButton(it)]);
+    const waits = waitsOf(i), places = waits.length ? [" at", ...eitherButtons(waits)] : [];
     return [...(step ? [arrow()] : []), made("span", {}, made("b", {}, named(i)), ` ${stateWords(page.moment.processes[i])}`, ...places)];
   });
   if (ring !== undefined) return [...parts, arrow(), made("span", { className: "ringed" }, `${named(ring)}: a ring`)];
@@ -78,7 +78,7 @@ export function showChain() {
 function whyOf(number) {
   const reason = atEnd() ? page.run.why.reasons.find((it) => it.number === number) : undefined;
   if (!reason) return [];
-  if (reason.kind === "fault") return reason.places.flatMap((it, i) => [i ? " " : "it can have come from ", placeButton(it)]);
+  if (reason.kind === "fault") return reason.places.length ? ["at", ...eitherButtons(reason.places)] : [];
   return [...withPlaces(reason.words.replace(/^,? /, "")), ...reason.helps.map((it) => made("p", { className: "help" }, it))];
 }
 
@@ -98,6 +98,6 @@ export function showWaits() {
 export function showLegend() {
   const words = [["ready", "ready"], ["waits", "waits"], ["ended", "ended"], ["fault", "fault or deadlock"], ["now", "did this event"]];
   const shown = (number, values, word) => made("span", { className: "values" }, made("b", {}, number), ` ${values}: ${word}`);
-  const both = [shown("3", "16 9 4", "values that wait, the next one at the right"), shown("5", "… 16", "values of an output, and the last one")];
+  const waiting = shown("3", "16 9 4", "values that wait, the next one at the arrow's end"), both = [waiting, shown("5", "… 16", "values of an output, and the last one")];
   at("legend").replaceChildren(...words.map(([kind, word]) => made("span", { className: `mark-${kind}` }, word)), ...both);
 }

@@ -20,6 +20,10 @@ const GROUPS = [
     ["impulse-response", "Impulse response", "a filter of four taps"],
     ["rates", "Three rates", "half the values, then three for two"],
     ["alarm", "Alarm", "too hot, and cool again"],
+    ["control", "Control loop", "no first value: a deadlock"],
+    ["fahrenheit", "Fahrenheit", "tenths of degrees, rounded"],
+    ["noise", "Noise", "a generator; never ends"],
+    ["table", "Table", "a sine from eight values"],
   ]],
   ["Data", [
     ["merge", "Merge", "two ordered streams become one"],
@@ -28,11 +32,13 @@ const GROUPS = [
     ["histogram", "Histogram", "how many values in each bin"],
     ["sorting", "Sorting network", "five comparators on four lines"],
     ["matrix-product", "Matrix product", "a systolic array of four cells"],
+    ["bits", "Bits", "the exclusive or of two numbers"],
   ]],
   ["Protocols and buffers", [
     ["buffer", "Bounded buffer", "credits keep it at three values"],
     ["small-buffer", "Buffer that may be too small", "with less room it is a deadlock"],
     ["alternating-bit", "Alternating bit", "a protocol over lines that lose"],
+    ["go-back-n", "Go-back-N", "the same with a window of frames"],
     ["farm", "Farm", "work dealt out to three and collected"],
   ]],
 ];

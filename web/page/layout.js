@@ -1,280 +1,260 @@
-// Where the boxes and arrows of a network stand: columns from the inputs to the outputs, in as many rows as the width wants. Each arrow
-// leaves a box at the right by a flat piece, beside which its name has room, and reaches the next at the left. An arrow that closes a
-// ring, or goes on in another row, runs in a lane below its row.
+// Where the boxes and arrows of a network are: columns from the inputs to the outputs, in one row; downwards in a narrow window. An arrow has
+// its name beside a flat piece at the right of a box, and bends between the columns. One that leads back runs from the left of its writer to
+// the right of its reader. Inputs and outputs are stubs at their boxes. A chain that is too long is cut into rows.
 
-export const LETTER = 7.25;
-const PORT = 38, BEND = 30, SIDE = 14, LANE = 11, BETWEEN = 20, STUB = 40, TURN = 8;
-// So many letters of what waits on an arrow are shown beside it; in a narrow room fewer.
-const SHOWN = 10, NARROW_SHOWN = 7, NARROW = 520;
+import { layered } from "./layers.js";
 
-export const LEAST_SCALE = 10 / 12;
+export const LETTER = 7.25, MOST_SCALE = 1.3;
+// The scale at which all letters can still be read, and at which they are as large as elsewhere.
+export const READABLE = 0.66;
+const GOOD = 0.83;
+const SIDE = 14, BEND = 30, MOST_BEND = 110, LEAD = 11, TRAIL = 7, FLOOR = 30, TURN = 8, NARROW = 520;
+// The least room between two boxes, between a box and a point of an arrow, and between two points, which have the room of a line.
+const BETWEEN = [20, 12, 8], LINE = 6, HEAVY = 8, SWEEPS = 12;
+// So many letters of what waits on an arrow are shown beside it, or fewer; and in so many rows a chain is tried.
+const SHOWN = 10, LESS_SHOWN = 7, ROWS = [2, 3, 4, 5, 6, 8, 11, 15, 20];
+// The room at the side of a box of an arrow with its name, or without; that of a name along the arrow, and of the word of a stub; and where in its
+// room an arrow is.
+const RIGHTWARDS = { named: () => 38, plain: 22, name: (label) => label + LEAD + TRAIL, word: 52, port: (room) => room / 2 };
+const DOWNWARDS = { named: (label) => label + 14, plain: 20, name: () => 40, word: 20, port: (room, isNamed) => (isNamed ? 6 : room / 2) };
 
-const mean = (numbers) => numbers.reduce((sum, it) => sum + it, 0) / numbers.length;
-const isLeaving = (edges, rank) => edges.some((it) => it.from.rank === rank);
+const sum = (numbers) => numbers.reduce((all, it) => all + it, 0);
+const most = (numbers) => numbers.reduce((all, it) => Math.max(all, it), 0);
 
-function boxOf(it, i, shown) {
-  const title = 7.6 * (it.name.length + String(it.number).length) + (it.prints ? 50 : 32);
-  const width = Math.max(shown < SHOWN ? 104 : 116, title, LETTER * it.values.length + 20);
-  return { ...it, i, isBox: true, width, height: it.values ? 62 : 46 };
-}
-
-function sized({ processes, channels }, shown) {
-  const nodes = processes.map((it, i) => boxOf(it, i, shown));
-  const edges = channels.map((it) => {
-    const end = (i, word) => nodes[i] ?? nodes[nodes.push({ word, width: LETTER * word.length, height: 20 }) - 1];
-    const label = LETTER * Math.max(it.name.length, shown);
-    return { number: it.number, from: end(it.writer, "input"), to: end(it.reader, "output"), label };
-  });
-  for (const node of nodes.filter((it) => it.isBox)) {
-    const out = edges.filter((it) => it.from === node).length, into = edges.filter((it) => it.to === node).length;
-    node.height = Math.max(node.height, out * PORT, into * 22);
-  }
-  return { nodes, edges };
-}
-
-// The nodes in an order in which all arrows go on but those that close a ring.
-function ordered({ nodes, edges }) {
-  const state = new Map(), order = [];
-  const visit = (node) => {
-    state.set(node, "open");
-    for (const edge of edges.filter((it) => it.from === node)) {
-      if (state.get(edge.to) === "open") edge.isBack = true;
-      else if (!state.has(edge.to)) visit(edge.to);
-    }
-    state.set(node, "done");
-    order.unshift(node);
-  };
-  const boxes = nodes.filter((it) => it.isBox), first = boxes.filter((it) => !edges.some((edge) => edge.to === it && edge.from.isBox));
-  [...first, ...boxes, ...nodes].forEach((it) => state.has(it) || visit(it));
-  return order;
-}
-
-// The column of each node, from 0: behind all that lead to it, and an input just before its reader. Gives the number of columns.
-function ranked(order, edges) {
-  const onwards = edges.filter((it) => !it.isBack);
-  order.forEach((it) => (it.rank = it.word === "input" ? 0 : 1));
-  for (const node of order) for (const { to } of onwards.filter((it) => it.from === node)) to.rank = Math.max(to.rank, node.rank + 1);
-  for (const node of order.filter((it) => it.word === "input")) {
-    node.rank = Math.min(...onwards.filter((it) => it.from === node).map((it) => it.to.rank)) - 1;
-  }
-  const ranks = [...new Set(order.map((it) => it.rank))].sort((a, b) => a - b);
-  order.forEach((it) => (it.rank = ranks.indexOf(it.rank)));
-  return ranks.length;
-}
-
-function columnOf(rank, { nodes, edges }) {
-  const own = Math.max(...nodes.filter((it) => it.rank === rank).map((it) => it.width));
-  const leaving = edges.filter((it) => it.from.rank === rank), ups = edges.filter((it) => it.to.rank === rank + 1 && it.isBack).length;
-  const lanes = LANE * Math.min(4, leaving.filter((it) => it.isBack).length + ups);
-  const gap = leaving.length || ups ? Math.max(0, ...leaving.map((it) => it.label)) + BEND + lanes : BEND;
-  return { own, gap, room: leaving.some((it) => it.to.word) ? STUB : 0, isLast: !leaving.length };
-}
-
-// The columns, each with its width and the gap behind it, and in which row each stands.
-function rowsOf(count, network, width, scale) {
-  const columns = Array.from({ length: count }, (_, rank) => columnOf(rank, network));
-  const behind = isLeaving(network.edges, count - 1) ? 0 : columns.at(-1).gap;
-  const ups = LANE * Math.min(3, network.edges.filter((it) => it.isBack && it.to.rank === 0).length);
-  const all = columns.reduce((sum, it) => sum + it.own + it.gap, 2 * SIDE + ups) - behind;
-  const most = all * LEAST_SCALE <= width ? Infinity : width / scale, margins = 2 * SIDE + 3 * LANE, rows = [[]];
-  let used = margins;
-  columns.forEach((column, rank) => {
-    if (used + column.own + (column.isLast ? 0 : column.gap + column.room) > most && rows.at(-1).length) {
-      rows.push([]);
-      used = margins;
-    }
-    rows.at(-1).push(rank);
-    used += column.own + column.gap;
-  });
-  rows.forEach((ranks, row) => ranks.forEach((rank) => (columns[rank].row = row)));
-  return { columns, rows };
-}
-
-// The points that each arrow passes, one in each column between its ends. An output in another row stands beside its writer, as a stub.
-function threaded({ edges, columns }) {
-  const points = [], rowOf = (it) => columns[it.rank].row;
+// The boxes and arrows of a wiring in their columns; the sides of each box have what leaves and reaches it there, in order.
+function joined({ processes, channels }) {
+  const boxes = processes.map((it, i) => ({ ...it, i, left: [], right: [] }));
+  const edges = channels.map((it) => ({ number: it.number, name: it.name, from: boxes[it.writer], to: boxes[it.reader] }));
+  const inner = edges.filter((it) => it.from && it.to && it.from !== it.to), { columns, crossings } = layered(boxes, inner);
   for (const edge of edges) {
-    const isFar = rowOf(edge.from) !== rowOf(edge.to);
-    edge.isStub = Boolean(edge.to.word) && isFar;
-    edge.isLane = !edge.isStub && (edge.isBack || isFar);
-    if (edge.isStub) edge.to.isStub = true;
-    if (edge.isLane || edge.isStub) continue;
-    const first = edge.from.rank + 1;
-    const between = Array.from({ length: edge.to.rank - first }, (_, i) => ({ rank: first + i, isPoint: true, width: 0, height: 24 }));
-    points.push(...between);
-    edge.points = [edge.from, ...between, edge.to];
+    edge.kind = !edge.from ? "input" : !edge.to ? "output" : edge.from === edge.to ? "loop" : "inner";
+    edge.box = edge.kind === "inner" ? edge.low : edge.from ?? edge.to;
+    if (edge.kind === "input") edge.to.left.push({ edge, isNamed: true, near: -1 });
+    else edge.box.right.push({ edge, isNamed: true, near: { inner: edge.items?.[1].spot, output: -1, loop: Infinity }[edge.kind] });
+    if (edge.kind === "inner") edge.high.left.push({ edge, near: edge.items.at(-2).spot });
+    if (edge.kind === "loop") edge.box.right.push({ edge, near: Infinity });
   }
-  return points;
+  const order = (a, b) => (a.near === b.near ? a.edge.number - b.edge.number : a.near - b.near);
+  for (const it of boxes) for (const side of [it.left, it.right]) side.sort(order);
+  return { boxes, edges, columns, crossings };
 }
 
-// Puts the nodes of each column in order: near to their neighbours.
-function sortColumns(columns, near) {
-  const sort = (column, side) => {
-    const wanted = new Map(column.map((it, i) => [it, near(it, side).length ? mean(near(it, side).map((other) => other.spot)) : (i + 0.5) / column.length]));
-    column.sort((a, b) => wanted.get(a) - wanted.get(b));
-    column.forEach((it, i) => (it.spot = (i + 0.5) / column.length));
-  };
-  columns.flat().forEach((it) => (it.spot = 0.5));
-  for (let round = 0; round < 6; round++) {
-    columns.forEach((it) => sort(it, "into"));
-    [...columns].reverse().forEach((it) => sort(it, "out"));
-  }
-}
-
-// The heights of the nodes of a column: as near to those wanted as can be, and none over another one.
-function settle(column, wanted) {
-  let free = -Infinity;
-  column.forEach((it, i) => {
-    it.y = Math.max(wanted[i], free + it.height / 2);
-    free = it.y + it.height / 2 + BETWEEN;
-  });
-  const shift = mean(column.map((it, i) => wanted[i] - it.y));
-  column.forEach((it) => (it.y += shift));
-}
-
-// The heights of the nodes of one row, from 0. Gives the height of the row.
-function settledRow(ranks, nodes, edges) {
-  const columns = ranks.map((rank) => nodes.filter((it) => it.rank === rank)), all = columns.flat(), isHere = new Set(all);
-  const neighbours = { into: new Map(all.map((it) => [it, []])), out: new Map(all.map((it) => [it, []])) };
-  for (const { points } of edges) {
-    points?.slice(1).forEach((to, i) => {
-      if (!isHere.has(points[i]) || !isHere.has(to)) return;
-      neighbours.into.get(to).push(points[i]);
-      neighbours.out.get(points[i]).push(to);
+// The size of each box, along the arrows and across, and where on its sides each arrow is.
+function sized({ boxes, edges }, shown, isDown) {
+  const way = isDown ? DOWNWARDS : RIGHTWARDS;
+  for (const it of edges) it.label = LETTER * Math.max(it.name.length, shown);
+  for (const box of boxes) {
+    const title = 7.6 * (box.name.length + String(box.number).length) + (box.prints ? 50 : 32);
+    const rooms = [box.left, box.right].map((side) => side.map(({ edge, isNamed }) => (isNamed ? way.named(edge.label) : way.plain)));
+    box.width = Math.max(shown < SHOWN ? 104 : 116, title, LETTER * box.values.length + 20, isDown ? most(rooms.map(sum)) : 0);
+    box.height = Math.max(box.values ? 62 : 46, isDown ? 0 : most(rooms.map(sum)));
+    [box.long, box.wide] = isDown ? [box.height, box.width] : [box.width, box.height];
+    [box.left, box.right].forEach((side, i) => {
+      let at = -sum(rooms[i]) / 2;
+      side.forEach((port, j) => {
+        port.at = at + way.port(rooms[i][j], port.isNamed);
+        at += rooms[i][j];
+      });
     });
   }
-  const near = (it, side) => neighbours[side].get(it);
-  sortColumns(columns, near);
+}
+
+// How far from the middle of a box, or of a point, an arrow is at this side.
+const portOf = (it, edge, side) => (it.isPoint ? 0 : it[side].find((port) => port.edge === edge).at);
+
+// The places across of the items of a column: together as near to those wanted as can be, in order, and none over another one.
+function settle(column, wanted) {
+  const pools = [], level = ({ all, weight }) => all / weight;
+  let least = 0;
+  column.forEach((it, i) => {
+    const before = column[i - 1], weight = it.isPoint ? HEAVY : 1;
+    if (before) least += BETWEEN[(before.isPoint ? 1 : 0) + (it.isPoint ? 1 : 0)] + (before.wide + it.wide) / 2;
+    it.least = least;
+    pools.push({ all: (wanted[i] - least) * weight, weight, items: [it] });
+    while (pools.length > 1 && level(pools.at(-2)) >= level(pools.at(-1))) {
+      const last = pools.pop(), into = pools.at(-1);
+      Object.assign(into, { all: into.all + last.all, weight: into.weight + last.weight });
+      into.items.push(...last.items);
+    }
+  });
+  for (const pool of pools) for (const it of pool.items) it.level = level(pool) + it.least;
+}
+
+// Puts all items across, so that arrows are as straight as can be.
+function levelled({ edges, columns }) {
+  columns.flat().forEach((it) => Object.assign(it, { before: [], behind: [], wide: it.isPoint ? LINE : it.wide }));
+  for (const edge of edges.filter((it) => it.kind === "inner")) {
+    edge.items.slice(1).forEach((high, i) => {
+      const low = edge.items[i], shift = portOf(high, edge, "left") - portOf(low, edge, "right");
+      low.behind.push({ other: high, shift });
+      high.before.push({ other: low, shift: -shift });
+    });
+  }
   columns.forEach((column) => settle(column, column.map(() => 0)));
-  for (let round = 0; round < 10; round++) {
-    const [side, other] = round % 2 ? ["out", "into"] : ["into", "out"];
+  const wanted = (it, near) => (near.length ? sum(near.map(({ other, shift }) => other.level + shift)) / near.length : it.level);
+  for (let round = 0; round < SWEEPS; round++) {
+    const isLast = round >= SWEEPS - 2;
     for (const column of round % 2 ? [...columns].reverse() : columns) {
       settle(column, column.map((it) => {
-        const there = near(it, side).length ? near(it, side) : near(it, other);
-        return there.length ? mean(there.map((one) => one.y)) : it.y;
+        const near = isLast ? [] : round % 2 ? it.behind : it.before;
+        return wanted(it, near.length ? near : [...it.before, ...it.behind]);
       }));
     }
   }
-  const top = Math.min(...all.map((it) => it.y - it.height / 2));
-  all.forEach((it) => (it.y -= top));
-  return Math.max(...all.map((it) => it.y + it.height / 2));
 }
 
-// Below which rows an arrow from one row to another runs.
-const lanesOf = (from, to) => (to === from || to === from + 1 ? [from] : [from, to < from ? to : to - 1]);
+// How far across an arrow goes between a column and the next one.
+function jumpOf(edge, rank) {
+  const [low, high] = [rank, rank + 1].map((it) => edge.items[it - edge.low.rank]);
+  return Math.abs(low.level + portOf(low, edge, "right") - high.level - portOf(high, edge, "left"));
+}
 
-// Where each row and column stands.
-function placed(network) {
-  const { nodes, edges, columns, rows, points } = network, rowOf = (it) => columns[it.rank].row;
-  const all = [...nodes.filter((it) => !it.isStub), ...points], lanes = edges.filter((it) => it.isLane);
-  const ups = rows.map(([first]) => Math.min(3, lanes.filter((it) => it.to.rank === first).length));
-  const start = SIDE + LANE * Math.max(0, ...ups, rows.length > 1 ? 1 : 0);
-  Object.assign(network, { floors: [], width: 0, height: 20 });
-  rows.forEach((ranks, row) => {
-    const height = settledRow(ranks, all, edges);
-    all.filter((it) => rowOf(it) === row).forEach((it) => (it.y += network.height));
-    let x = start;
-    for (const rank of ranks) {
-      columns[rank].x = x;
-      all.filter((it) => it.rank === rank).forEach((it) => (it.x = x + columns[rank].own / 2));
-      x += columns[rank].own + columns[rank].gap;
-    }
-    network.width = Math.max(network.width, x - (isLeaving(edges, ranks.at(-1)) ? 0 : columns[ranks.at(-1)].gap) + SIDE);
-    const users = lanes.flatMap((it) => lanesOf(rowOf(it.from), rowOf(it.to))).filter((it) => it === row).length;
-    network.floors[row] = network.height + height + 18;
-    network.height = network.floors[row] + (users ? LANE * users + 14 : 16);
+const passes = (it, rank) => it.kind === "inner" && it.low.rank <= rank && it.high.rank > rank;
+
+// The room along the arrows of each column: of its boxes, of what is before them, and of names, words and bends behind them.
+function roomsOf({ boxes, edges, columns }, isDown) {
+  const way = isDown ? DOWNWARDS : RIGHTWARDS;
+  return columns.map((_, rank) => {
+    const here = boxes.filter((it) => it.rank === rank), right = here.flatMap((it) => it.right), passing = edges.filter((it) => passes(it, rank));
+    const given = here.flatMap((it) => it.left).filter((it) => it.edge.kind === "input").map((it) => it.edge.label);
+    const isCut = passing.length === 1 && !passing[0].isBack, bend = Math.min(MOST_BEND, BEND + most(passing.map((it) => jumpOf(it, rank))) / 8);
+    return {
+      isCut, own: most(here.map((it) => it.long)), before: most(given.map((it) => way.name(it) + TRAIL + way.word)),
+      names: most(right.map((it) => way.name(it.edge.label))), words: right.some((it) => it.edge.kind !== "inner") ? way.word : 0,
+      bend: rank + 1 < columns.length ? bend : 0,
+    };
   });
 }
 
-// At which height each arrow leaves and reaches its box: in the order of what they join.
-function ported({ nodes, edges }) {
-  const spread = (there, node, key, step, other) => {
-    there.sort((a, b) => other(a) - other(b) || a.number - b.number);
-    there.forEach((it, i) => (it[key] = node.y + (i - (there.length - 1) / 2) * step));
-  };
-  for (const node of nodes) {
-    const out = edges.filter((it) => it.from === node), into = edges.filter((it) => it.to === node && !it.isStub);
-    spread(out, node, "fromY", PORT, (it) => (it.points ? it.points[1].y : it.isStub ? -1e6 : 1e6));
-    spread(into, node, "toY", Math.min(PORT, node.height / into.length), (it) => (it.points ? it.points.at(-2).y : 1e6));
-  }
+const lengthOf = ({ before, own, names, words, bend }) => before + own + names + words + bend;
+
+// The columns in rows of at most this length, as far as there are cuts: each where one arrow passes that doesn't lead back.
+function rowsOf(rooms, length) {
+  const rows = [[]];
+  let part = [];
+  rooms.forEach((room, rank) => {
+    part.push(rank);
+    if (!room.isCut && rank + 1 < rooms.length) return;
+    const last = rows.at(-1), used = sum([...last, ...part].map((it) => lengthOf(rooms[it])));
+    if (last.length && used > length) rows.push(part);
+    else last.push(...part);
+    part = [];
+  });
+  return rows;
+}
+
+// Where the columns are along the arrows, and the rows below one another. Gives the size of the whole.
+function placed({ columns }, rooms, rows) {
+  const isCut = rows.length > 1;
+  let floor = 10, longest = 0;
+  rows.forEach((ranks, row) => {
+    const items = ranks.flatMap((rank) => columns[rank]), top = items.reduce((least, it) => Math.min(least, it.level - it.wide / 2), Infinity);
+    items.forEach((it) => (it.across = it.level + floor - top));
+    floor = most(items.map((it) => it.across + it.wide / 2)) + 12;
+    let along = SIDE + (isCut ? 16 : 0);
+    ranks.forEach((rank, i) => {
+      const room = Object.assign(rooms[rank], { row, floor, start: along, at: along + rooms[rank].before });
+      columns[rank].forEach((it) => (it.along = room.at + room.own / 2));
+      room.bendFrom = room.at + room.own + room.names + room.words;
+      along = room.bendTo = room.bendFrom + (i + 1 < ranks.length ? room.bend : 0);
+    });
+    longest = Math.max(longest, along + SIDE + (isCut ? 18 : 0));
+    if (row + 1 < rows.length) floor += FLOOR;
+  });
+  return [longest, floor];
 }
 
 // A path along straight pieces, round at their corners.
-function rounded([[x, y], ...points]) {
+function rounded(points) {
   const towards = ([px, py], [tx, ty]) => {
     const length = Math.hypot(tx - px, ty - py) || 1, part = Math.min(TURN, length / 2) / length;
     return `${px + (tx - px) * part} ${py + (ty - py) * part}`;
   };
-  return points.reduce((path, point, i) => {
-    const next = points[i + 1];
-    if (!next) return `${path}L${point.join(" ")}`;
-    return `${path}L${towards(point, i ? points[i - 1] : [x, y])}Q${point.join(" ")} ${towards(point, next)}`;
-  }, `M${x} ${y}`);
+  const turned = (it, before, next) => (next ? `L${towards(it, before)}Q${it.join(" ")} ${towards(it, next)}` : `L${it.join(" ")}`);
+  return points.slice(1).map((it, i) => turned(it, points[i], points[i + 2])).join("");
 }
 
-// From column to column: a flat piece, then a bend into each point and into the box.
-function onwards(edge, { columns }, start, flat) {
-  let [x, y] = [flat, edge.fromY], path = `M${start} ${y}L${x} ${y}`;
-  edge.points.slice(1).forEach((it) => {
-    const half = it.isPoint ? columns[it.rank].own / 2 : 0, right = it === edge.to ? it.x - it.width / 2 - 1 : it.x;
-    const height = it === edge.to ? edge.toY : it.y, bend = 0.6 * Math.min(BEND, (right - x) / 2 + 8);
-    path += `C${x + bend} ${y} ${right - bend - half} ${height} ${right - half} ${height}`;
-    if (it.isPoint) {
-      x = columns[it.rank].x + columns[it.rank].own + columns[it.rank].gap - BEND;
-      path += `L${x} ${height}`;
+const spotOf = (along, across, isDown) => (isDown ? `${across} ${along}` : `${along} ${across}`);
+
+// The path through points that are, by turns, at the ends of flat pieces and of bends.
+function bent(points, isDown) {
+  return points.slice(1).reduce((path, [along, across], i) => {
+    const [from, before] = points[i], part = 0.6 * (along - from), to = spotOf(along, across, isDown);
+    if (i % 2 === 0 || before === across) return `${path}L${to}`;
+    return `${path}C${spotOf(from + part, before, isDown)} ${spotOf(along - part, across, isDown)} ${to}`;
+  }, `M${spotOf(...points[0], isDown)}`);
+}
+
+// An arrow between two boxes; its head is at the other box, or at the lower one if it leads back. From row to row it runs in a lane.
+function innerPath(edge, rooms, isDown) {
+  const { low, high, items, isBack } = edge, parts = [];
+  let points = [[low.along + low.long / 2 + (isBack ? 1 : 0), low.across + portOf(low, edge, "right")]];
+  items.slice(1).forEach((it, i) => {
+    const from = rooms[low.rank + i], to = rooms[low.rank + i + 1], [, y] = points.at(-1), next = it.across + portOf(it, edge, "left");
+    if (from.row === to.row) {
+      points.push([from.bendFrom, y], [from.bendTo, next]);
+      return;
     }
-    y = height;
+    const side = SIDE / 2, turn = from.bendFrom + 8, lane = from.floor + FLOOR / 2 - 8;
+    const way = [[from.bendFrom, y], [turn, y], [turn, lane], [side, lane], [side, next], [to.start, next]];
+    parts.push(bent([...points, way[0]], isDown), rounded(way));
+    points = [way.at(-1)];
   });
-  return path;
+  points.push([high.along - high.long / 2 - (isBack ? 0 : 1), points.at(-1)[1]]);
+  const last = bent(isBack ? points.reverse() : points, isDown);
+  return parts.length ? parts.join("").replace(/(?!^)M/g, "L") + last.replace("M", "L") : last;
 }
 
-// Down behind the column, along the lane below the row, and up to the box; to a far row by the left side.
-function inLane(edge, network, start, flat, used) {
-  const { columns, floors } = network, [a, b] = [edge.from, edge.to].map((it) => columns[it.rank].row);
-  const left = edge.to.x - edge.to.width / 2 - 1, lane = (row) => floors[row] + LANE * used.lanes[row]++;
-  const down = flat + LANE * (used.rights[edge.from.rank]++ % 4), up = left - 12 - LANE * (used.lefts[edge.to.rank]++ % 3), floor = lane(a);
-  const way = [[start, edge.fromY], [down, edge.fromY], [down, floor]];
-  network.width = Math.max(network.width, down + SIDE / 2);
-  if (b < a || b > a + 1) {
-    const near = lane(b < a ? b : b - 1), side = SIDE / 2 - 2;
-    way.push([side, floor], [side, near], [up, near]);
-  } else way.push([up, floor]);
-  return rounded([...way, [up, edge.toY], [left, edge.toY]]);
+// From a box to itself.
+function loopPath({ box, edge, y }, start, end, isDown) {
+  const [from, to] = box.right.filter((it) => it.edge === edge).map((it) => it.at), back = y + to - from;
+  const bend = [spotOf(end + 18, y, isDown), spotOf(end + 18, back, isDown), spotOf(end, back, isDown)].join(" ");
+  return `M${spotOf(start, y, isDown)}L${spotOf(end, y, isDown)}C${bend}L${spotOf(start + 1, back, isDown)}`;
 }
 
-// The path of each arrow, and where its name stands.
-function routed(network) {
-  const { edges, columns, rows } = network;
-  const used = { lanes: rows.map(() => 0), rights: columns.map(() => 0), lefts: columns.map(() => 0) };
+// The path of each arrow, where its name and its values are, and the word of a stub.
+function routed({ edges }, rooms, isDown) {
+  const way = isDown ? DOWNWARDS : RIGHTWARDS;
   for (const edge of edges) {
-    const column = columns[edge.from.rank], start = edge.from.x + edge.from.width / 2;
-    const flat = column.x + column.own + Math.max(...edges.filter((it) => it.from.rank === edge.from.rank).map((it) => it.label)) + 18;
-    edge.labelX = start + 11;
-    if (edge.isStub) {
-      [edge.to.x, edge.to.y] = [flat + 8 + edge.to.width / 2, edge.fromY];
-      edge.path = `M${start} ${edge.fromY}L${flat} ${edge.fromY}`;
-      network.width = Math.max(network.width, flat + edge.to.width + SIDE);
-    } else edge.path = edge.isLane ? inLane(edge, network, start, flat, used) : onwards(edge, network, start, flat);
+    const { box, kind } = edge, isInput = kind === "input", y = box.across + portOf(box, edge, isInput ? "left" : "right");
+    const length = way.name(edge.label) + (isInput ? TRAIL : 0), start = isInput ? box.along - box.long / 2 - 1 - length : box.along + box.long / 2, end = start + length;
+    if (kind === "inner") edge.path = innerPath(edge, rooms, isDown);
+    else edge.path = kind === "loop" ? loopPath({ box, edge, y }, start, end, isDown) : bent([[start, y], [end, y]], isDown);
+    edge.word = kind === "inner" || kind === "loop" ? "" : kind;
+    const half = (LETTER * edge.word.length) / 2, right = [isInput ? start - 6 - half : end + 6 + half, y + 4], down = [y, isInput ? start - 5 : end + 14];
+    if (isDown) Object.assign(edge, { nameAt: [y + 6, start + 15], valuesAt: [y + 6, start + 29], wordAt: down });
+    else Object.assign(edge, { nameAt: [start + LEAD, y - 6], valuesAt: [start + LEAD, y + 14], wordAt: right });
   }
 }
 
-export function laidOut(wiring, width, scale) {
-  const shown = width < NARROW ? NARROW_SHOWN : SHOWN, network = { shown, ...sized(wiring, shown) };
-  const count = ranked(ordered(network), network.edges);
-  Object.assign(network, rowsOf(count, network, width, scale));
-  network.points = threaded(network);
-  placed(network);
-  ported(network);
-  routed(network);
-  network.height += 4;
-  return network;
-}
+const networks = new WeakMap();
 
-// The layout of the greatest scale at which all is in sight, or else of the least one at which the letters can be read; and the scale.
+// The layout in which the network is largest: in one row if that can be read, and else in some rows, if there are cuts; in a narrow window
+// downwards, if its width can be read then.
 export function fitted(wiring, width, height) {
-  for (const scale of [1, 0.94, 0.88, LEAST_SCALE]) {
-    const laid = laidOut(wiring, width, scale), fits = Math.min(1.3, width / laid.width, height / laid.height);
-    if (fits >= scale || scale === LEAST_SCALE) return [laid, Math.max(LEAST_SCALE, fits)];
+  if (!networks.has(wiring)) networks.set(wiring, joined(wiring));
+  const network = networks.get(wiring), down = { shown: LESS_SHOWN, isDown: true };
+  const ways = [{ shown: SHOWN }, { shown: LESS_SHOWN }, ...(width < NARROW ? [down] : [])];
+  let best, now;
+  const tried = (way, length = Infinity) => {
+    if (now?.way !== way) {
+      sized(network, way.shown, way.isDown);
+      levelled(network);
+      now = { way, rooms: roomsOf(network, way.isDown) };
+    }
+    const rows = rowsOf(now.rooms, length), [long, wide] = placed(network, now.rooms, rows), size = way.isDown ? [wide, long] : [long, wide];
+    const scale = Math.min(MOST_SCALE, width / size[0], height / size[1]);
+    if (!best || scale > best.scale * 1.02) best = { way, length, scale };
+    return { rows, width: size[0], height: size[1], long };
+  };
+  for (const way of ways) if (!best || best.scale < GOOD) tried(way);
+  if (best.scale < READABLE) {
+    const { long } = tried(ways[1]);
+    if (now.rooms.some((it) => it.isCut)) for (const count of ROWS) tried(ways[1], long / count);
   }
-  return undefined;
+  if (best.scale < READABLE && width < NARROW && tried(down).width * READABLE <= width) best = { way: down };
+  const laid = tried(best.way, best.length), { isDown = false, shown } = best.way;
+  routed(network, now.rooms, isDown);
+  for (const it of network.boxes) [it.x, it.y] = isDown ? [it.across, it.along] : [it.along, it.across];
+  return { ...network, ...laid, isDown, shown };
 }

@@ -7,7 +7,7 @@ import { divider } from "./panes.js";
 import { STOPPED } from "./run.js";
 import { lacking } from "./runner.js";
 import { edited, fail, runTexts, save, showBy, showName, takeTurns } from "./running.js";
-import { fit, show, showTab, TABS } from "./showing.js";
+import { fit, show, showSigns, showTab, TABS } from "./showing.js";
 import { BOUND, input, NOTHING, page, picture, plots, program, runner, store, table } from "./state.js";
 import { go, play, playIcon, showPlay, stopPlaying } from "./steps.js";
 import { carried } from "./store.js";
@@ -15,6 +15,8 @@ import { copyLink, downloadTexts, gallery, opened, put } from "./texts.js";
 
 // Milliseconds after the last change of the window's size until it is drawn again.
 const RESIZED = 120;
+// In a window of so many pixels the meaning of the signs is shown below the picture at first.
+const LEAST_FOR_SIGNS = 640;
 
 program.changed = input.changed = at("bound").oninput = edited;
 picture.choose = choose;
@@ -76,6 +78,19 @@ for (const [id, line] of Object.entries(LINES)) {
   divider(at(id), at("main"), { ...line, moved: paneMoved });
 }
 
+// What makes the picture larger or smaller, or shows the whole of it.
+const larger = () => picture.view.step(1), smaller = () => picture.view.step(-1), entire = () => picture.view.fit();
+const SIZES = { "+": larger, "=": larger, "-": smaller, "0": entire };
+at("larger").onclick = larger;
+at("smaller").onclick = smaller;
+at("entire").onclick = entire;
+at("entire").append(playIcon("entire"));
+const areSignsShown = () => store.state.signs ?? innerHeight >= LEAST_FOR_SIGNS;
+at("signs").onclick = () => {
+  store.put({ signs: at("legend").hidden });
+  showSigns(store.state.signs);
+};
+
 // Whether a key belongs to what has the focus.
 function isTaken({ target, ctrlKey, metaKey, altKey }) {
   return /^(?:TEXTAREA|INPUT|SELECT)$/.test(target.tagName) || target.getAttribute?.("role") === "separator"
@@ -88,6 +103,8 @@ onkeydown = (event) => {
     runTexts();
   } else if (event.key === "Escape" && page.chosen !== NOTHING && !document.querySelector("dialog[open]")) {
     chooseNothing();
+  } else if (page.wiring && SIZES[event.key] && !isTaken(event)) {
+    SIZES[event.key]();
   } else if (page.run && !isTaken(event)) {
     const tenth = Math.max(1, Math.round(page.run.last / 10));
     const to = { ArrowLeft: page.k - 1, ArrowRight: page.k + 1, PageUp: page.k - tenth, PageDown: page.k + tenth, Home: 0, End: Infinity }[event.key];
@@ -107,12 +124,15 @@ onhashchange = () => {
   if (given) put(given, "");
 };
 onpagehide = save;
-onbeforeprint = () => { program.paint(true); input.paint(true); };
+onbeforeprint = () => { program.paint(true); input.paint(true); if (page.wiring) entire(); };
 onafterprint = () => { program.paint(); input.paint(); };
 let resizing;
 onresize = () => {
   clearTimeout(resizing);
-  resizing = setTimeout(fit, RESIZED);
+  resizing = setTimeout(() => {
+    showSigns(areSignsShown());
+    fit();
+  }, RESIZED);
 };
 matchMedia("(prefers-color-scheme: dark)").addEventListener("change", fit);
 
@@ -130,4 +150,5 @@ function begin() {
 
 showTab(TABS.includes(page.tab) ? page.tab : TABS[0]);
 show("network");
+showSigns(areSignsShown());
 begin();

@@ -21,7 +21,7 @@ function marks() {
   const { run, moment, chosen } = page;
   const list = found().filter((it) => it.where === "program").flatMap((it) => [{ ...seen(it), kind: it.severity }, ...kinded(it.notes, "note")]);
   if (!run || page.isOld) return list;
-  if (atEnd()) list.push(...kinded(verdictOf(run).places, "stuck"));
+  if (atEnd()) list.push(...verdictOf(run).spots.flatMap(({ places }) => kinded(places, places.length > 1 ? "either" : "stuck")));
   const place = onlyPlace(moment?.event);
   if (place && !isBad()) list.push({ from: place.from, to: lexemeEnd(program.text, place.from), kind: "now" });
   return [...list, ...kinded(placesOf(chosen), "chain")];
@@ -45,10 +45,13 @@ export function remark() {
   input.mark(found().filter((it) => it.where === "input").map((it) => ({ ...it, kind: it.severity })));
 }
 
-// A button that goes to a place of a text.
-export function placeButton({ from, to }, editor = program, words = placeWords(placeAt(editor.text, from))) {
+// A button that goes to a place of a text: of the program, if no other is named.
+export function placeButton({ from, to, where }, editor = where === "input" ? input : program, words = placeWords(placeAt(editor.text, from))) {
   return made("button", { className: "place", title: "Go to this place", onclick: () => { show("texts"); editor.goTo(from, to); } }, words);
 }
+
+// Buttons for places of which it is at one.
+export const eitherButtons = (places) => places.flatMap((it, i) => [i === 0 ? " " : i + 1 < places.length ? ", " : " or ", placeButton(it)]);
 
 // Words in which each name between ` is one of the program's.
 export function quoted(words) {

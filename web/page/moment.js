@@ -40,7 +40,7 @@ function eventOf({ processes, channels }, mover, { streams }, before) {
   const { number, name, body } = processes[mover], who = `${number} ${name}`;
   const changed = (key) => streams.findIndex((it, i) => it[key] !== before.streams[i][key]);
   const taken = changed("taken"), sent = changed("count"), stream = Math.max(taken, sent), row = taken < 0 ? streams[sent]?.count - 1 : streams[taken].taken - 1;
-  const value = streams[stream]?.values[row], channel = channels[stream], event = { who, stream, row, channel: channel ? stream : -1 };
+  const value = streams[stream]?.valueAt(row), channel = channels[stream], event = { who, stream, row, channel: channel ? stream : -1 };
   if (taken >= 0) return { ...event, kind: "take", words: `takes ${value} from ${channel.name}`, places: channel.waits };
   if (channel) return { ...event, kind: "send", words: `sends ${value} on ${channel.name}`, places: channel.sends };
   if (stream >= 0) return { ...event, kind: "print", words: `prints ${value}`, places: body.prints };

@@ -1,8 +1,12 @@
 // The picture of the network at a moment: drawn once, then only its states, colours and values change.
 
-import { clipped, numbered, svg } from "./elements.js";
-import { fitted, LETTER } from "./layout.js";
+import { numbered, svg } from "./elements.js";
+import { fitted, LETTER, MOST_SCALE, READABLE } from "./layout.js";
 import { stateWords } from "./moment.js";
+import { View } from "./view.js";
+
+// The least scale at which names can be read.
+const NAMED = 0.5;
 
 const ICONS = {
   ready: "M1 0L8 4.5L1 9z",
@@ -19,40 +23,69 @@ function stateText({ state, on, events }) {
   return state === "fault" ? (on === "division" ? "division by 0" : on) : `${state} · ${shortly(events)}`;
 }
 
-// The values that wait, the newest at the left and the next to be taken at the right, as far as there is room; logical ones as T and F.
-function waitingText({ count, taken, values, last }, most) {
-  const briefly = (it) => ({ true: "T", false: "F" })[it] ?? it, next = values[taken] === undefined ? "" : briefly(values[taken]), newest = briefly(last);
-  const all = count - taken <= most && count <= values.length ? values.slice(taken).reverse().map(briefly).join(" ") : undefined;
+const briefly = (it) => ({ true: "T", false: "F" })[it] ?? it;
+// A value is shown whole or not at all.
+const orDots = (text, most) => (text.length > most ? "…" : text);
+
+// The values that wait, the next to be taken where the arrow ends, as far as there is room; logical ones as T and F.
+function waitingText(stream, most, isBack) {
+  const { count, taken, values, last } = stream, next = briefly(stream.valueAt(taken)), newest = briefly(last);
+  const inOrder = (list) => (isBack ? list : list.reverse()).join(" ");
+  const all = count - taken <= most && count <= values.length ? inOrder(values.slice(taken).map(briefly)) : undefined;
   if (all !== undefined && all.length <= most) return all;
-  return newest.length + next.length + 3 <= most ? `${newest} … ${next}` : count - taken > 1 ? `… ${clipped(next, most - 2)}` : clipped(next, most);
+  if (newest.length + next.length + 3 <= most) return inOrder([next, "…", newest]);
+  return count - taken > 1 && next.length + 2 <= most ? inOrder([next, "…"]) : orDots(next, most);
+}
+
+// The last value of an output, and whether there are others before it.
+function lastText({ count, last }, most) {
+  const text = count > 1 ? `… ${briefly(last)}` : briefly(last);
+  return orDots(text, most);
+}
+
+// Changes what is there only if it is another thing: the browser lays out and paints what was touched.
+function alter(element, key, value) {
+  if (element.getAttribute(key) !== value) element.setAttribute(key, value);
+}
+
+function say(element, text) {
+  if (element.textContent !== text) element.textContent = text;
 }
 
 export class Picture {
   constructor(place) {
-    Object.assign(this, { place, choose: () => {} });
+    Object.assign(this, { place, scale: 1, choose: () => {} });
+    this.view = new View(place, MOST_SCALE, (scale) => this.scaled(scale));
   }
 
   draw(wiring) {
-    const [laid, scale] = fitted(wiring, this.place.clientWidth - 24, this.place.clientHeight - 20);
-    Object.assign(this, { wiring, laid, scale });
+    const laid = fitted(wiring, this.place.clientWidth - 20, this.place.clientHeight - 20);
+    Object.assign(this, { wiring, laid });
     const size = { viewBox: "0 0 9 8", refX: 8, refY: 4, markerWidth: 9, markerHeight: 8, markerUnits: "userSpaceOnUse", orient: "auto" };
     const heads = ["", "now", "ring", "chain"].map((it) => svg("marker", { id: `head${it}`, class: it, ...size }, svg("path", { d: "M0 0L9 4L0 8z" })));
     this.arrows = laid.edges.map((it) => this.arrow(it));
-    this.boxes = laid.nodes.filter((it) => it.isBox).map((it) => this.box(it));
-    const words = laid.nodes.filter((it) => it.word).map((it) => svg("text", { x: it.x, y: it.y + 4, class: "end" }, it.word));
-    const room = { width: Math.round(laid.width * scale), height: Math.round(laid.height * scale), viewBox: `0 0 ${laid.width} ${laid.height}` };
-    this.svg = svg("svg", { ...room, "aria-hidden": "true" }, svg("defs", {}, ...heads),
+    this.boxes = laid.boxes.map((it) => this.box(it));
+    const words = laid.edges.filter((it) => it.word).map(({ word, wordAt: [x, y] }) => svg("text", { x, y, class: "end" }, word));
+    this.svg = svg("svg", { class: "whole", "aria-hidden": "true" }, svg("defs", {}, ...heads),
       ...this.arrows.map((it) => it.line), ...words, ...this.boxes.map((it) => it.group), ...this.arrows.map((it) => it.label));
-    this.place.replaceChildren(this.svg);
+    this.view.open(this.svg, laid, laid.boxes, laid.isDown ? READABLE : 0);
+    this.place.replaceChildren(this.svg, ...(this.view.small ? [this.view.small.element] : []));
   }
 
-  arrow({ number, path, labelX, fromY }) {
-    const channel = this.wiring.channels[number], shown = svg("path", { d: path, class: channel.isLogical ? "line dashed" : "line" });
+  // What is drawn depends on how large its letters are: all, names without values, or only numbers of processes, colours and rings.
+  scaled(scale) {
+    this.scale = scale;
+    alter(this.svg, "class", `whole ${scale >= READABLE ? "all" : scale >= NAMED ? "names" : "numbers"}`);
+  }
+
+  arrow({ number, path, nameAt, valuesAt: [x, y], isBack }) {
+    const channel = this.wiring.channels[number], kind = channel.isLogical ? "line dashed" : "line";
+    const shown = svg("path", { d: path, class: kind, "marker-end": "url(#head)" });
     const line = svg("g", { class: "arrow" }, svg("path", { d: path, class: "touch" }), shown);
-    const count = svg("text", { class: "count", y: fromY + 14, x: labelX }), last = svg("text", { class: "last", y: fromY + 14 }), tip = svg("title");
-    const label = svg("g", { class: "label" }, svg("text", { x: labelX, y: fromY - 6, class: "name" }, channel.name), count, last, tip);
+    const count = svg("text", { class: "count", y, x }), last = svg("text", { class: "last", y }), tip = svg("title");
+    const label = svg("g", { class: "label" }, svg("text", { x: nameAt[0], y: nameAt[1], class: "name" }, channel.name), count, last, tip);
     for (const it of [line, label]) it.addEventListener("click", () => this.choose({ channel: number }));
-    return { line, shown, label, count, last, tip, labelX };
+    return { line, shown, label, count, last, tip, labelX: x, isBack };
   }
 
   box(node) {
@@ -67,55 +100,58 @@ export class Picture {
     const state = svg("text", { class: "state", x: left + 24, y: row });
     const number = svg("tspan", { class: "number" }, String(node.number));
     const title = svg("text", { class: "title", x: left + 10, y: middle - 6 }, number, svg("tspan", { dx: 6 }, node.name));
-    const parts = [frame(5, "halo"), frame(0, "frame"), title, icon, state, tip];
+    const far = svg("text", { class: "far", x, y: y + 9 }, String(node.number));
+    const parts = [frame(5, "halo"), frame(0, "frame"), title, icon, state, far, tip];
     if (node.prints) parts.push(svg("path", { class: "prints", d: slip }));
     if (node.values) parts.push(svg("text", { class: "values", x: left + 10, y: middle + 10 }, node.values));
-    const group = svg("g", {}, ...parts);
+    const group = svg("g", { class: "box" }, ...parts);
     group.addEventListener("click", () => this.choose({ process: node.i }));
     return { group, icon, state, tip, node };
   }
 
   // isResult: the end of a run in which something is red, so that nothing is blue.
   update(moment, chosen, isResult) {
-    for (const it of this.boxes) this.updateBox(it, moment, chosen, !isResult && moment.mover === it.node.i);
+    this.boxes.forEach((it, i) => this.updateBox(it, moment, chosen, !isResult && moment.mover === it.node.i, this.view.small?.marks[i]));
     const waits = new Map(moment.processes.map((it, i) => [it.state === "waits" ? it.on : "", moment.ring.has(i)]));
     this.arrows.forEach((it, number) => {
-      const channel = this.wiring.channels[number], { name } = channel, isRing = waits.get(name) === true, isNow = !isResult && moment.event?.channel === number;
-      const isChain = chosen.channels.includes(number);
-      const classes = classesOf(waits.has(name) && "dry", isRing && "ring", isNow && "now", isChain && "chain", chosen.channel === number && "chosen");
-      it.line.setAttribute("class", `arrow ${classes}`);
-      it.label.setAttribute("class", `label ${classes}`);
-      it.shown.setAttribute("marker-end", `url(#head${isNow ? "now" : isRing ? "ring" : isChain ? "chain" : ""})`);
+      const channel = this.wiring.channels[number], { name } = channel, isRing = waits.get(name) === true;
+      const isNow = !isResult && moment.event?.channel === number, isChain = chosen.channels.includes(number), isChosen = chosen.channel === number;
+      const classes = classesOf(waits.has(name) && "dry", isRing && "ring", isNow && "now", isChain && "chain", isChosen && "chosen");
+      alter(it.line, "class", classesOf("arrow", classes));
+      alter(it.label, "class", classesOf("label", classes));
+      alter(it.shown, "marker-end", `url(#head${isNow ? "now" : isRing ? "ring" : isChain ? "chain" : ""})`);
       this.updateLabel(it, channel, moment.streams[number]);
     });
   }
 
-  updateBox({ group, icon, state, tip, node }, moment, chosen, isNow) {
+  updateBox({ group, icon, state, tip, node }, moment, chosen, isNow, mark) {
     const it = moment.processes[node.i], isChain = chosen.processes.includes(node.i);
     const isRing = moment.ring.has(node.i), isChosen = chosen.process === node.i;
-    group.setAttribute("class", classesOf("box", it.state, isRing && "ring", isNow && "now", isChain && "chain", isChosen && "chosen"));
-    icon.setAttribute("d", ICONS[it.state]);
-    state.textContent = stateText(it);
-    tip.textContent = `${node.number} ${node.name}: ${stateWords(it)}, after ${numbered(it.events)} events`;
+    const classes = classesOf("box", it.state, isRing && "ring", isNow && "now", isChain && "chain", isChosen && "chosen");
+    alter(group, "class", classes);
+    if (mark) alter(mark, "class", classes);
+    alter(icon, "d", ICONS[it.state]);
+    say(state, stateText(it));
+    say(tip, `${node.number} ${node.name}: ${stateWords(it)}, after ${numbered(it.events)} events`);
   }
 
   // What is below an arrow: how many values wait, and which; of an output, how many it has, and the last one. At the end of a run whose
   // inner channels weren't kept, nothing.
-  updateLabel({ count, last, tip, labelX }, { name, role }, stream) {
-    const isOutput = role === "output", isKnown = isOutput || stream.taken !== undefined, waiting = isOutput ? stream.count : stream.count - stream.taken;
+  updateLabel({ count, last, tip, labelX, isBack }, { name, role }, stream) {
+    const isOutput = role === "output", isKnown = isOutput || stream.taken !== undefined;
+    const waiting = isOutput ? stream.count : stream.count - stream.taken;
     const number = isKnown && waiting ? shortly(waiting) : "", room = this.laid.shown - number.length;
-    count.textContent = number;
-    last.textContent = !number ? "" : isOutput ? `${stream.count > 1 ? "… " : ""}${clipped(stream.last, room - 2)}` : waitingText(stream, room);
-    last.setAttribute("x", labelX + LETTER * number.length + 8);
-    const more = isOutput ? (stream.count ? `, the last is ${stream.last}` : "") : `, ${numbered(stream.taken ?? 0)} taken, ${numbered(waiting)} wait`;
-    tip.textContent = isKnown ? `${name}: ${numbered(stream.count)} sent${more}` : name;
+    say(count, number);
+    say(last, !number ? "" : isOutput ? lastText(stream, room) : waitingText(stream, room, isBack));
+    alter(last, "x", String(labelX + LETTER * number.length + 8));
+    const newest = stream.count ? `, the last is ${stream.last}` : "";
+    const more = isOutput ? newest : `, ${numbered(stream.taken ?? 0)} taken, ${numbered(waiting)} wait`;
+    say(tip, isKnown ? `${name}: ${numbered(stream.count)} sent${more}` : name);
   }
 
-  // Scrolls so far that the boxes are seen.
-  reveal(numbers) {
-    const there = this.boxes.filter((it) => numbers.includes(it.node.i));
-    if (!there.length) return;
-    const y = Math.min(...there.map((it) => it.node.y)) * this.scale, { scrollTop, clientHeight } = this.place;
-    if (y < scrollTop + 20 || y > scrollTop + clientHeight - 40) this.place.scrollTop = y - clientHeight / 2;
+  // Moves the picture so far that the first of these boxes is seen.
+  reveal([number]) {
+    const box = this.boxes[number];
+    if (box) this.view.reveal(box.node);
   }
 }

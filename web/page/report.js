@@ -34,6 +34,16 @@ export class Stream {
     return (this.kept ??= this.text.split(" ", MOST_VALUES + 1).slice(1));
   }
 
+  // The value of a row, also behind those that are kept.
+  valueAt(row) {
+    if (row < MOST_VALUES) return this.values[row];
+    if (row === this.count - 1) return this.last;
+    let from = 0;
+    for (let i = 0; i <= row; i++) from = this.text.indexOf(" ", from) + 1;
+    const end = this.text.indexOf(" ", from);
+    return this.text.slice(from, end < 0 ? undefined : end);
+  }
+
   get last() {
     return this.text.slice(this.text.lastIndexOf(" ") + 1);
   }

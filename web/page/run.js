@@ -7,9 +7,9 @@ import { faultOf, readWhy } from "./why.js";
 import { wiringOf } from "./wiring.js";
 
 const FIRST_PART = 1000000n, GROWTH = 4n;
-// So many first steps of a run can be looked at, of a run of so many events all channels are kept to its end, and so many bytes of a program
-// the module explains without more of a stack.
-const MOST_STEPS = 20000, MOST_WHOLE = 1000000, MOST_EXPLAINED = 32768;
+// A run of so many events is kept whole, and each of its steps can be looked at; of a longer one so many first steps can. Of a program the
+// module explains so many bytes without more of a stack.
+const MOST_WHOLE = 1000000, MOST_STEPS = 20000, MOST_EXPLAINED = 32768;
 // The most events of a turn, as in the run whose report is shown.
 export const QUANTUM = 1000;
 const MILLISECONDS_TO_LEARN = 12000, MOST_REPORTS = 8;
@@ -24,14 +24,15 @@ function* parts(bound) {
 
 const isLong = (texts) => new TextEncoder().encode(texts.program).length > MOST_EXPLAINED;
 
-// Why a text is refused, what it is warned of, or why a run of it with this bound and this report ended; and how its network is wired.
+// Why a text is refused, what it is warned of, or why a run of it with this bound and this report ended; and how its network is wired, also if
+// only its input is refused.
 async function explained(runner, texts, bound, report) {
   const isRefused = !isReport(report);
   const words = isLong(texts) ? "" : await runner.ask("explain", { ...texts, bound });
   const why = readWhy(words, texts);
   if (isRefused && !why.marks.some((it) => it.severity === "error")) why.marks.push(faultOf(report, texts));
-  const wiring = isRefused ? undefined : wiringOf(texts.program, await runner.ask("draw", texts));
-  return { texts, isRefused, why, wiring, isLong: isLong(texts) };
+  const wiring = wiringOf(texts.program, await runner.ask("draw", texts));
+  return { texts, isRefused, why, wiring: isRefused && !wiring.processes.length ? undefined : wiring, isLong: isLong(texts) };
 }
 
 // A run of no events.
@@ -76,13 +77,12 @@ const said = ({ ends, verdict }) => JSON.stringify([ends, verdict]);
 class Run {
   constructor(runner, values) {
     const report = readReport(values.text), { events } = report.verdict;
-    Object.assign(this, values, { runner, report, events, steps: Math.min(events, MOST_STEPS), quantum: QUANTUM, reports: new Map() });
+    Object.assign(this, values, { runner, report, events, steps: events > MOST_WHOLE ? MOST_STEPS : events, quantum: QUANTUM, reports: new Map() });
   }
 
   async begun() {
     const first = await this.reportAt(this.steps), isLast = this.steps === this.events;
-    const whole = isLast ? first : this.events <= MOST_WHOLE ? await this.wholeAt(this.events) : undefined;
-    this.end = whole && said(whole) === said(this.report) ? whole : undefined;
+    this.end = isLast && said(first) === said(this.report) ? first : undefined;
     this.isCut = !isLast || !this.end;
     this.last = this.isCut ? this.steps + 1 : this.steps;
     const told = new Map(this.report.streams.map((it) => [it.name, it]));
@@ -117,10 +117,10 @@ class Run {
     return reports.get(k);
   }
 
-  // The network after k events; k past the steps is the end of a run that is cut.
+  // The network after k events; k past the steps is the end of a run that is cut. `step` is k, and `k` how many events that are.
   async momentAt(k) {
     const report = k > this.steps ? this.final : await this.reportAt(k, true), before = k > 0 && k <= this.steps ? await this.reportAt(k - 1, true) : undefined;
-    return { ...momentOf(this, Math.min(k, this.events), report, before), isEnd: k === this.last };
+    return { ...momentOf(this, k > this.steps ? this.events : k, report, before), step: k, isEnd: k === this.last };
   }
 
   learnOrder(isWanted) {

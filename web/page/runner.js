@@ -2,7 +2,8 @@
 
 // The whole of the worker. A module that trapped is not called again.
 function work() {
-  let program, memory;
+  // `secret` is where 16 secret bytes are, under which the module hashes names.
+  let program, memory, secret;
   const reserve = (length) => {
     const at = program.room(BigInt(length));
     if (at === 0n) throw new Error("no memory");
@@ -27,7 +28,7 @@ function work() {
     const places = [put(text), put(input), put(new Uint8Array(16))];
     const start = performance.now(), told = () => new BigUint64Array(memory.buffer, places[2], 2);
     const report = filled((room, size) => {
-      program.kahn_web_run(places[0], BigInt(text.length), places[1], BigInt(input.length), bound, room, size, places[2]);
+      program.kahn_web_run(secret, places[0], BigInt(text.length), places[1], BigInt(input.length), bound, room, size, places[2]);
       return told()[1];
     });
     const status = Number(told()[0]), milliseconds = performance.now() - start;
@@ -36,7 +37,7 @@ function work() {
   };
   const made = (call, texts, ...numbers) => {
     const places = texts.map(put), words = texts.flatMap((it, i) => [places[i], BigInt(it.length)]);
-    const text = filled((room, size) => call(...words, ...numbers, room, size));
+    const text = filled((room, size) => call(secret, ...words, ...numbers, room, size));
     places.forEach((it) => program.done(BigInt(it)));
     return text;
   };
@@ -52,6 +53,7 @@ function work() {
       if (data.module) {
         program = (await WebAssembly.instantiate(data.module)).exports;
         memory = program.memory;
+        secret = put(crypto.getRandomValues(new Uint8Array(16)));
         postMessage({ answer: "ready" });
       } else {
         postMessage({ answer: calls[data.call]([bytesOf(data.program), bytesOf(data.input)], data) });

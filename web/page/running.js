@@ -3,12 +3,12 @@
 import { showLegend } from "./choosing.js";
 import { at, made, numbered, svg } from "./elements.js";
 import { example } from "./examples.js";
-import { placeButton, quoted, remark, showProblems } from "./marking.js";
+import { eitherButtons, quoted, remark, showProblems } from "./marking.js";
 import { checked, QUANTUM, ran, STOPPED } from "./run.js";
 import { lacking } from "./runner.js";
 import { showInput } from "./showing.js";
 import { boundOf, checker, input, isSame, MOST_BOUND, NOTHING, page, picture, plots, program, runner, store, table, texts } from "./state.js";
-import { asked, go, showScore, showSteps, stopPlaying, update } from "./steps.js";
+import { asked, drawPicture, go, showScore, showSteps, stopPlaying, update } from "./steps.js";
 import { clearAddress } from "./store.js";
 import { toast } from "./texts.js";
 import { refusedVerdict, verdictOf } from "./verdict.js";
@@ -16,7 +16,7 @@ import { wiringInWords } from "./wiring.js";
 
 // Milliseconds after the last key until the text is checked, and of a run until it is said that it goes on.
 const PAUSE = 180, PATIENCE = 250;
-const MOST_PLACES = 6, MOST_SHOWN = 20000;
+const MOST_SPOTLINES = 4, MOST_SHOWN = 20000;
 const CIRCLE = "M10 1a9 9 0 110 18 9 9 0 010-18z", OCTAGON = "M6.5 1h7L19 6.5v7L13.5 19h-7L1 13.5v-7z", PENCIL = "M3 17l1-4L14 3l3 3L7 16z";
 const SIGNS = {
   finished: `${CIRCLE}M5.6 10.4l3 3 6-6.4`, deadlock: `${OCTAGON}M6 10h8`, fault: `${OCTAGON}M10 5v6M10 13.5v1.5`, refused: `${OCTAGON}M10 5v6M10 13.5v1.5`,
@@ -28,11 +28,15 @@ function goOn() {
   runTexts();
 }
 
-function tell({ kind, title, text, places = [], lead = "", canGoOn }) {
+const spotLine = ({ lead, places }) => made("span", { className: "spot" }, ` ${lead}`, ...eitherButtons(places));
+
+function tell({ kind, title, text, spots = [], canGoOn }) {
   at("verdict").className = kind;
   at("sign").replaceChildren(svg("path", { d: SIGNS[kind] }));
   at("status").textContent = title;
-  at("details").replaceChildren(...quoted(text), ...places.slice(0, MOST_PLACES).flatMap((it, i) => [i ? " " : ` ${lead} `, placeButton(it)]));
+  const rest = spots.length > MOST_SPOTLINES ? [` The tab Waits has ${numbered(spots.length - MOST_SPOTLINES)} more.`] : [];
+  at("details").replaceChildren(...quoted(text), ...spots.slice(0, MOST_SPOTLINES).map(spotLine), ...rest);
+  at("details").classList.toggle("several", spots.length > 1);
   const actions = [];
   if (kind === "edited") actions.push(made("button", { className: "main", onclick: runTexts }, "Run"));
   if (canGoOn && boundOf() <= MOST_BOUND / 10n) actions.push(made("button", { onclick: goOn }, "Ten times the bound"));
@@ -99,7 +103,8 @@ function showRefused({ why }) {
 
 function showChanged() {
   stale();
-  tell({ kind: "edited", title: "Changed since the last run", text: "What is shown below is of the texts before." });
+  if (page.run) tell({ kind: "edited", title: "Changed since the last run", text: "What is shown below is of the texts before." });
+  else tell({ kind: "edited", title: "Not run yet", text: "The texts have no mistake." });
 }
 
 async function check() {
@@ -109,7 +114,8 @@ async function check() {
   try {
     const about = await checked(checker, given);
     if (!isSame(given, texts())) return;
-    if (about.wiring) showInput(about.wiring);
+    showInput(about.wiring);
+    if (!page.run) showNetwork(about.wiring);
     showCheck(about);
     if (about.isRefused) showRefused(about);
     else if (page.run && isSame(page.run.texts, given) && isBound) showVerdict();
@@ -154,11 +160,38 @@ function showFailure(message) {
   else fail(message);
 }
 
+// Shows no run any more.
+function forget() {
+  stale(false);
+  Object.assign(page, { run: undefined, moment: undefined, chosen: NOTHING });
+  at("chain").hidden = true;
+}
+
+// Shows the network of texts that weren't run, or that there is none yet.
+function showNetwork(wiring) {
+  at("results").dataset.shows = wiring ? "network" : "nothing";
+  showWiring(wiring);
+  if (wiring) drawPicture();
+}
+
+// The network in words, and the one that is drawn next.
+function showWiring(wiring) {
+  const { processes, channels } = wiring ?? NOTHING;
+  Object.assign(page, { wiring, width: undefined });
+  at("wiring").replaceChildren(...(wiring ? wiringInWords(wiring) : []).map((it) => made("li", {}, it)));
+  at("picture").setAttribute("aria-label", `Picture of the network: ${processes.length} processes and ${channels.length} channels`);
+}
+
 function showOutcome(about, number) {
   busy(false);
   if (!about.isRefused) {
     showRun(about, number);
     return;
+  }
+  showInput(about.wiring);
+  if (!page.run || page.isOther || about.wiring) {
+    forget();
+    showNetwork(about.wiring);
   }
   showCheck(about);
   showRefused(about);
@@ -176,11 +209,11 @@ function shownOf(text) {
 
 async function showRun(run, number) {
   const isOld = !isSame(run.texts, texts()), { wiring } = run;
-  Object.assign(page, { run, moment: undefined, chosen: NOTHING, width: undefined });
+  Object.assign(page, { run, moment: undefined, chosen: NOTHING, isOther: false });
+  at("results").dataset.shows = "run";
   showVerdict();
   if (!isOld) showCheck(run);
-  at("wiring").replaceChildren(...wiringInWords(wiring).map((it) => made("li", {}, it)));
-  at("picture").setAttribute("aria-label", `Picture of the network: ${wiring.processes.length} processes and ${wiring.channels.length} channels`);
+  showWiring(wiring);
   showStreams();
   showLegend();
   if (!isOld) showInput(wiring);
@@ -199,10 +232,12 @@ async function showRun(run, number) {
   showOrder(run);
 }
 
-// Who did each event, once that is known.
+// Who did each event, as far as it is known by then.
 async function showOrder(run) {
   const { number } = page, { timeline } = run, isWanted = () => number === page.number && page.run === run && run.timeline === timeline;
-  if (!(await asked(run.learnOrder(isWanted))) || !isWanted()) return;
+  await asked(run.learnOrder(isWanted));
+  if (!isWanted()) return;
+  page.isOrdered = true;
   showScore();
   if (page.moment) update();
 }

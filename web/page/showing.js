@@ -2,14 +2,14 @@
 
 import { at } from "./elements.js";
 import { input, page, plots, store } from "./state.js";
-import { showScore, update } from "./steps.js";
+import { drawPicture, showScore, update } from "./steps.js";
 
 export const TABS = ["table", "plots", "waits", "report"];
 
 export function show(pane) {
   document.body.dataset.pane = pane;
   document.querySelectorAll("#panes button").forEach((it) => it.setAttribute("aria-current", it.dataset.to === pane));
-  if (page.moment && pane !== "texts") requestAnimationFrame(fit);
+  if (page.wiring && pane !== "texts") requestAnimationFrame(fit);
 }
 
 export function showTab(name) {
@@ -25,19 +25,28 @@ export function showTab(name) {
   if (page.moment) update();
 }
 
+// What the signs of the picture mean, below it.
+export function showSigns(isShown) {
+  at("legend").hidden = !isShown;
+  at("signs").setAttribute("aria-expanded", isShown);
+}
+
 // What depends on the size of the window is drawn again.
 export function fit() {
+  if (!page.run) drawPicture();
   if (!page.moment) return;
   showScore();
   if (page.tab === "plots") plots.draw();
   update();
 }
 
-// The field of the input is there if the program has an input, or the field a text.
-export function showInput({ channels }) {
-  const names = channels.filter((it) => it.role === "input").map((it) => it.name), isThere = names.length > 0 || input.text.trim() !== "";
+// The field of the input is there if the program has an input, or the field a text. Of a program with a mistake it isn't known whether it has
+// an input: then the field stays as it was.
+export function showInput(wiring) {
+  const names = wiring?.channels.filter((it) => it.role === "input").map((it) => it.name) ?? [], isKnown = Boolean(wiring);
+  const isThere = names.length > 0 || input.text.trim() !== "" || (!isKnown && !at("texts").classList.contains("alone"));
   at("texts").classList.toggle("alone", !isThere);
-  at("noInput").hidden = isThere;
-  at("inputs").textContent = names.length ? `values of ${names.join(", ")}` : "this program has no input channel";
+  at("noInput").hidden = isThere || !isKnown;
+  at("inputs").textContent = names.length ? `values of ${names.join(", ")}` : isKnown ? "this program has no input channel" : "";
   at("input").placeholder = `${names[0] ?? "A"}: 1 2 3`;
 }

@@ -17,10 +17,11 @@ export const input = new Editor(at("input"), at("inputInk"), { isProgram: false 
 export const picture = new Picture(at("picture")), table = new Table(at("table")), plots = new Plots(at("plots"));
 
 // run: what is shown, isOld: of texts before; moment: at event k; chosen: by a press; check: what is marked; number: of the newest run;
-// width: for which the picture was drawn; name: of the example that the texts are.
+// width: for which the picture was drawn; name: of the example that the texts are; wiring: of the network that is drawn; isOrdered: whether it
+// is known who did the events; isOther: whether the texts were put in place of others since the run.
 export const page = {
   run: undefined, isOld: false, moment: undefined, k: 0, chosen: NOTHING, check: undefined, number: 0, width: undefined,
-  tab: store.state.tab ?? "table", name: "",
+  wiring: undefined, isOrdered: false, isOther: false, tab: store.state.tab ?? "table", name: "",
 };
 
 // The bound, which may be written like 1e6; none if the field has no such number.

@@ -2,7 +2,7 @@
 
 import { chosenOf, showChain, showWaits } from "./choosing.js";
 import { at, made, numbered, svg } from "./elements.js";
-import { atEnd, isBad, placeButton, remark } from "./marking.js";
+import { eitherButtons, isBad, remark } from "./marking.js";
 import { onlyPlace } from "./moment.js";
 import { LET_GO, STOPPED } from "./run.js";
 import { fail } from "./running.js";
@@ -11,18 +11,21 @@ import { verdictOf } from "./verdict.js";
 
 // Seconds that a run plays for, and the milliseconds from one step to the next.
 const SECONDS_TO_PLAY = 14, QUICKEST = 40, SLOWEST = 500;
+// How dark a part of a run is drawn which several processes share.
+const SHARED = 0.45;
 // Of so many places in the text where an event can have been all are named, and of more none.
 const MOST_SPOTS = 3;
 // How many hundredths of the room the network's pane takes.
 const LEAST_NETWORK = 34, MOST_NETWORK = 58;
 const PLAYS = {
   toStart: "M3 3v12M15 3L6 9l9 6z", back: "M13 3L5 9l8 6z", play: "M4 2l12 7-12 7z", pause: "M5 3h3v12H5zM11 3h3v12h-3z", on: "M5 3l8 6-8 6z",
-  toEnd: "M15 3v12M3 3l9 6-9 6z",
+  toEnd: "M15 3v12M3 3l9 6-9 6z", entire: "M3 7V3h4M11 3h4v4M15 11v4h-4M7 15H3v-4",
 };
 
 export const playIcon = (name) => svg("svg", { viewBox: "0 0 18 18", width: 16, height: 16, "aria-hidden": "true" }, svg("path", { d: PLAYS[name] }));
 
 export function showSteps() {
+  page.isOrdered = false;
   at("slider").max = page.run.last;
   showScore();
 }
@@ -39,12 +42,10 @@ export function showScore() {
   context.fillStyle = style.getPropertyValue("--line");
   if (count <= 12) for (let i = 0; i < count; i++) context.fillRect(0, i * each + each / 2 - 0.5, width, 1);
   context.fillStyle = style.getPropertyValue("--faint");
-  const { order = [] } = run.timeline, scale = width / Math.max(1, run.last);
-  for (let from = 0; from < order.length; ) {
-    let to = from;
-    while (to < order.length && order[to] === order[from]) to += 1;
-    context.fillRect(from * scale, order[from] * each, Math.max(0.7, (to - from) * scale), Math.max(1, each - 1));
-    from = to;
+  const scale = width / Math.max(1, run.last);
+  for (const { low, high, movers } of page.isOrdered ? run.timeline.parts() : []) {
+    context.globalAlpha = movers.length > 1 ? SHARED : 1;
+    for (const it of movers) context.fillRect(low * scale, it * each, Math.max(0.7, (high - low) * scale), Math.max(1, each - 1));
   }
 }
 
@@ -74,7 +75,7 @@ function showEvent() {
   const { run, moment } = page, { event } = moment, isPast = page.k > run.steps;
   const words = event ? `${event.who} ${event.words}` : moment.k === 0 ? "nothing has happened yet" : "the end of the run";
   const whole = run.steps < run.events && !isPast ? ` of the first ${numbered(run.steps)} of ${numbered(run.events)}` : ` of ${numbered(run.events)}`;
-  const all = event?.places ?? [], places = all.length > MOST_SPOTS ? [] : all.flatMap((it, i) => [i ? " or " : " ", placeButton(it)]);
+  const all = event?.places ?? [], places = all.length > MOST_SPOTS ? [] : eitherButtons(all);
   at("slider").value = page.k;
   at("slider").setAttribute("aria-valuetext", `event ${numbered(moment.k)}: ${words}`);
   const parts = [made("b", {}, `Event ${numbered(moment.k)}`), made("span", { className: "hint" }, whole), " ", made("span", { className: "words" }, words)];
@@ -86,7 +87,7 @@ function showEvent() {
 // Scrolls the program to where it happens.
 function revealPlace() {
   if (document.activeElement === at("program")) return;
-  const place = isBad() ? verdictOf(page.run).places[0] : onlyPlace(page.moment.event);
+  const place = isBad() ? verdictOf(page.run).spots[0]?.places[0] : onlyPlace(page.moment.event);
   if (place) program.reveal(place.from);
 }
 
@@ -94,6 +95,7 @@ export function update() {
   const { run, moment, chosen } = page;
   drawPicture();
   if (page.width) picture.update(moment, chosen, isBad());
+  if (page.width && moment.mover >= 0 && !isBad()) picture.reveal([moment.mover]);
   showEvent();
   if (page.tab === "table") table.update(moment, chosen);
   if (page.tab === "plots") plots.update(moment, chosen);
@@ -107,12 +109,13 @@ export function update() {
 // Draws the network if the room has another width than before. Unless its height was chosen, the pane is as high as the picture.
 export function drawPicture() {
   const width = at("picture").clientWidth, isChosen = store.state.panes?.["--network"] !== undefined, room = at("results").clientHeight;
-  if (page.width === width || !width) return;
+  if (!page.wiring || page.width === width || !width) return;
   page.width = width;
   if (!isChosen) at("main").style.setProperty("--network", `${MOST_NETWORK}%`);
-  picture.draw(page.run.wiring);
-  const rest = at("network").clientHeight - at("picture").clientHeight, wanted = (100 * (picture.svg.clientHeight + rest + 36)) / room;
+  picture.draw(page.wiring);
+  const rest = at("network").clientHeight - at("picture").clientHeight, wanted = (100 * (picture.laid.height * picture.scale + rest + 36)) / room;
   if (!isChosen) at("main").style.setProperty("--network", `${Math.max(LEAST_NETWORK, Math.min(MOST_NETWORK, wanted))}%`);
+  picture.view.resized();
 }
 
 let playing;
@@ -127,7 +130,7 @@ export function play() {
   go(start);
   playing = setInterval(() => {
     if (page.k >= page.run.last) stopPlaying();
-    else if (page.moment.k === Math.min(page.k, page.run.events)) go(page.k + step);
+    else if (page.moment.step === page.k) go(page.k + step);
   }, every);
   showPlay();
 }

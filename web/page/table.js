@@ -1,46 +1,64 @@
-// The values of the streams as a table: a row for each place, a column for each stream.
+// The values of the streams as a table: a row for each place, a column for each stream. Outputs and prints come first.
 
 import { made, numbered } from "./elements.js";
-import { cameOf } from "./moment.js";
 
 // The height of a row, and how many rows beside those in sight are in the document.
-const ROW = 24, SPARE = 12;
-const ROLES_INSIDE = ["inner", "input"];
+const ROW = 24, SPARE = 8;
+// So many rows are kept between the head and the value of an event, and so many below it.
+const ABOVE = 2, BELOW = 1;
+const ORDER = ["output", "prints", "input", "inner"], ROLES_INSIDE = ["inner", "input"];
+
+const columnsOf = (streams) => streams.map((stream, i) => ({ stream, i })).sort((a, b) => ORDER.indexOf(a.stream.role) - ORDER.indexOf(b.stream.role) || a.i - b.i);
 
 export class Table {
   constructor(place) {
-    Object.assign(this, { place, streams: [], first: -1, choose: () => {}, goTo: () => {} });
+    Object.assign(this, { place, columns: [], cells: [], first: -1, choose: () => {}, goTo: () => {} });
     place.addEventListener("scroll", () => this.fill());
+    place.addEventListener("click", ({ target }) => this.click(target.closest("td")));
   }
 
   // isWhole: whether channels that are no outputs were kept to the end of the run.
   show(streams, isWhole, steps) {
+    this.columns = columnsOf(streams);
     this.rows = Math.max(0, ...streams.map((it) => it.values.length));
-    this.heads = streams.map((it) => {
-      const act = { className: "stream", title: "Its process and places", onclick: () => this.choose(it) };
-      return made("th", { scope: "col" }, made("button", act, it.name, made("small", {}, it.role)));
-    });
+    for (const it of this.columns) it.head = this.head(it.stream);
     this.body = made("tbody", {}, this.space(this.rows));
-    const head = made("thead", {}, made("tr", {}, made("th", { scope: "col", className: "place" }, "place"), ...this.heads));
+    const corner = made("th", { scope: "col", className: "place" }, "place");
+    this.top = made("thead", {}, made("tr", {}, corner, ...this.columns.map((it) => it.head)));
     const isCut = streams.some((it) => it.count > it.values.length), isPart = !isWhole && streams.some((it) => ROLES_INSIDE.includes(it.role));
     const words = [isCut && `The first ${numbered(this.rows)} values of each are shown.`, isPart && `Of channels that are no outputs, those of the first ${numbered(steps)} events.`];
-    this.place.replaceChildren(made("table", { "aria-rowcount": this.rows + 1 }, head, this.body));
-    if (isCut || isPart) this.place.prepend(made("p", { className: "hint" }, words.filter(Boolean).join(" ")));
-    Object.assign(this, { streams, moment: undefined, first: -1 });
+    this.hint = isCut || isPart ? made("p", { className: "hint" }, words.filter(Boolean).join(" ")) : undefined;
+    this.place.replaceChildren(...(this.hint ? [this.hint] : []), made("table", { "aria-rowcount": this.rows + 1 }, this.top, this.body));
+    Object.assign(this, { moment: undefined, cells: [], first: -1 });
   }
 
+  head(stream) {
+    const act = { className: "stream", title: "Its process and places", onclick: () => this.choose(stream) };
+    return made("th", { scope: "col" }, made("button", act, stream.name, made("small", {}, stream.role)));
+  }
+
+  // What is shown first after a run are its results, from the first row on; then the value of each step.
   update(moment, chosen) {
-    const isOther = moment !== this.moment;
-    Object.assign(this, { moment, chosen, first: -1 });
-    if (isOther) this.follow();
+    const isFirst = !this.moment, isOther = moment !== this.moment;
+    Object.assign(this, { moment, chosen });
+    if (isFirst) this.place.scrollTo(0, 0);
+    else if (isOther) this.follow();
     this.fill();
+    this.colour();
   }
 
-  // Scrolls to the newest value.
+  // Scrolls to the value that came or went.
   follow() {
-    const newest = Math.min(this.rows, Math.max(0, ...this.streams.map((it, i) => cameOf(it, this.moment.streams[i]))));
-    const { scrollTop, clientHeight } = this.place, y = newest * ROW;
-    if (y < scrollTop + 2 * ROW || y > scrollTop + clientHeight - 2 * ROW) this.place.scrollTop = y - clientHeight + 3 * ROW;
+    const { event, k } = this.moment, column = this.columns.find((it) => it.i === event?.stream);
+    if (!column) {
+      if (k === 0) this.place.scrollTop = 0;
+      return;
+    }
+    const { scrollTop, scrollLeft, clientHeight, clientWidth } = this.place, { offsetLeft, offsetWidth } = column.head, room = clientHeight - this.top.offsetHeight;
+    const corner = this.top.rows[0].cells[0].offsetWidth, y = (this.hint?.offsetHeight ?? 0) + event.row * ROW;
+    const isAbove = y < scrollTop + ABOVE * ROW, isBelow = y + (1 + BELOW) * ROW > scrollTop + room;
+    if (isAbove || isBelow) this.place.scrollTop = y - Math.max(0, Math.min(ABOVE * ROW, room - 2 * ROW));
+    if (offsetLeft < scrollLeft + corner || offsetLeft + offsetWidth > scrollLeft + clientWidth) this.place.scrollLeft = offsetLeft - corner - ROW;
   }
 
   // The rows in sight alone are in the document.
@@ -48,11 +66,11 @@ export class Table {
     if (!this.moment || !this.place.clientHeight) return;
     const first = Math.max(0, Math.floor(this.place.scrollTop / ROW) - SPARE);
     const last = Math.min(this.rows, first + Math.ceil(this.place.clientHeight / ROW) + 2 * SPARE);
-    if (first === this.first) return;
+    if (first === this.first && this.cells.length === last - first) return;
     this.first = first;
-    const rows = Array.from({ length: Math.max(0, last - first) }, (_, i) => this.row(first + i));
-    this.body.replaceChildren(this.space(first), ...rows, this.space(this.rows - last));
-    this.heads.forEach((it, i) => it.classList.toggle("chain", this.isChosen(this.streams[i])));
+    this.cells = Array.from({ length: Math.max(0, last - first) }, (_, i) => this.row(first + i));
+    this.body.replaceChildren(this.space(first), ...this.cells.map((it) => it.line), this.space(this.rows - last));
+    this.colour();
   }
 
   // The room of rows that aren't in the document.
@@ -61,15 +79,24 @@ export class Table {
   }
 
   row(row) {
-    const cells = this.streams.map((it, i) => {
-      const text = it.values[row], act = text === undefined ? {} : { onclick: () => this.goTo(i, row) };
-      return made("td", { className: `${this.kindOf(i, row)}${this.isChosen(it) ? " chain" : ""}`, ...act }, text ?? "");
-    });
-    return made("tr", { "aria-rowindex": row + 2 }, made("th", { scope: "row", className: "place" }, String(row + 1)), ...cells);
+    const each = this.columns.map(({ stream }) => made("td", {}, stream.values[row] ?? ""));
+    return { row, each, line: made("tr", { "aria-rowindex": row + 2 }, made("th", { scope: "row", className: "place" }, String(row + 1)), ...each) };
   }
 
-  kindOf(i, row) {
-    const { role, values } = this.streams[i], { streams, event } = this.moment, { count, taken } = streams[i];
+  // Gives each cell the class of its value; those that stay as they were aren't touched.
+  colour() {
+    const isChosen = this.columns.map((it) => this.isChosen(it.stream));
+    for (const { row, each } of this.cells) {
+      each.forEach((cell, i) => {
+        const kind = `${this.kindOf(this.columns[i], row)}${isChosen[i] ? " chain" : ""}`;
+        if (cell.className !== kind) cell.className = kind;
+      });
+    }
+    this.columns.forEach((it, i) => it.head.classList.toggle("chain", isChosen[i]));
+  }
+
+  kindOf({ i, stream: { role, values } }, row) {
+    const { streams, event } = this.moment, { count, taken } = streams[i];
     if (row >= values.length) return "none";
     if (event?.stream === i && event.row === row) return event.kind === "take" ? "took" : "newest";
     return row >= count ? "later" : ROLES_INSIDE.includes(role) && row >= taken ? "waiting" : "past";
@@ -77,5 +104,10 @@ export class Table {
 
   isChosen({ channel }) {
     return channel !== undefined && this.chosen.channels.includes(channel);
+  }
+
+  click(cell) {
+    const at = this.cells.find(({ each }) => each.includes(cell)), column = at && this.columns[at.each.indexOf(cell)];
+    if (column && column.stream.values[at.row] !== undefined) this.goTo(column.i, at.row);
   }
 }

@@ -18,7 +18,7 @@ export function put({ program: text, input: given, bound }, name) {
   input.replace(given);
   program.replace(text);
   at("bound").value = bound ?? BOUND;
-  page.name = name;
+  Object.assign(page, { name, isOther: true });
   showName();
   clearAddress();
   save();

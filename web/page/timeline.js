@@ -2,6 +2,9 @@
 // numbers only grow, and the events add up to the bound; so between two bounds of which only one process moved the events are known
 // without a run. Any other gap is halved until time is up.
 
+// In so many parts of a run is learnt who did its events: the strip that shows it has no more points.
+const MOST_PARTS = 1000;
+
 const total = (numbers) => numbers.reduce((sum, it) => sum + it, 0);
 const changed = (from, to) => from.flatMap((it, i) => (it === to[i] ? [] : [i]));
 
@@ -35,10 +38,10 @@ export class Timeline {
     return this.bounds.slice(1).map((high, i) => ({ low: this.bounds[i], high, from: this.known.get(this.bounds[i]), to: this.known.get(high) }));
   }
 
-  // Halves the gaps that are open until none is, the time is up or nobody wants it any more; says whether none is.
-  async close(isOpen, end, isWanted) {
+  // Halves the gaps that are open and wider than some events until none is, the time is up or nobody wants it any more; says whether none is.
+  async close(isOpen, end, isWanted, finest = 1) {
     for (;;) {
-      const open = this.gaps().filter((it) => it.high - it.low > 1 && isOpen(it.from, it.to));
+      const open = this.gaps().filter((it) => it.high - it.low > finest && isOpen(it.from, it.to));
       if (!open.length) return true;
       for (const { low, high } of open) {
         if (performance.now() > end) return false;
@@ -48,10 +51,16 @@ export class Timeline {
     }
   }
 
-  // Learns who did each event.
+  // Learns who did each event; of a long run, who did some in each of many parts.
   async learnOrder(milliseconds, isWanted) {
-    if (await this.close(isOrderOpen, performance.now() + milliseconds, isWanted)) this.order = this.ordered();
+    const finest = Math.ceil(this.steps / MOST_PARTS);
+    if ((await this.close(isOrderOpen, performance.now() + milliseconds, isWanted, finest)) && finest <= 1) this.order = this.ordered();
     return this.order !== undefined;
+  }
+
+  // The parts of the run as far as they are known: from which event to which, and the processes that did these.
+  parts() {
+    return this.gaps().map(({ low, high, from, to }) => ({ low, high, movers: changed(from.events, to.events) }));
   }
 
   ordered() {

@@ -1,6 +1,6 @@
 // Reads what the module tells of a text or a run: mistakes and warnings with their places, and why each process stopped.
 
-import { indexAt, lexemeAt, lexemeEnd } from "./places.js";
+import { indexAt, lexemeAt, lexemeEnd, placeWords } from "./places.js";
 
 const HEADING = /^(\w+):(\d+):(\d+): (error|warning|note): (.*)$/;
 const REASON = /^(\d+) (\w+) (waits on (\w+)|has a fault, (\w+)|wants more)(.*)$/;
@@ -49,8 +49,12 @@ export function readWhy(words, texts) {
       told.more.push(line);
     }
   });
+  for (const it of told.reasons.filter((one) => one.isMarked && one.places.length > 1)) it.words = ` at ${eitherWords(it.places)}${it.rest}`;
   return told;
 }
+
+// Some places in words: a process waits at one of them.
+const eitherWords = (places) => places.map(placeWords).join(", ").replace(/, (?=[^,]*$)/, " or ");
 
 // Of a wait the word alone is marked.
 const placeOf = (mark, kind, program) => (kind === "waits" ? lexemeAt(program, ...mark.spot.split(":").map(Number)) : mark);
@@ -63,7 +67,7 @@ function reasonOf([, number, name, , on, fault, rest], mark, program) {
   return {
     number: Number(number), name, kind, places, helps: [], from: from ? Number(from[1]) : undefined,
     isRing: /, in a deadlock/.test(rest), isForEver: /: for ever$/.test(rest), cause: cause ? Number(cause[1]) : undefined,
-    words: plain(`${mark && on ? ` at ${mark.spot}` : ""}${rest}`),
+    isMarked: Boolean(mark && on), rest: plain(rest), words: plain(`${mark && on ? ` at ${mark.spot}` : ""}${rest}`),
   };
 }
 
