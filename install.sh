@@ -7,10 +7,12 @@
 # The prefix may be given by the variable PREFIX too; without one it is /usr/local. DESTDIR, if it is set, is a folder that
 # stands before the prefix, which then begins with /, as a package is made in. Without DESTDIR it writes down what it installs, in
 # PREFIX/share/kahn/installed.sha256. --uninstall removes what is still as it was installed; if anything else stands in the place
-# of a file, or one can't be removed, it says so and gives 1.
+# of a file, or one can't be removed, it says so and gives 1. If a file can't be written, it installs none.
 set -eu
 umask 022
-top=$(CDPATH='' cd -- "$(dirname -- "${BASH_SOURCE[0]}")" && pwd)
+top=${BASH_SOURCE[0]}
+[[ $top = /* ]] || top=$PWD/${top#./}
+top=${top%/*}
 source "$top/release/program.sh"
 list=share/kahn/installed.sha256
 
@@ -26,13 +28,10 @@ files() {
   pages | cut -d ' ' -f 2
 }
 
-# listed FILE..: the hash and the name of each of these files below the prefix.
+# listed PATH FILE: the hash of what has this path, and the name of the file below the prefix.
 listed() {
-  local file
-  for file in "$@"; do
-    hash_of "$target/$file"
-    echo "$hash  $file"
-  done
+  hash_of "$1"
+  echo "$hash  $2"
 }
 
 # own: hash and name of what install.sh has put there: what it wrote down, and what this release installs.
@@ -40,8 +39,7 @@ own() {
   cat -- "$target/$list" 2> /dev/null || true
   sed 's,  ,  bin/,' "$top/release/programs.sha256"
   pages | while read -r page file; do
-    hash_of "$top/$page"
-    echo "$hash  $file"
+    listed "$top/$page" "$file"
   done
 }
 
@@ -51,7 +49,7 @@ uninstall() {
   own=$(own)
   for file in $(files); do
     [ -e "$target/$file" ] || [ -L "$target/$file" ] || continue
-    if [ -f "$target/$file" ] && [ ! -L "$target/$file" ] && grep -qxF "$(listed "$file")" <<< "$own" && rm -f -- "$target/$file"; then
+    if [ -f "$target/$file" ] && [ ! -L "$target/$file" ] && grep -qxF "$(listed "$target/$file" "$file")" <<< "$own" && rm -f -- "$target/$file"; then
       echo "$target/$file"
     else
       echo "install.sh: $target/$file isn't what was installed, or can't be removed: it stays" >&2
@@ -63,30 +61,57 @@ uninstall() {
   return $status
 }
 
-# put MODE FROM FILE: installs one of the files, in no folder of its name and through no link.
-put() {
-  install -D -m "$1" -T -- "$2" "$target/$3" && echo "$target/$3"
+# The files that are written and not yet in their places, each below the prefix; the file itself is beside its place until then.
+written=()
+
+# beside FILE: sets part to the path beside the place of a file where it is written first.
+beside() {
+  part=$target/${1%/*}/.${1##*/}.$$
 }
 
-# install_all: installs the files, and lists them, once it is known that all programs are there and no folder is in the way.
+# put MODE FROM FILE [HASH]: writes one of the files beside its place. With a hash only what has that is taken.
+put() {
+  local part
+  beside "$3"
+  written+=("$3")
+  install -D -m "$1" -T -- "$2" "$part" || exit 1
+  [ -z "${4:-}" ] || { hash_of "$part" && [ "$hash" = "$4" ]; } || refuse 1 "$2 was changed while it was installed"
+}
+
+# clear_parts: removes what is written and not in its place.
+clear_parts() {
+  local file part
+  for file in "${written[@]}"; do
+    beside "$file"
+    rm -f -- "$part"
+  done
+}
+
+# install_all: installs the files, and lists them, once it is known that all programs are there and no folder is in the way, and all of
+# them are written.
 install_all() {
-  local name page file paths=()
-  mkdir -p -- "$target/bin" 2> /dev/null && [ -w "$target/bin" ] || refuse 1 "$target can't be written; bash install.sh ~/.local wants no rights"
+  local name page file part hash
+  { mkdir -p -- "$target/bin" 2> /dev/null && [ -w "$target/bin" ]; } || refuse 1 "$target can't be written; bash install.sh ~/.local wants no rights"
   for file in $(files) "$list"; do
     [ ! -d "$target/$file" ] || refuse 1 "$target/$file is a folder"
   done
+  trap clear_parts EXIT
   for name in "${programs[@]}"; do
     find_built "$name" || exit $?
-    paths+=("$program")
+    put 755 "$program" "bin/$name" "$hash"
   done
-  for name in "${paths[@]}"; do put 755 "$name" "bin/${name##*/}"; done
-  pages | while read -r page file; do
+  while read -r page file; do
     case $file in bin/*) put 755 "$top/$page" "$file" ;; *) put 644 "$top/$page" "$file" ;; esac
-  done
+  done < <(pages)
   if [ -z "${DESTDIR:-}" ]; then
-    mapfile -t paths < <(files)
-    listed "${paths[@]}" | install -D -m 644 -T /dev/stdin "$target/$list"
+    put 644 <(for file in "${written[@]}"; do beside "$file"; listed "$part" "$file"; done) "$list"
   fi
+  for file in "${written[@]}"; do
+    beside "$file"
+    # in no folder of its name and through no link
+    mv -fT -- "$part" "$target/$file" || exit 1
+  done
+  for file in $(files); do echo "$target/$file"; done
 }
 
 uninstall=false

@@ -1,6 +1,6 @@
 #!/usr/bin/env bash
 # Makes the Debian package of what install.sh installs, with editors, examples and docs. Two calls make the same bytes. It
-# builds nothing.
+# builds nothing. In a clone it packs only files that git knows, in an unpacked archive what is there.
 #
 #   deb.sh [FOLDER]      into FOLDER, or release/out: kahn_VERSION_amd64.deb
 set -eu
@@ -19,6 +19,22 @@ chmod 755 "$root"
 # All files have one time, the midnight of a day of the first release.
 export SOURCE_DATE_EPOCH=1795564800
 
+# known: the files of the repository that can be packed, one a line.
+known() {
+  if [ -e "$top/.git" ]; then
+    env -u GIT_DIR -u GIT_WORK_TREE -u GIT_INDEX_FILE git -C "$top" -c safe.directory='*' -c core.quotePath=false ls-files docs editors examples
+  else
+    (cd -- "$top" && find docs editors examples -type f ! -name '.*' ! -name '*~' | LC_ALL=C sort)
+  fi
+}
+known=$(known) || { echo "deb.sh: git can't say which files are of the repository" >&2; exit 1; }
+
+# pack REGEX FOLDER: puts the known files whose paths fit in a folder below /usr.
+pack() {
+  local path
+  grep -xE "$1" <<< "$known" | while read -r path; do put "$2" "$top/$path"; done
+}
+
 # put FOLDER FILE..: files that are read, in a folder below /usr.
 put() {
   local folder="$root/usr/$1"
@@ -30,17 +46,14 @@ put() {
 DESTDIR="$root" bash "$top/install.sh" /usr > /dev/null || exit $?
 gzip -9n "$root"/usr/share/man/man*/*
 mv "$root/usr/share/zsh/site-functions" "$root/usr/share/zsh/vendor-completions"
-for name in vim vscode; do
-  (cd "$top/editors" && find "$name" -type f) | while read -r file; do put "share/kahn/editors/$(dirname "$file")" "$top/editors/$file"; done
-done
+grep -E '^editors/(vim|vscode)/' <<< "$known" | while read -r file; do put "share/kahn/$(dirname "$file")" "$top/$file"; done
 doc="share/doc/kahn"
 put "$doc" "$top/README.md"
-put "$doc/docs" "$top"/docs/*.md
-# as one calls what is installed
-sed -i 's,\./kahn,kahn,g; s,release/kahn\.html,/usr/share/kahn/kahn.html,g' "$root/usr/$doc/README.md" "$root/usr/$doc/docs"/*.md
+pack 'docs/[^/]+\.md' "$doc/docs"
 for kind in compiler ftdetect ftplugin syntax; do put "share/vim/vimfiles/$kind" "$top/editors/vim/$kind/kahn.vim"; done
-put "$doc/docs/pictures" "$top"/docs/pictures/*.{svg,png}
-put "$doc/examples" "$top"/examples/*
+pack 'docs/pictures/[^/]+\.(svg|png)' "$doc/docs/pictures"
+pack 'examples/[^/]+' "$doc/examples"
+bash "$top/release/pages.sh" "$root/usr/$doc"
 gzip -9n < "$top/CHANGELOG.md" > "$root/usr/$doc/NEWS.gz"
 install -m 644 "$top/LICENSE" "$root/usr/$doc/copyright"
 # filled FILE: a file of release/debian with what it leaves open.

@@ -15,11 +15,13 @@ class Launcher(Room):
     def setUp(self):
         super().setUp()
         os.chmod(self.folder, 0o755)
+        self.right = f"{self.folder}/right"
+        subprocess.run([os.environ.get("CC", "cc"), "-o", self.right, f"{HERE}/told.c"], check=True)
 
     def failed(self, name, launcher, folder):
         """The last thing that fails of a session by the launcher of a folder, or nothing."""
         tried = Tried(quiet=True)
-        sessions.try_session(f"{HERE}/{name}.t", "/usr/bin", f"{self.folder}/{folder}", "", tried, OF=launcher)
+        sessions.try_session(f"{HERE}/{name}.t", "/usr/bin", f"{self.folder}/{folder}", "", tried, OF=launcher, RIGHT=self.right)
         return tried.told or ("" if tried.passed else "nothing is tried")
 
     def failed_with(self, number, attack, file, edit):

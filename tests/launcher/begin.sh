@@ -1,4 +1,4 @@
-# shellcheck shell=bash
+# shellcheck shell=bash disable=SC2034,SC2031
 # Each command of the sessions here begins with this: a repository of a few sources whose programs say where they stand, with the launcher of
 # the folder OF, and a user with a home and little more. What that prints names folders as TREE, HOME and WORK.
 set -o pipefail
@@ -30,15 +30,22 @@ waits_for() {
   done
 }
 
-# pack: the programs of the release, each of which prints RIGHT, its name and where it stands.
+# tells WORDS FILE: makes the file a program that prints these words, and where it is.
+tells() {
+  local words
+  words=$(printf '%-24s' "$1" | sed 's/ /./2g')
+  LC_ALL=C sed "s/THE WORDS THAT IT PRINTS/$words/" "$RIGHT" > "$2" && chmod 755 "$2"
+}
+
+# pack: the programs of the release, each of which prints RIGHT, its name and where it is.
 pack() {
-  python3 -I - "$tree/release" "${programs[@]}" << 'P'
-import hashlib, lzma, sys
-for name in sys.argv[2:]:
-    text = f'#!/bin/sh\necho RIGHT {name} "$0"\n'.encode()
-    open(f"{sys.argv[1]}/{name}.xz", "wb").write(lzma.compress(text))
-    open(f"{sys.argv[1]}/programs.sha256", "a").write(f"{hashlib.sha256(text).hexdigest()}  {name}\n")
-P
+  local name
+  for name in "${programs[@]}"; do
+    tells "RIGHT $name" "packed.$name"
+    xz -0c "packed.$name" > "$tree/release/$name.xz"
+    echo "$(sha256sum < "packed.$name" | cut -d ' ' -f 1)  $name" >> "$tree/release/programs.sha256"
+    rm "packed.$name"
+  done
 }
 
 # make_tree: the repository.
@@ -46,7 +53,7 @@ make_tree() {
   local name
   mkdir -p "$tree"/{release,docs,editors,web} "$tree"/crates/kahn/{src,specs,proofs,out} "$home" evil tools
   cp -P "$OF"/kahn* "$OF/install.sh" "$tree"
-  cp "$OF"/release/*.sh "$TOP/release/kahn.html" "$tree/release"
+  cp "$OF"/release/*.sh "$TOP"/release/{kahn.html,page.sha256} "$tree/release"
   cp "$TOP/web/page.sh" "$tree/web"
   cp -r "$TOP/docs/man" "$tree/docs"
   cp -r "$TOP/editors/completions" "$tree/editors"

@@ -10,17 +10,17 @@ A program of the cache that was overwritten.
 
 No home.
   $ given env -u HOME ./kahn
-  kahn: no folder to unpack it in can be written by you and by nobody else: not release/out; XDG_CACHE_HOME names another place
+  kahn: it can't be unpacked: release/out: Permission denied; XDG_CACHE_HOME names another place
   [5]
 
 A cache without a root.
   $ given XDG_CACHE_HOME=tmp ./kahn
-  kahn: no folder to unpack it in can be written by you and by nobody else: not release/out; XDG_CACHE_HOME names another place
+  kahn: it can't be unpacked: release/out: Permission denied; XDG_CACHE_HOME names another place
   [5]
 
 A cache in a folder that all can write.
   $ mkdir -m 777 everybody; given XDG_CACHE_HOME="$PWD/everybody" ./kahn
-  kahn: no folder to unpack it in can be written by you and by nobody else: not release/out, nor WORK/everybody/kahn; XDG_CACHE_HOME names another place
+  kahn: it can't be unpacked: release/out: Permission denied; WORK/everybody/kahn: it isn't yours, or others may write it; XDG_CACHE_HOME names another place
   [5]
 
 A cache in a folder such as /tmp.
@@ -29,5 +29,18 @@ A cache in a folder such as /tmp.
 
 A cache that all can write.
   $ chmod 777 "$home/.cache/kahn"; given ./kahn
-  kahn: no folder to unpack it in can be written by you and by nobody else: not release/out, nor HOME/.cache/kahn; XDG_CACHE_HOME names another place
+  kahn: it can't be unpacked: release/out: Permission denied; HOME/.cache/kahn: it isn't yours, or others may write it; XDG_CACHE_HOME names another place
+  [5]
+
+A link to a folder of one's own.
+  $ rm -rf "$home/.cache"; mkdir disk; mine disk; ln -s "$PWD/disk" "$home/.cache"; given ./kahn
+  RIGHT kahn WORK/disk/kahn/HASH/kahn
+
+The same in a folder that all can write, where another can have made the link.
+  $ chmod 777 "$home"; given ./kahn; chmod 755 "$home"
+  kahn: it can't be unpacked: release/out: Permission denied; HOME/.cache/kahn: it isn't yours, or others may write it; XDG_CACHE_HOME names another place
+
+A file in the place of the cache.
+  $ rm "$home/.cache"; : > "$home/.cache"; given ./kahn
+  kahn: it can't be unpacked: release/out: Permission denied; HOME/.cache/kahn: Not a directory; XDG_CACHE_HOME names another place
   [5]

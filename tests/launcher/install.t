@@ -34,6 +34,15 @@ A link to nothing in the place of a program.
   [1]
   $ given bash install.sh "$PWD/link" > /dev/null; find link -name nowhere -o -type l
 
+A file that can't be written: none is installed, and what was there stays.
+  $ mkdir full; mine full; given bash install.sh "$PWD/full" > /dev/null; tells "OLD kahn" full/bin/kahn; rm full/bin/kahn_live
+  > given bash -c "ulimit -f 20; trap '' XFSZ; bash install.sh $PWD/full" > /dev/null; find full/bin -name '.*' -type f; given "$PWD/full/bin/kahn"; ls full/bin
+  OLD kahn WORK/full/bin/kahn
+  kahn
+  kahn_draw
+  kahn_explain
+  kahn_page
+
 An empty prefix.
   $ given bash install.sh ""
   install.sh: the prefix is empty

@@ -7,7 +7,7 @@ A program of another user.
 
 A cache of another user.
   $ fresh; chmod a-w "$tree/release"; given ./kahn > /dev/null; chown -R 60002 "$home/.cache/kahn"; given ./kahn
-  kahn: no folder to unpack it in can be written by you and by nobody else: not release/out, nor HOME/.cache/kahn; XDG_CACHE_HOME names another place
+  kahn: it can't be unpacked: release/out: Permission denied; HOME/.cache/kahn: it isn't yours, or others may write it; XDG_CACHE_HOME names another place
   [5]
 
 What another user noted of the sources.

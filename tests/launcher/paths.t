@@ -12,14 +12,14 @@ CDPATH and install.sh.
 
 A folder like an option.
   $ ln -s tree ./-tree; given bash -c 'cd .. && bash -- -tree/kahn'
-  RIGHT kahn WORK/-tree/release/out/kahn
+  RIGHT kahn TREE/release/out/kahn
 
 A folder like an option and install.sh.
   $ given bash -c 'cd .. && bash -- -tree/install.sh to' | head -n 1
   WORK/to/bin/kahn
 
 CDPATH and the scripts of release/.
-  $ given CDPATH="$PWD/elsewhere" bash release/deb.sh | cut -d : -f 1
+  $ given CDPATH="$PWD/elsewhere" bash release/deb.sh | tail -n 1 | cut -d : -f 1
   release/kahn.html isn't of these sources
   [1]
   $ given CDPATH="$PWD/elsewhere" bash release/make.sh | cut -d , -f 1
@@ -28,6 +28,16 @@ CDPATH and the scripts of release/.
   $ given CDPATH="$PWD/elsewhere" bash release/build.sh
   build.sh: the Rattle toolchain (rt) is not on the path
   [5]
+
+The page: that of the release, if it has its hash, and no other one beside the tree.
+  $ mkdir -p {tree/,}share/kahn; echo PLANTED | tee tree/share/kahn/kahn.html > share/kahn/kahn.html; given ./kahn_page
+  TREE/release/kahn.html
+  $ echo more >> "$tree/release/kahn.html"; given ./kahn_page
+  kahn_page: TREE/release/kahn.html isn't the page that was released: release/page.sha256 has another hash
+  [1]
+  $ rm "$tree/release/kahn.html"; given ./kahn_page
+  kahn_page: there is no kahn.html for TREE
+  [1]
 
 A link of another name.
   $ ln -s "$tree/kahn_draw" links/draw; given "$PWD/links/draw"

@@ -26,8 +26,12 @@ The folder as it was.
   RIGHT kahn TREE/release/out/kahn
 
 A further source.
-  $ echo > "$source crates.txt"; given ./kahn; rm "$source crates.txt"
+  $ echo > "$source crates.rt"; given ./kahn; rm "$source crates.rt"
   kahn: these sources have no release:
+
+What editors leave beside a source is none.
+  $ (cd "$tree/crates/kahn/src"; for it in .main.rt.swp main.rt~ '#main.rt#' .DS_Store ._main.rt; do : > "$it"; done; ln -s user@host .#main.rt); given ./kahn
+  RIGHT kahn TREE/release/out/kahn
 
 Another list of the release.
   $ echo "crates/kahn/src/a b" >> "$tree/release/sources.sha256"; given ./kahn

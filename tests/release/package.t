@@ -34,5 +34,9 @@ Lintian has nothing against it, if that is there; no file is anybody's to write.
   $ ! command -v lintian > /dev/null || lintian --allow-root --fail-on none -E first/*.deb 2> /dev/null | grep '^[EW]:' || true
   $ find root/usr -perm /022 -not -type l | head -n 3
 
+Its pages name only what it installs, and their commands print what they show.
+  $ python3 pages.py root/usr
+  all passed
+
 Nothing is left.
   $ in_root --purge kahn; find root -mindepth 1 -not -path 'root/var*'
