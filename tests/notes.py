@@ -12,6 +12,7 @@ from common import TOP, read, write
 
 HEAD = re.compile(r"^[\w.-]+:(\d+:\d+: (?:error|warning|note): .*)$", re.M)
 PUT = re.compile(r"= fix: (?:remove `.*`|(?:insert|replace `.*?` with) `(.*?)`(?= at | after | before |$))", re.M)
+MORE = re.compile(r"^and \d+ (?:fault|warning)s? more$", re.M)
 UNSHOWN = re.compile("[\x00-\x1f\x7f-\x9f\u061c\u200b-\u200f\u2028-\u202e\u2060-\u206f\ufeff]")
 MISTAKES, WARNINGS, ROWS = (f"{TOP}/checks/{name}" for name in ("mistakes", "warnings", "rows"))
 
@@ -37,12 +38,15 @@ def note_of(path, given, words):
 
 
 def data_of(data, shown):
-    """The status, the headings and the changes of notes as data, and of the same notes as they are shown."""
-    notes = [json.loads(line) for line in data[1].splitlines()]
+    """The status, the headings, the changes and how many more there are, of notes as data, and of the same notes as they are shown."""
+    every = [json.loads(line) for line in data[1].splitlines()]
+    notes = [it for it in every if not MORE.match(it["words"])]
+    more = [it["words"] for it in every if MORE.match(it["words"])]
     heads = [f"{it['line']}:{it['column']}: {it.get('sort', 'note')}: {it['words']}" for note in notes for it in (note, *note["others"])]
     put = [it["fix"]["put"].strip() for it in notes if it["fix"]]
     told = shown[1].decode()
-    return (data[0], [UNSHOWN.sub("\ufffd", it) for it in heads], put), (shown[0], HEAD.findall(told), [it.strip() for it in PUT.findall(told)])
+    seen = (data[0], [UNSHOWN.sub("\ufffd", it) for it in heads], put, more)
+    return seen, (shown[0], HEAD.findall(told), [it.strip() for it in PUT.findall(told)], MORE.findall(told))
 
 
 def try_mistakes(program, words, tried):

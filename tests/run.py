@@ -8,6 +8,7 @@ run.py [-k WORD] [--write] [--here] [PART ..]
     sessions    commands and what they print, tests/*/*.t (sessions.py)
     pages       the commands of the README and of docs/; with --here in this tree, by its own programs
     notes       kahn_explain on checks/mistakes and checks/warnings (notes.py)
+    growth      whether work grows no faster than texts and inputs (growth.py)
     worst       texts of the most bytes, against limits on time and memory (worst.py)
     NAME        the tests of tests/test_NAME.py, or sessions or a page by the path from the top (tests/release)
 
@@ -23,6 +24,7 @@ import tempfile
 import unittest
 
 import common
+import growth
 import notes
 import rows
 import sessions
@@ -85,6 +87,8 @@ def try_part(part, work, words, tried):
         notes.try_notes(f"{programs}/kahn_explain", words, tried)
     elif part == "worst":
         worst.try_worst({name: os.path.realpath(f"{programs}/{name}") for name in common.NAMES}, work, words.only, tried)
+    elif part == "growth":
+        growth.try_growth({name: os.path.realpath(f"{programs}/{name}") for name in common.NAMES}, work, words.only, tried)
     elif part == "pages" or part.endswith(".md"):
         folder = common.TOP if words.here else sessions.tree_of(programs, f"{work}/tree")
         sessions.try_pages(folder, sessions.pages() if part == "pages" else [part], words.only, tried)

@@ -111,9 +111,9 @@ def pages():
     return ["README.md", "CONTRIBUTING.md", "bench/README.md", *(os.path.relpath(path, TOP) for path in sorted(glob.glob(f"{TOP}/docs/**/*.md", recursive=True)))]
 
 
-def commands(page):
+def commands(page, top=TOP):
     """The commands of a page: (number of the line, command, what it prints)."""
-    lines = read(f"{TOP}/{page}").decode().split("\n")
+    lines = read(f"{top}/{page}").decode().split("\n")
     marks = [number for number, line in enumerate(lines) if line.startswith("```")]
     for start, end in zip(marks[::2], marks[1::2]):
         block = lines[start + 1 : end]

@@ -13,7 +13,7 @@ import tempfile
 import common
 from common import CROWD, TOP, Room, read, text_of
 
-KAHN, LIVE = common.program("kahn"), common.program("kahn_live")
+KAHN, LIVE, EXPLAIN = (common.program(name) for name in ("kahn", "kahn_live", "kahn_explain"))
 HAS_CROWD = os.access(CROWD, os.X_OK)
 COPIES, LONG = (text_of(f"{TOP}/tests/programs/{name}.kahn") for name in ("copies", "long"))
 PROGRAMS = [path for path in sorted(glob.glob(f"{TOP}/examples/*.kahn"))
@@ -113,6 +113,22 @@ class Memory(Room):
 
         words = [LIVE, "parts.kahn", "--quantum", "1", "--step", whole.split()[-1]]
         self.growths("parts of copies.kahn", words, judged, 1, text=b"\n")
+
+    def test_notes_as_data(self):
+        """kahn_explain --json writes all notes, or says that it has no memory for them: an editor takes silence for a text without a fault."""
+        body = "begin process f(); begin integer x; [] end; f() end"
+        self.put(**{"warned.kahn": body.replace("[]", "x := 1"), "faulty.kahn": body.replace("[]", "y := 1"), "bare.kahn": body.replace("[]", "x 1"),
+                    "fed.kahn": body.replace("[]", "x := x"), "fed.input": "A: 1\n"})
+        for words in (["warned.kahn"], ["faulty.kahn"], ["bare.kahn"], ["fed.kahn", "--input", "fed.input"]):
+            whole, number, alike = self.ran(EXPLAIN, *words, "--json"), 0, 0
+            self.same(f"{words}: there are notes", whole[0] != "" and whole[2] in (0, 1))
+            while alike < 25 and number < 2000:
+                number += 1
+                out, err, status = self.ran(EXPLAIN, *words, "--json", FAIL_AT=str(number), LD_PRELOAD=self.library)
+                is_told = (out, status) == ("", 4) and re.fullmatch(r"kahn\w*: no memory\n", err) is not None
+                self.same(f"{words} as data with growth {number} refused: status {status}, {err[:300]}, {out[:300]}", (out, err, status) == whole or is_told)
+                alike = alike + 1 if (out, err, status) == whole else 0
+            self.same(f"{words}: growths come to an end", alike, 25)
 
     def test_a_run_that_goes_over_to_several_workers(self):
         """It goes on without them, from where it stood. Memory that is refused for putting the report into text isn't reported."""

@@ -1,4 +1,4 @@
-"""Lines of standard error: each goes out by one write. Streams that don't block, and want of memory for the arguments of kahn."""
+"""Lines of standard error: each goes out by one write. Streams that don't block; no secret; and want of memory for the arguments of kahn."""
 import contextlib
 import fcntl
 import os
@@ -79,6 +79,13 @@ class Streams(Room):
             with os.fdopen(read_end) as output:
                 self.same("output", sum(1 for _ in output), 50_000)
             self.same("output: status", (run.stderr.read(), run.wait()), (b"", 0))
+
+    def test_no_secret(self):
+        """If the system has no secret for the hashes of names, the program text counts as one that can't be read."""
+        library = self.refusing("refuse_secret.c")
+        for program in (KAHN, LIVE, DRAW, EXPLAIN):
+            given = self.ran(program, "sum", LD_PRELOAD=library)
+            self.same(f"{os.path.basename(program)} without a secret", given, ("", "kahn: cannot read sum\n", 5))
 
     def test_want_of_memory_for_arguments(self):
         """Each growth refused until the arguments are read: their strings, their list, and what is read of them."""

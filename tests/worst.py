@@ -1,4 +1,4 @@
-"""The worst texts that are known, worst.txt, each of about the most bytes that there may be, against limits on processor time and memory.
+"""The worst texts that are known, worst.txt, most of about the most bytes that there may be, against limits on processor time and memory.
 
 Each text is read by all four programs. None may take more than four times as long as a fixed piece of work beside it, which is two seconds of
 a quiet host (user and system), or 300 MB. Those that may take more are named as limits by docs/formats.md."""
@@ -21,17 +21,17 @@ def variables():
     return ["".join(it) for it in itertools.islice(every, (MOST - 2095) // 5)]
 
 
-def alike():
-    """Names that a table with a known hash puts into one place."""
+def alike(hashed):
+    """Names that a table with this hash and no secret puts into one place."""
     with tempfile.TemporaryDirectory() as folder:
         subprocess.run([os.environ.get("CC", "cc"), "-O3", "-march=native", "-o", f"{folder}/it", f"{TOP}/tests/hash_search.c"], check=True)
-        return subprocess.run([f"{folder}/it", "16000", "2047", "4"], capture_output=True, check=True, text=True).stdout.split()
+        return subprocess.run([f"{folder}/it", hashed, "16000", "2047", "4"], capture_output=True, check=True, text=True).stdout.split()
 
 
 def try_case(name, case, paths, folder):
     """What each program takes for a text: a line, and whether that is good."""
     text, given = f"{folder}/{name}", os.devnull
-    values = {"variables": lambda: {"names": variables()}, "hash": lambda: {"alike": alike()}}.get(name, dict)()
+    values = {"variables": lambda: {"names": variables()}, "hash": lambda: {"alike": alike("sip")}, "hash_default": lambda: {"alike": alike("fold")}}.get(name, dict)()
     made = texts.expanded(case[""], values, MOST)
     assert len(made.encode()) <= MOST, (name, len(made.encode()))
     write(f"{text}.kahn", made)
@@ -39,7 +39,7 @@ def try_case(name, case, paths, folder):
         given = write(f"{text}.input", texts.expanded(case["<"], {}))
         assert os.path.getsize(given) <= MOST_INPUT
     times, megabytes, why = case.get("%", LIMITS).split(" ", 2)
-    words = dict(line.partition(" ")[::2] for line in case.get("$", "").split("\n"))
+    words = dict(line.partition(" ")[::2] for line in texts.expanded(case.get("$", ""), {}).split("\n"))
     told = []
     for program in case.get("?", " ".join(NAMES)).split():
         more = words.get(program, "").replace("BLANKS", f"{folder}/blanks.input").split()
