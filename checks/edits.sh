@@ -5,7 +5,9 @@
 #   edits.sh [CRATE ..]      those of these crates; without names, of all that have some
 set -eu
 top=$(CDPATH='' cd -- "$(dirname -- "${BASH_SOURCE[0]}")/.." && pwd)
-[ $# -gt 0 ] || set -- $(cd "$top/checks/edits" && echo *)
+command -v rt > /dev/null || { echo "edits.sh: the Rattle toolchain (rt) is not on the path" >&2; exit 5; }
+cd "$top/checks/edits"
+[ $# -gt 0 ] || set -- *
 mkdir -p "$top/out"
 copy=$(mktemp -d -p "$top/out")
 trap 'rm -rf "$copy"' EXIT

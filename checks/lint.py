@@ -3,8 +3,10 @@
 
 lint.py           the counts; a part with more than its limit fails, and so does one with less, until the limit is lowered
 lint.py --all     each place that is counted, too
+lint.py --lower   first lowers each limit that is above its count
 
-It reads src/, specs/ and proofs/ of each crate, and proves nothing. Where the toolchain is there, it asks that for the layout."""
+It reads src/, specs/ and proofs/ of each crate and the pages, and proves nothing. If the toolchain is there, it asks that for the layout.
+Words of pages, comments and messages (words.py) are only listed if their limit isn't met."""
 import collections
 import glob
 import os
@@ -14,7 +16,8 @@ import subprocess
 import sys
 
 sys.path.append(f"{os.path.dirname(os.path.abspath(__file__))}/../tests")
-from common import TOP, text_of as read
+import words
+from common import TOP, text_of as read, write
 
 LIMITS = f"{TOP}/checks/limits.txt"
 LONG_CLAUSE, LONG_BODY, LONG_FILE = 160, 40, 500
@@ -136,16 +139,33 @@ PARTS = {
 }
 
 
+def limits():
+    """The number of each part that checks/limits.txt has."""
+    lines = (line.split(" ", 1) for line in read(LIMITS).splitlines() if line and not line.startswith("#"))
+    return {part: int(number) for number, part in lines}
+
+
+def lowered(counts):
+    """Writes the counts that are below their limits."""
+    def line_with(line):
+        number, _, part = line.partition(" ")
+        return f"{min(int(number), counts.get(part, 0))} {part}" if number.isdigit() else line
+    write(LIMITS, "\n".join(map(line_with, read(LIMITS).split("\n"))))
+
+
 def main():
-    limits = (line.split(" ", 1) for line in read(LIMITS).splitlines() if line and not line.startswith("#"))
-    allowed, failed = {part: int(number) for number, part in limits}, 0
-    for part, places in PARTS.items():
-        found, most = list(places()), allowed.get(part, 0)
+    counted = {**{part: list(places()) for part, places in PARTS.items()}, **words.found()}
+    if "--lower" in sys.argv:
+        lowered({part: len(places) for part, places in counted.items()})
+    allowed, failed = limits(), 0
+    for part, found in counted.items():
+        most = allowed.get(part, 0)
         failed += len(found) != most
-        print(f"{len(found):4} of {most:4} {part}{['', ' FAILED: may not grow', ' FAILED: lower the limit in checks/limits.txt'][(len(found) > most) - (len(found) < most)]}")
-        if "--all" in sys.argv or len(found) > most:
+        if part in PARTS or len(found) != most:
+            print(f"{len(found):4} of {most:4} {part}{['', ' FAILED: may not grow', ' FAILED: lint.py --lower lowers the limit'][(len(found) > most) - (len(found) < most)]}")
+        if "--all" in sys.argv and part in PARTS or len(found) > most:
             print("".join(f"          {place}\n" for place in found), end="")
-    print(f"{len(PARTS) - failed} passed, {failed} failed")
+    print(f"{len(counted) - failed} passed, {failed} failed")
     return failed > 0
 
 
