@@ -12,9 +12,9 @@ pub use Rattle.kahn_streams.specs.Inputs.{IsNoName, Lists, inputs_of}
 pub use Rattle.kahn_streams.specs.Network.{Given, Node, Schema, channels_of, network_of, role_at}
 pub use Rattle.kahn_streams.specs.Solution.{Inputs, IsPrefix, IsWhole, Stands, iterate, source}
 pub use Rattle.kahn_texts.specs.Formats.{IsInputTextFault, IsLine, StandsFor, channel_count, instance_count}
-pub use Rattle.kahn_why.proofs.Parts.{are_allowed, broke_off, went_out}
-pub use Rattle.kahn_why.proofs.Right_ends.{answered}
-pub use Rattle.kahn_why.specs.inner.Told.{HasRefused, HasWritten, IsAdmitted}
+pub use Rattle.kahn_explanation.proofs.Parts.{are_allowed, broke_off, went_out}
+pub use Rattle.kahn_explanation.proofs.Right_ends.{answered}
+pub use Rattle.kahn_explanation.specs.inner.Told.{HasRefused, HasWritten, IsAdmitted}
 pub use Rattle.std.proofs.Common.{All, Bool, Err, List, None, Ok, Option, Result, Some, [], add-one, ap, append-nil, append_assoc, ap₂, arith, false, flat_map, get_or, if◌then◌else◌, inl, inr, length, map, refl, rules, slice_get, slice_index_or, string_bytes, subst, suc, sym, take, true, zero, ℕ, ◌++◌, ◌+◌, ◌<◌, ◌||◌, ◌∙◌, ◌∷◌, ◌≡◌, ◌≤◌, ◌⊎◌}
 pub use Rattle.std.proofs.KnownBytes.{Appends-nil, Appends-trans}
 pub use Rattle.std.proofs.lemmas.Bool.{cases_lt, iff_false}
@@ -28,5 +28,5 @@ pub use Rattle.std.specs.Prelude.{MatchResult, not, ◌↔◌}
 pub use Rattle.kahn_fault.specs.declared.{work.WorkFault.WorkFault, work.WorkFault.TheVariants.Check, work.WorkFault.TheVariants.Run, work.WorkFault.TheVariants.Syntax, work.WorkFault.TheVariants.Text, work.WorkFault.TheVariants.Write}
 pub use Rattle.kahn_sequential.specs.declared.{counted.Counted.Counted, counted.Recorded.Recorded}
 pub use Rattle.kahn_streams.specs.declared.{answer.Answer.Answer, answer.Stream.Stream, config.Config.Config, fault.RunFault.TheVariants.NoMemory, tree.Kind.Kind, tree.Program.Program, tree.Role.Role, tree.Role.TheVariants.Inner, tree.Role.TheVariants.Output, value.Line.Line, value.Line.TheVariants.Channel, value.Line.TheVariants.Print, value.Value.Value}
-pub use Rattle.kahn_why.specs.declared.{explaining.Admitted.Admitted, explaining.Came.Came, explaining.Came.TheVariants.Refused, explaining.Came.TheVariants.Stopped}
+pub use Rattle.kahn_explanation.specs.declared.{explaining.Admitted.Admitted, explaining.Came.Came, explaining.Came.TheVariants.Refused, explaining.Came.TheVariants.Stopped}
 pub use Rattle.kahn_explain.specs.declared.running.Request.{Request}

@@ -2,7 +2,7 @@
 use Rattle.kahn_explain.proofs.Common.{◌∙◌, ℕ, List, ◌++◌, Option, Result, Ok, Err, ap, append_assoc, inl, inr, refl, string_bytes, subst, sym, Appends-trans, Appends, Config, NoMemory, Program, Lists, IsRightRun, IsUnrun, IsInputTextFault, StandsFor, WorkFault, Text, Run, Write, are_allowed, HasRefused, HasWritten, IsAdmitted, Admitted, Came, Stopped, Refused, Request, IsCountedRun, IsToldFor, AreNotes, AreNotesBefore, AreNotesOfUnrun, HasExplained, HasLooked, HasComeTo, IsLookedAt, IsToldOf, IsInputless}
 use Rattle.kahn_streams.specs.{declared.fault.RunFault.RunFault, declared.answer.Verdict.TheVariants.Finished}
 use Rattle.kahn_texts.specs.declared.input.TextFault.{TextFault}
-use Rattle.kahn_why.specs.{declared.why.told.Finding.Finding, declared.why.told.Finding.TheVariants.Stop}
+use Rattle.kahn_explanation.specs.{declared.why.told.Finding.Finding, declared.why.told.Finding.TheVariants.Stop}
 use Rattle.kahn_sequential.specs.declared.counted.Counted.{Counted}
 
 -- behind notes

@@ -14,7 +14,7 @@ use Rattle.kahn_explain.specs.inner.Told.{rows_fault}
 use Rattle.kahn_streams.specs.Written.{AppendsFront}
 use Rattle.kahn_fault.specs.Work.{IsChecked}
 use Rattle.kahn_streams.specs.{declared.answer.Verdict.Verdict, declared.answer.Verdict.TheVariants.Bound, declared.fault.RunFault.RunFault}
-use Rattle.kahn_why.specs.{declared.why.told.Finding.Finding, declared.why.told.Finding.TheVariants.Stop}
+use Rattle.kahn_explanation.specs.{declared.why.told.Finding.Finding, declared.why.told.Finding.TheVariants.Stop}
 use Rattle.kahn_explain.proofs.Parts.{unfed, unrun}
 
 -- nothing went out

@@ -7,7 +7,7 @@ use Rattle.kahn_needs.specs.declared.needs.Found.TheVariants as found
 use Rattle.kahn_sequential.specs.declared.counted.Counted.{Counted}
 use Rattle.kahn_texts.specs.Formats.{StandsFor}
 use Rattle.kahn_fault.specs.Work.{IsChecked}
-use Rattle.kahn_why.specs.{declared.why.told.Finding.Finding, declared.why.told.Finding.TheVariants.Stop}
+use Rattle.kahn_explanation.specs.{declared.why.told.Finding.Finding, declared.why.told.Finding.TheVariants.Stop}
 use Rattle.kahn_line.specs.Parts.{parted}
 use Rattle.kahn_explain.specs.{Histories.IsCountedFor, declared.needing.AskFault.AskFault, declared.needing.Question.Question}
 use Rattle.kahn_explain.specs.declared.needing.AskFault.TheVariants as ask

@@ -6,8 +6,8 @@ use Rattle.kahn_streams.specs.{Answers.IsUnrun, Inputs.Lists, Written.AppendsFro
 use Rattle.kahn_texts.specs.{Formats.StandsFor, Formats.IsInputTextFault, declared.input.TextFault.TextFault}
 use Rattle.kahn_fault.specs.{Status.status_of, Telling.WasWritten, Reasons.reason_line, Telling.told_text, Work.IsChecked, Work.IsUnchecked, declared.fault.Fault.TheVariants.Work, declared.work.WorkFault.WorkFault, declared.work.WorkFault.TheVariants.Syntax, declared.work.WorkFault.TheVariants.Check, declared.work.WorkFault.TheVariants.Text, declared.work.WorkFault.TheVariants.Run, declared.work.WorkFault.TheVariants.Write}
 use Rattle.kahn_sequential.specs.{Recordings.IsCountedRun, declared.counted.Counted.Counted, declared.counted.Recorded.Recorded}
-use Rattle.kahn_why.specs.{Data.HasToldData, Refusing.AreAllowed, Refusing.IsRefusal, Refusing.IsRefusedFor, Telling.HasToldInput, declared.explaining.Came.Came, declared.explaining.Came.TheVariants.Stopped, declared.explaining.Came.TheVariants.Refused, declared.why.told.Finding.Finding}
-use Rattle.kahn_why.specs.declared.why.told.Finding.TheVariants as told
+use Rattle.kahn_explanation.specs.{Data.HasToldData, Refusing.AreAllowed, Refusing.IsRefusal, Refusing.IsRefusedFor, Telling.HasToldInput, declared.explaining.Came.Came, declared.explaining.Came.TheVariants.Stopped, declared.explaining.Came.TheVariants.Refused, declared.why.told.Finding.Finding}
+use Rattle.kahn_explanation.specs.declared.why.told.Finding.TheVariants as told
 use Rattle.kahn_explain.specs.{Histories.IsCountedFor, Histories.IsRecordedFor, Needing.AreNeedsTold, Needing.IsUnaskedOf, Untaken.IsToldFor, declared.running.Pipe.Pipe, declared.running.Request.Request, declared.running.Sheet.Sheet, declared.running.Wish.Wish}
 use Rattle.kahn_explain.specs.declared.running.Sheet.TheVariants as sheet
 use Rattle.kahn_explain.specs.declared.running.Wish.TheVariants as wish

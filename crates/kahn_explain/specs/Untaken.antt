@@ -4,7 +4,7 @@ use Rattle.std.specs.List.{concat}
 use Rattle.kahn_line.specs.Parts.{parted}
 use Rattle.kahn_sequential.specs.declared.counted.Count.{Count}
 use Rattle.kahn_streams.specs.{Answers.is_output, Network.network_of, Network.role_at, declared.answer.Answer.Answer, declared.tree.Program.Program, Written.line_feed}
-use Rattle.kahn_why.specs.{Why.IsExplained, declared.why.told.Explanation.Explanation, declared.why.told.Finding.Finding}
+use Rattle.kahn_explanation.specs.{Why.IsExplained, declared.why.told.Explanation.Explanation, declared.why.told.Finding.Finding}
 
 -- ---- how many are left
 

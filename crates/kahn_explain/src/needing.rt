@@ -11,7 +11,7 @@ use kahn_code::CodeFault;
 use kahn_fault::{WorkFault, shown_path};
 use kahn_hints::add_unknown_channel;
 use kahn_line::parted;
-use kahn_marks::add;
+use kahn_diagnostic::add;
 use kahn_needs::{Found, Seeker};
 use kahn_sequential::Counted;
 use kahn_streams::{Config, Input, Line, Network, RunFault, Verdict, channel_named};

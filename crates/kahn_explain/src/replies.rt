@@ -4,8 +4,8 @@ ghost use Rattle.std.specs.Prelude.{◌≡◌, [], true, false, string_bytes, Ma
 ghost use Rattle.kahn_explain.specs.{Histories.IsUntraced, Running.HasReplied, Running.beside, declared.running.Sheet.TheVariants.Needs as NeedsSheet, declared.running.Sheet.TheVariants.Table as TableSheet, inner.Told.IsAskedFor, inner.Told.IsNothingAsked, inner.Told.HasPutNeeds, inner.Told.HasPutReply, inner.Told.IsReplyFor, inner.Told.IsTableAsked, inner.Told.notes_for, inner.Told.rows_fault};
 ghost use Rattle.kahn_fault.specs.declared.work.WorkFault.TheVariants.{Run};
 ghost use Rattle.kahn_streams.specs.declared.fault.RunFault.TheVariants.{NoMemory};
-ghost use Rattle.kahn_why.specs.{declared.explaining.Came.TheVariants.Stopped, declared.why.told.Finding.TheVariants.Stop};
-ghost use Rattle.kahn_why.specs.{inner.Told.IsAdmitted};
+ghost use Rattle.kahn_explanation.specs.{declared.explaining.Came.TheVariants.Stopped, declared.why.told.Finding.TheVariants.Stop};
+ghost use Rattle.kahn_explanation.specs.{inner.Told.IsAdmitted};
 
 use crate::needing::{
     AskFault, fault_text, firsts_told, found_end, needs_head, needs_told, sought,
@@ -17,7 +17,7 @@ use kahn_fault::WorkFault;
 use kahn_needs::Seeker;
 use kahn_streams::{Config, Line, Network, RunFault, Verdict};
 use kahn_texts::{read_input, write_line};
-use kahn_why::{Admitted, Came, Finding, admit, write_both};
+use kahn_explanation::{Admitted, Came, Finding, admit, write_both};
 use std::alloc::Global;
 use std::io::Write;
 

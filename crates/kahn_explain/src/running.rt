@@ -4,7 +4,7 @@ ghost use Rattle.std.specs.Prelude.{◌≡◌, IfOk, string_bytes};
 ghost use Rattle.kahn_explain.specs.{Running.HasDone, Running.HasDoneAsData, Running.HasExplainedAs, Running.IsFaultTold, Running.IsOrRefused, Running.end_status, Running.HasExplained, Running.HasLooked, Untaken.IsToldFor, Running.beside};
 ghost use Rattle.kahn_streams.specs.Network.{network_of};
 ghost use Rattle.kahn_chain.specs.Chain.{AreStandings};
-ghost use Rattle.kahn_why.specs.{Why.standings_of};
+ghost use Rattle.kahn_explanation.specs.{Why.standings_of};
 
 use crate::replies::sheet_out;
 use crate::tracing::{untaken_line, with_line};
@@ -12,7 +12,7 @@ use kahn_fault::{Fault, WorkFault, tell, tell_reason};
 use kahn_sequential::{Count, run_counted};
 use kahn_streams::{Answer, Config, Network, NoMemory, RunFault, Verdict};
 use kahn_texts::{read_input, write_line};
-use kahn_why::{Admitted, Came, Finding, admit, explained, refuse_input, write_both, write_data};
+use kahn_explanation::{Admitted, Came, Finding, admit, explained, refuse_input, write_both, write_data};
 use std::alloc::Global;
 use std::hash::RandomState;
 use std::io;

@@ -10,7 +10,7 @@ use crate::rows::{flush_all, put, put_value};
 use itoa::Buffer;
 use kahn_fault::WorkFault;
 use kahn_line::parted;
-use kahn_marks::add;
+use kahn_diagnostic::add;
 use kahn_sequential::{Count, Counted, Recorded, run_counted, run_recorded};
 use kahn_streams::{Answer, Config, Line, Network, Role, Side, Stream, Value, Verdict};
 use kahn_texts::{WriteFault, channel_name, process_name, read_input};

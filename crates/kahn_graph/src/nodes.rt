@@ -7,7 +7,7 @@ ghost use Rattle.kahn_chain.specs.Chain.{AreRings, stands, AreStandings, IsRingM
 
 use itoa::Buffer;
 use kahn_chain::rings;
-use kahn_marks::{add, add_spot};
+use kahn_diagnostic::{add, add_spot};
 use kahn_streams::{
     Argument, End, Failure, Line, Network, NetworkInstance, Outcome, Parameter, Process, Stream,
     declaration_prints,

@@ -7,7 +7,7 @@ ghost use Rattle.kahn_graph.specs.{Graph.IsPicture, Graph.place_text, Graph.mark
 
 use crate::nodes::{add_count, add_nodes, carried, is_ring_channel, printing, rings_of, text_if};
 use itoa::Buffer;
-use kahn_marks::add;
+use kahn_diagnostic::add;
 use kahn_streams::{End, Kind, Network, Role, Side, Stream};
 use std::alloc::{AllocError, Global};
 

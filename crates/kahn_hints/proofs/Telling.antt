@@ -1,6 +1,6 @@
 -- Notes of which each tells a fault.
 use Rattle.kahn_hints.proofs.Common.{◌≡◌, ℕ, List, [], ◌∷◌, ◌++◌, All, Contains, length, refl, subst, sym, All-from_recursion, All-push, CheckFault, TellsFault, TellsMore, TellsOne}
-use Rattle.kahn_marks.specs.declared.rendering.Note.{Note}
+use Rattle.kahn_diagnostic.specs.declared.rendering.Note.{Note}
 
 -- one note more, and one alone
 pub one_more : (text : List ℕ) (fs : List CheckFault) (note : Note) (f : CheckFault) (old new : List Note) → (Contains fs f → TellsFault text fs note f) → new ≡ old ++ note ∷ [] → TellsMore text fs f old new

@@ -6,7 +6,7 @@ use Rattle.kahn_streams.specs.{declared.span.Span.Span, declared.tree.Program.Pr
 use Rattle.kahn_check.specs.Parts.{faults_by_part}
 use Rattle.kahn_syntax.specs.Texts.{IsProgram}
 use Rattle.kahn_fault.specs.Message.{check_span, check_words}
-use Rattle.kahn_marks.specs.{Notes.IsApplied, declared.rendering.Fix.Fix, declared.rendering.Note.Note, declared.rendering.Sort.TheVariants.Error}
+use Rattle.kahn_diagnostic.specs.{Notes.IsApplied, declared.rendering.Fix.Fix, declared.rendering.Note.Note, declared.rendering.Sort.TheVariants.Error}
 
 -- the letters at a place of a text; none where it isn't within the text
 abbrev pub word_at : List ℕ → Span → List ℕ

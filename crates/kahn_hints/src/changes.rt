@@ -8,7 +8,7 @@ ghost use Rattle.kahn_hints.specs.Hints.{AreFaultsOf, LessensFaults, are_known, 
 use crate::place::{NameKind, NetworkPlace, names_seen, side_of, taken_by, word_at};
 use kahn_check::every;
 use kahn_fault::{check_span, check_words};
-use kahn_marks::{Fix, add, applied};
+use kahn_diagnostic::{Fix, add, applied};
 use kahn_streams::{CheckFault, Kind, NoMemory, Span};
 use kahn_syntax::Keyword::{Channel, In, Input, Integer, Logical, Out, Output};
 use kahn_syntax::{Class, Lexeme, SyntaxFault, parse};

@@ -10,7 +10,7 @@ use crate::place::{
 };
 use crate::said::{add_said, facts_of, others_of};
 use kahn_fault::{check_span, check_words};
-use kahn_marks::{Fix, MOST_NOTES, Note, Sort};
+use kahn_diagnostic::{Fix, MOST_NOTES, Note, Sort};
 use kahn_streams::{CheckFault, NoMemory, Program, Span};
 use kahn_syntax::lex;
 use std::alloc::Global;

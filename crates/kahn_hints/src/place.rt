@@ -3,7 +3,7 @@
 ghost use Rattle.std.specs.Prelude.{◌≡◌};
 ghost use Rattle.kahn_hints.specs.Hints.{word_at};
 
-use kahn_marks::part_of;
+use kahn_diagnostic::part_of;
 use kahn_streams::{
     Argument, CheckFault, Declaration, Direction, Instance, Kind, Name, Parameter, Process,
     Program, Role, Span, Taking,

@@ -5,7 +5,7 @@ use crate::near::{add_near, nearest};
 use crate::place::{NameKind, NetworkPlace, is_called, names_seen, side_of, taken_by};
 use itoa::Buffer;
 use kahn_fault::{check_span, check_words};
-use kahn_marks::{Other, add};
+use kahn_diagnostic::{Other, add};
 use kahn_streams::{CheckFault, Kind, NoMemory, Role, Span};
 use kahn_syntax::{Class, Keyword, Sign};
 use std::alloc::AllocError;

@@ -4,10 +4,10 @@ use Rattle.std.specs.{Char.is_ascii_digit, Io.KnownBytes.Appends, Io.KnownBytes.
 use Rattle.kahn_streams.specs.{declared.answer.End.End, declared.answer.Verdict.Verdict, declared.answer.Verdict.TheVariants.Finished, declared.answer.Verdict.TheVariants.Bound, declared.answer.Verdict.TheVariants.Memory, declared.fault.RunFault.TheVariants.NoMemory as NoMemoryRun, Written.AppendsFront, declared.tree.Program.Program as Tree, declared.value.Failure.Failure}
 use Rattle.kahn_texts.specs.{declared.bytes.WriteFault.WriteFault, Formats.content, Formats.process_name, declared.read.ReadFault.TheVariants.Failed as FailedRead}
 use Rattle.kahn_sequential.specs.HeldRuns.{HeldRun, IsRightSoFar}
-use Rattle.kahn_inputs.specs.{declared.refused.RefusedPart.RefusedPart, Fitting.line_name, Refused.IsHeadPart, Refused.IsKindPart, Refused.IsValuePart}
+use Rattle.kahn_input_notes.specs.{declared.refused.RefusedPart.RefusedPart, Fitting.line_name, Refused.IsHeadPart, Refused.IsKindPart, Refused.IsValuePart}
 use Rattle.kahn_fault.specs.{declared.work.WorkFault.TheVariants.Run as RunWork, declared.work.WorkFault.TheVariants.Write as WriteWork, declared.fault.Fault.Fault, declared.fault.Fault.TheVariants.Program, declared.fault.Fault.TheVariants.Work}
 use Rattle.kahn_session.specs.{Live.IsFirstFault, Live.IsFirstInput, Live.IsRinged, Live.IsTakenLine, Live.Live, Live.breaks, Refusals.failure_words, Refusals.is_want, Refusals.like_words, Refusals.origin, Refusals.refused_origin, Refusals.said_text, Refusals.take_words, declared.refusal.Origin.Origin, declared.refusal.Origin.TheVariants.File, declared.refusal.Origin.TheVariants.Line, declared.refusal.TakeFault.TakeFault, declared.refusal.TakeFault.TheVariants.BadLine, declared.refusal.TakeFault.TheVariants.BadValue, declared.refusal.TakeFault.TheVariants.Feed, declared.refusal.TakeFault.TheVariants.NoMemory}
-use Rattle.kahn_why.specs.Why.{AreCauses}
+use Rattle.kahn_explanation.specs.Why.{AreCauses}
 use Rattle.kahn_live.specs.{declared.taking.LiveStage.LiveStage, declared.telling.Teller.Teller}
 use Rattle.kahn_streams.specs.declared.feeds.FeedFault.TheVariants as feed
 

@@ -3,10 +3,10 @@ use Rattle.std.specs.Prelude.{◌≡◌, ◌<◌, ◌-◌, ◌⊎◌, ℕ, List,
 use Rattle.std.specs.List.{concat}
 use Rattle.kahn_streams.specs.{declared.span.Span.Span, declared.tree.Program.Program}
 use Rattle.kahn_syntax.specs.{declared.fault.What.What, declared.fault.What.TheVariants.More, declared.fault.What.TheVariants.Nothing, declared.fault.What.TheVariants.Other, declared.fault.SyntaxFault.TheVariants.BadCharacter, declared.fault.SyntaxFault.TheVariants.Expected, Texts.IsProgram, Texts.IsTextFault}
-use Rattle.kahn_wanted.specs.{declared.groups.LexemeGroup.LexemeGroup, declared.groups.Wanted.Wanted, declared.found.Unexpected.Unexpected, Wanted.IsUnexpected}
-use Rattle.kahn_wanted.specs.declared.groups.LexemeGroup.TheVariants as group
-use Rattle.kahn_marks.specs.{Notes.IsApplied, declared.rendering.Fix.Fix, declared.rendering.Note.Note}
-use Rattle.kahn_marks.specs.declared.rendering.Other as other
+use Rattle.kahn_expected.specs.{declared.groups.LexemeGroup.LexemeGroup, declared.groups.Wanted.Wanted, declared.found.Unexpected.Unexpected, Wanted.IsUnexpected}
+use Rattle.kahn_expected.specs.declared.groups.LexemeGroup.TheVariants as group
+use Rattle.kahn_diagnostic.specs.{Notes.IsApplied, declared.rendering.Fix.Fix, declared.rendering.Note.Note}
+use Rattle.kahn_diagnostic.specs.declared.rendering.Other as other
 use Rattle.kahn_notes.specs.Words.{any_words, separator}
 
 -- any lexeme of a group

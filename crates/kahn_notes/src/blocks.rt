@@ -4,7 +4,7 @@ use crate::place::{
     Fixed, Place, Saying, finds, front, has_word, mending, near, placed, put_at, put_behind,
 };
 use crate::unexpected::class_word;
-use kahn_marks::part_of;
+use kahn_diagnostic::part_of;
 use kahn_syntax::Span;
 use std::alloc::AllocError;
 

@@ -8,9 +8,9 @@ use crate::place::{
     Fixed, Place, Put, Saying, before, cell, filled, finds, fits, fix_of, has_word, holds,
     is_declared, mending, name_at, near, offered, put_at, sentence, slip, told, word_at,
 };
-use kahn_marks::{is_within, padded, part_of};
+use kahn_diagnostic::{is_within, padded, part_of};
 use kahn_syntax::{Span, SyntaxFault};
-use kahn_wanted::is_of_word;
+use kahn_expected::is_of_word;
 use std::alloc::Global;
 
 /// A row has the lexeme before the place, the one there, and the tests; and what is said: where a change is and what is put there, of several

@@ -9,10 +9,10 @@ ghost use Rattle.kahn_notes.specs.{Notes.IsExpected, Notes.IsNoteAt, Notes.IsThe
 
 use crate::place::{Heading, MOST, Place, Saying, Words, mending, placed, put_behind, sentence};
 use crate::rules::{FAR, character_fix, grammar_said};
-use kahn_marks::{Fix, Note, Other, Sort, add, add_repeated, part_of, simple};
+use kahn_diagnostic::{Fix, Note, Other, Sort, add, add_repeated, part_of, simple};
 use kahn_streams::NoMemory;
 use kahn_syntax::{Class, Lexeme, Span, SyntaxFault, What, lex};
-use kahn_wanted::{
+use kahn_expected::{
     FaultPlace, LexemeGroup, Unexpected, Wanted, comment_before, has_word, is_of_word, place_at,
     reaches, sign_letters, swallows,
 };

@@ -16,7 +16,7 @@ pub use Rattle.kahn_streams.specs.declared.tree.Operator.TheVariants.{Add, Divid
 pub use Rattle.kahn_streams.specs.declared.value.Failure.TheVariants.{Division, Overflow}
 pub use Rattle.kahn_streams.specs.declared.value.Line.TheVariants.{Channel}
 pub use Rattle.kahn_streams.specs.declared.value.Value.TheVariants.{Integer, Logical}
-pub use Rattle.kahn_wanted.specs.Comments.{EndsLine}
+pub use Rattle.kahn_expected.specs.Comments.{EndsLine}
 pub use Rattle.kahn_warnings.specs.Comments.{AreCommentWarnings, IsCommentWarning}
 pub use Rattle.kahn_warnings.specs.Constants.{ConstantsHold, chosen, combined, constant_of, divides, from_0, is_true, sure_fault, truly}
 pub use Rattle.kahn_warnings.specs.Faults.{AreNumbersOf64, AreOf64Bits, AreWrittenIn64, FaultsLie, IsOf64Bits, IsOperand, IsWrittenIn64, can_fail, fault_places, is_failure, least, operator_can, place_where, site_places}

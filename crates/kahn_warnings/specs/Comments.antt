@@ -1,7 +1,7 @@
 -- Believed. Comments that go on over a line's end, and have the beginning of a statement behind that.
 use Rattle.std.specs.Prelude.{◌≡◌, ℕ, All, Contains, List}
 use Rattle.kahn_streams.specs.declared.span.Span.{Span}
-use Rattle.kahn_wanted.specs.Comments.{AreComments, EndsLine}
+use Rattle.kahn_expected.specs.Comments.{AreComments, EndsLine}
 use Rattle.kahn_warnings.specs.{declared.program.Warning.Warning, declared.program.WarningKind.TheVariants.LongComment}
 
 -- of one of these comments, in which a line ends

@@ -1,8 +1,8 @@
 -- Believed. How warnings are told.
 use Rattle.std.specs.Prelude.{◌≡◌, ℕ, List, map}
 use Rattle.kahn_streams.specs.declared.{span.Span.Span, tree.Program.Program}
-use Rattle.kahn_marks.specs.declared.rendering.{Note.Note, Sort.Sort}
-use Rattle.kahn_marks.specs.declared.rendering.Sort.TheVariants as sort
+use Rattle.kahn_diagnostic.specs.declared.rendering.{Note.Note, Sort.Sort}
+use Rattle.kahn_diagnostic.specs.declared.rendering.Sort.TheVariants as sort
 use Rattle.kahn_warnings.specs.{Warnings.AreWarnings, declared.program.Warning.Warning}
 
 -- what a note is, and where it stands; on a warning

@@ -11,11 +11,11 @@ use crate::sites::{
     ConstantSite, SiteKind, add_expression, add_site, has, is_empty, is_true, names_in, site_can,
     site_kind, varies_by, waits_in,
 };
-use kahn_marks::{Note, Other, Sort, simple};
+use kahn_diagnostic::{Note, Other, Sort, simple};
 use kahn_streams::{
     Action, Declaration, Failure, Instance, Kind, NoMemory, Process, Program, Span, Statement,
 };
-use kahn_wanted::{comments_of, swallows};
+use kahn_expected::{comments_of, swallows};
 use std::alloc::{AllocError, Global};
 use std::hash::RandomState;
 

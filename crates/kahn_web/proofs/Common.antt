@@ -5,8 +5,8 @@ pub use Rattle.kahn_web.specs.Alone.{alone}
 pub use Rattle.kahn_web.specs.Explained.{IsReason, IsRunExplained}
 pub use Rattle.kahn_web.specs.Page.{IsPut, IsSaidAlone}
 pub use Rattle.kahn_web.specs.Whole.{IsWholeText, channels_text}
-pub use Rattle.kahn_why.proofs.Parts.{are_allowed}
-pub use Rattle.kahn_why.specs.inner.Told.{HasRefused, HasWritten, IsAdmitted}
+pub use Rattle.kahn_explanation.proofs.Parts.{are_allowed}
+pub use Rattle.kahn_explanation.specs.inner.Told.{HasRefused, HasWritten, IsAdmitted}
 pub use Rattle.std.proofs.Common.{IfSome, List, None, Ok, Option, Some, [], ap₂, arith, codes, false, inl, inr, refl, rules, string_bytes, subst, sym, ℕ, ◌++◌, ◌<◌, ◌^◌, ◌≡◌}
-pub use Rattle.kahn_why.specs.declared.{explaining.Came.TheVariants.Refused, explaining.Came.TheVariants.Stopped}
+pub use Rattle.kahn_explanation.specs.declared.{explaining.Came.TheVariants.Refused, explaining.Came.TheVariants.Stopped}
 pub use Rattle.std.specs.declared.{alloc.Global.Global, vec.Vec.Vec}

@@ -1,7 +1,7 @@
 -- What was written as the reason of a page, of texts that are bytes.
 use Rattle.kahn_web.proofs.Common.{◌≡◌, ℕ, false, List, [], ◌++◌, Option, Some, None, Ok, IfSome, codes, inl, inr, string_bytes, subst, sym, IsAdmitted, HasRefused, HasWritten, Stopped, Refused, IsTextAnswer, IsRunExplained, alone, are_allowed}
 use Rattle.kahn_streams.specs.declared.answer.Answer.{Answer}
-use Rattle.kahn_why.specs.{Refusing.IsRefusedFor, Why.IsExplained, declared.explaining.Admitted.Admitted, declared.explaining.Came.Came, declared.why.told.Explanation.Explanation}
+use Rattle.kahn_explanation.specs.{Refusing.IsRefusedFor, Why.IsExplained, declared.explaining.Admitted.Admitted, declared.explaining.Came.Came, declared.why.told.Explanation.Explanation}
 
 pub some_of : {A : Type 0} {P Q : A → Type 0} (o : Option A) → ((x : A) → P x → Q x) → IfSome o P → IfSome o Q
 some_of None f h = h

@@ -3,7 +3,7 @@ use Rattle.std.specs.Prelude.{◌≡◌, ℕ, ◌⊎◌, ◌++◌, List, [], Som
 use Rattle.kahn_streams.specs.{declared.tree.Program.Program, declared.answer.Answer.Answer}
 use Rattle.kahn_texts.specs.{Formats.IsInputTextFault, declared.input.TextFault.TextFault}
 use Rattle.kahn_fault.specs.Work.{IsChecked, IsTextAnswer}
-use Rattle.kahn_why.specs.{Refusing.AreAllowed, Refusing.IsRefusedFor, Telling.HasToldInput, Why.IsExplained, declared.explaining.Came.Came, declared.why.told.Explanation.Explanation}
+use Rattle.kahn_explanation.specs.{Refusing.AreAllowed, Refusing.IsRefusedFor, Telling.HasToldInput, Why.IsExplained, declared.explaining.Came.Came, declared.why.told.Explanation.Explanation}
 use Rattle.kahn_web.specs.Alone.{alone}
 
 -- why a run of a program stopped, which is called `program` in notes, behind the notes on what is warned of in it

@@ -6,7 +6,7 @@ ghost use Rattle.kahn_streams.specs.{Network.network_of, Written.Writes};
 ghost use Rattle.kahn_texts.specs.Formats.{HasItsLines, IsInputTextFault};
 ghost use Rattle.kahn_web.specs.{Whole.IsWholeText, Whole.flow_text, Whole.history_text, Whole.whole_text, Alone.alone, Page.IsAnswerAlone, Page.IsSaidAlone, Explained.IsReason, Explained.IsInputRefused, Explained.IsRunExplained};
 ghost use Rattle.kahn_fault.specs.Work.{IsTextAnswer, IsUnanswered};
-ghost use Rattle.kahn_why.specs.inner.Told.{IsAdmitted};
+ghost use Rattle.kahn_explanation.specs.inner.Told.{IsAdmitted};
 
 use crate::secret::PageSecret;
 use itoa::Buffer;
@@ -17,7 +17,7 @@ use kahn_texts::{
     ReadFault, TextFault, WriteFault, channel_name, read_input, write_line, write_news,
     write_report,
 };
-use kahn_why::{Admitted, Came, admit, explained, refuse_input, write_both};
+use kahn_explanation::{Admitted, Came, admit, explained, refuse_input, write_both};
 use std::alloc::Global;
 use std::hash::RandomState;
 use std::io::Write;

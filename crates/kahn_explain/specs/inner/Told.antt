@@ -5,13 +5,13 @@ use Rattle.kahn_streams.specs.declared.fault.RunFault.TheVariants.{NoMemory}
 use Rattle.kahn_explain.specs.declared.rows.RowsFault.{RowsFault}
 use Rattle.kahn_explain.specs.declared.rows.RowsFault.TheVariants as rows
 use Rattle.kahn_texts.specs.declared.bytes.WriteFault.{WriteFault}
-use Rattle.kahn_why.specs.inner.Told.{HasWritten}
+use Rattle.kahn_explanation.specs.inner.Told.{HasWritten}
 use Rattle.std.specs.Prelude.{◌≡◌, ◌⊎◌, Result, Err, ◌<◌, ◌++◌, ⊤, ℕ, Bool, false, IfSome, List, [], Option, Some, None, slice_index_or, string_bytes}
 use Rattle.kahn_streams.specs.{Inputs.Lists, Network.network_of, Written.AppendsFront, declared.tree.Program.Program, declared.value.Line.Line, declared.config.Config.Config}
 use Rattle.kahn_needs.specs.Finding.{IsNetworkLine, Seeking}
 use Rattle.kahn_needs.specs.declared.needs.Found.{Found}
 use Rattle.kahn_needs.specs.declared.needs.Found.TheVariants as found
-use Rattle.kahn_why.specs.{declared.explaining.Admitted.Admitted, declared.explaining.Came.Came, declared.explaining.Came.TheVariants.Stopped, declared.explaining.Came.TheVariants.Refused}
+use Rattle.kahn_explanation.specs.{declared.explaining.Admitted.Admitted, declared.explaining.Came.Came, declared.explaining.Came.TheVariants.Stopped, declared.explaining.Came.TheVariants.Refused}
 use Rattle.kahn_explain.specs.{Needing.IsPlaceGiven, Needing.IsQuestion, Needing.values_on, Running.HasReplied, Running.Replies, declared.replies.Asked.Asked, declared.replies.Reply.Reply, declared.running.Request.Request, declared.running.Sheet.Sheet}
 use Rattle.kahn_explain.specs.declared.replies.Asked.TheVariants as asked
 use Rattle.kahn_explain.specs.declared.running.Sheet.TheVariants as sheet

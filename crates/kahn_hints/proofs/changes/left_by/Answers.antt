@@ -1,5 +1,5 @@
 use Rattle.kahn_hints.proofs.Common.{string_bytes, subst, sym, AreFaultsOf}
-use Rattle.kahn_marks.specs.Notes.{IsApplied}
+use Rattle.kahn_diagnostic.specs.Notes.{IsApplied}
 use Rattle.kahn_hints.proofs.changes.left_by.Goals as goal
 
 pub returns-then-are_fewer : goal.returns-then-are_fewer

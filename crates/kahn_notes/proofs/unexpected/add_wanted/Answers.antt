@@ -2,7 +2,7 @@ use Rattle.kahn_notes.proofs.Common.{◌≡◌, ◌≤◌, ◌++◌, ◌+◌, �
 use Rattle.std.proofs.lemmas.Result.{IfOk-weaker}
 use Rattle.kahn_syntax.specs.declared.lexeme.Class.TheVariants as class
 use Rattle.kahn_syntax.specs.declared.lexeme.Keyword.TheVariants as word
-use Rattle.kahn_wanted.specs.declared.groups.LexemeGroup.TheVariants as group
+use Rattle.kahn_expected.specs.declared.groups.LexemeGroup.TheVariants as group
 use Rattle.kahn_notes.proofs.Pieces.{last_listed, listed_on, regrouped}
 use Rattle.kahn_notes.proofs.unexpected.add_wanted.Goals as goal
 

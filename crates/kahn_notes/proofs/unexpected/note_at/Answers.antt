@@ -1,6 +1,6 @@
 use Rattle.std.proofs.Common.{Contains, inl, inr, refl, subst, sym, ◌∙◌}
 use Rattle.std.proofs.lemmas.List.Elements.{Contains-push}
-use Rattle.kahn_marks.specs.declared.rendering.Other.{Other}
+use Rattle.kahn_diagnostic.specs.declared.rendering.Other.{Other}
 use Rattle.kahn_notes.specs.Notes.{IsThereOrFixed}
 use Rattle.kahn_notes.proofs.unexpected.note_at.Goals as goal
 

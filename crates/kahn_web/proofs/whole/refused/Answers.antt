@@ -1,5 +1,5 @@
 use Rattle.std.proofs.Common.{Some, Ok, codes, subst}
-use Rattle.kahn_why.specs.Telling.{HasToldInput}
+use Rattle.kahn_explanation.specs.Telling.{HasToldInput}
 use Rattle.kahn_web.proofs.whole.refused.Goals as goal
 
 pub returns-in-Ok : goal.returns-in-Ok

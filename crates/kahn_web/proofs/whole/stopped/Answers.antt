@@ -1,5 +1,5 @@
 use Rattle.kahn_web.proofs.Common.{Some, Ok, ◌++◌, List, ℕ, ap₂, subst, HasWritten, Stopped, alone}
-use Rattle.kahn_why.proofs.Right_ends.{answered}
+use Rattle.kahn_explanation.proofs.Right_ends.{answered}
 use Rattle.kahn_web.proofs.Reasons.{stopped}
 use Rattle.kahn_web.proofs.whole.stopped.Goals as goal
 

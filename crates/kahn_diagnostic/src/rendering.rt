@@ -1,0 +1,303 @@
+//! A note as data, how it is written, and a text with a change, as an editor makes it.
+
+ghost use Rattle.std.specs.Prelude.{◌≡◌, ◌++◌, IfOk, string_bytes, IfSome};
+ghost use Rattle.kahn_diagnostic.specs.{Marks.carets_of, Marks.heading, Marks.marked_as, Marks.rows_text, Notes.IsFixShown, Notes.IsRendered, Notes.line_below, Notes.sort_words, Notes.IsGap, Notes.IsApplied, Notes.IsPadded};
+
+use crate::lines::Lines;
+use crate::pieces::{Row, add, add_repeated, add_row, add_shown_text};
+use itoa::Buffer;
+use kahn_streams::Span;
+use std::alloc::{AllocError, Global};
+
+/// How serious a note is.
+#[derive(Clone, Copy, PartialEq, Eq)]
+pub enum Sort {
+    /// The text is refused.
+    Error,
+    /// The text is allowed, and seldom meant.
+    Warning,
+    /// Another place that has to do with an error or a warning.
+    Note,
+}
+
+/// A change of a text: what stands in a part of it, which may be empty, is replaced by a text, which may be empty.
+#[derive(Drop)]
+pub struct Fix {
+    /// The part that is replaced.
+    pub span: Span,
+    /// What is put there, without blanks round it.
+    pub put: String,
+    /// The lexeme beside it, behind which something is put in, or before which.
+    pub beside: Span,
+}
+
+/// Another place that has to do with what is said.
+#[derive(Drop)]
+pub struct Other {
+    /// The place.
+    pub span: Span,
+    /// What is said of it.
+    pub words: String,
+}
+
+/// What is said of a part of a text.
+#[derive(Drop)]
+pub struct Note {
+    /// How serious it is.
+    pub sort: Sort,
+    /// The part of the text that it is about.
+    pub span: Span,
+    /// What is said.
+    pub words: String,
+    /// The one change that mends it, where one is known.
+    pub fix: Option<Fix>,
+    /// Sentences that stand below it.
+    pub below: Vec<String>,
+    /// Other places that have to do with it.
+    pub others: Vec<Other>,
+}
+
+/// A note that has words alone.
+pub fn simple(alloc: Global, sort: Sort, span: Span, words: &str) -> Result<Note, AllocError>
+    ensures sort { IfOk result (λ note. note.sort ≡ sort) }
+    ensures span { IfOk result (λ note. note.span ≡ span) }
+    ensures words { IfOk result (λ note. string_bytes note.words ≡ words.now) }
+{
+    Ok(Note {
+        sort,
+        span,
+        words: String::from_str(alloc, words)?,
+        fix: None,
+        below: Vec::new(alloc),
+        others: Vec::new(alloc),
+    })
+}
+
+fn sort_words(sort: Sort) -> &'static str
+    ensures { result.now ≡ sort_words sort }
+{
+    match sort {
+        Sort::Error => "error",
+        Sort::Warning => "warning",
+        Sort::Note => "note",
+    }
+}
+
+/// The carets below a part: one at least.
+fn carets(alloc: Global, source: &str, near: Span, part: Span) -> Result<String, AllocError>
+    ensures { IfOk result (λ text. string_bytes text ≡ carets_of source.now near part) }
+{
+    let mut text = String::new(alloc);
+    add_row(&mut text, source, Row::Carets, near, part)?;
+    if text.is_empty() {
+        text.push_str("^")?;
+    }
+    Ok(text)
+}
+
+/// Adds what is shown of the source line of a part, with its number, and below it blanks, and carets under the part.
+fn add_rows(
+    note: &mut String,
+    alloc: Global,
+    source: &str,
+    number: &str,
+    near: Span,
+    part: Span,
+) -> Result<(), AllocError>
+    ensures { IfOk result (λ _. string_bytes note.new ≡ string_bytes note.old ++ rows_text source.now number.now near part) }
+{
+    add(note, &[" ", number, " | "])?;
+    add_row(note, source, Row::Source, near, part)?;
+    note.push_str("\n ")?;
+    add_repeated(note, " ", number.len())?;
+    note.push_str(" | ")?;
+    add_row(note, source, Row::Blanks, near, part)?;
+    note.push_str(carets(alloc, source, near, part)?.as_str())?;
+    note.push_str("\n")
+}
+
+/// Adds the heading of a note: `PATH:LINE:COLUMN: SORT: WORDS`.
+fn add_heading(
+    note: &mut String,
+    sort: &str,
+    path: &str,
+    text: &Lines<'_>,
+    from: usize,
+    words: &str,
+) -> Result<(), AllocError>
+    ensures { IfOk result (λ _. string_bytes note.new ≡ string_bytes note.old ++ heading sort.now path.now text.now from words.now) }
+{
+    note.push_str(path)?;
+    text.add_spot(note, ":", from)?;
+    add(note, &[": ", sort, ": "])?;
+    add_shown_text(note, words)?;
+    note.push_str("\n")
+}
+
+/// Adds a note of a sort on a part of the text of a file, in three lines: its heading, the line where the part begins, and carets under the
+/// part. A part that begins beyond the text is told as the text's end. It refuses only where memory was refused.
+fn add_marked(
+    note: &mut String,
+    alloc: Global,
+    sort: &str,
+    path: &str,
+    text: &Lines<'_>,
+    span: Span,
+    words: &str,
+) -> Result<(), AllocError>
+    ensures { IfOk result (λ _. string_bytes note.new ≡ string_bytes note.old ++ marked_as sort.now path.now text.now span words.now) }
+{
+    let (line, _) = text.place(span.from);
+    let mut buffer = Buffer::new();
+    let number = buffer.format(line);
+    add_heading(note, sort, path, text, span.from, words)?;
+    let source = text.text();
+    let from = span.from.min(source.len());
+    let part = Span { from, to: span.to };
+    add_rows(note, alloc, source, number, text.near(from), part)
+}
+
+/// What stands in a part of a text; nothing where no characters begin and end there.
+pub fn part_of(text: &str, span: Span) -> &str {
+    text.get(span.from..span.to).unwrap_or("")
+}
+
+fn add_change(words: &mut String, text: &str, fix: &Fix) -> Result<(), AllocError> {
+    let (old, put) = (part_of(text, fix.span), fix.put.as_str());
+    if put.is_empty() {
+        return add(words, &["remove `", old, "`"]);
+    }
+    if fix.span.from != fix.span.to {
+        return add(words, &["replace `", old, "` with `", put, "`"]);
+    }
+    let side = if fix.beside.to <= fix.span.from {
+        "` after `"
+    } else {
+        "` before `"
+    };
+    let beside = part_of(text, fix.beside);
+    add(words, &["insert `", put, side, beside, "`"])
+}
+
+/// Adds a line below the carets under a part.
+fn add_remark(
+    lines: &mut String,
+    text: &Lines<'_>,
+    span: Span,
+    words: &str,
+) -> Result<(), AllocError>
+    ensures { IfOk result (λ _. string_bytes lines.new ≡ string_bytes lines.old ++ line_below text.now span words.now) }
+{
+    let (line, _) = text.place(span.from);
+    let mut buffer = Buffer::new();
+    let number = buffer.format(line);
+    lines.push_str(" ")?;
+    add_repeated(lines, " ", number.len())?;
+    lines.push_str(" = ")?;
+    add_shown_text(lines, words)?;
+    lines.push_str("\n")
+}
+
+/// Adds the line of the change, where there is one: with its place, if that isn't where the note is.
+fn add_fix(
+    lines: &mut String,
+    alloc: Global,
+    text: &Lines<'_>,
+    note: &Note,
+) -> Result<(), AllocError>
+    ensures { IfOk result (λ _. IsFixShown text.now note.now.span note.now.fix (string_bytes lines.old) (string_bytes lines.new)) }
+{
+    let Some(fix) = &note.fix else {
+        return Ok(());
+    };
+    let mut words = String::from_str(alloc, "fix: ")?;
+    add_change(&mut words, text.text(), fix)?;
+    if fix.span.from != note.span.from {
+        text.add_spot(&mut words, " at ", fix.span.from)?;
+    }
+    add_remark(lines, text, note.span, words.as_str())
+}
+
+/// A note on the text of a file whose lines were counted, as lines: `PATH:LINE:COLUMN: error: WORDS`, the source line with carets, the change that mends it and
+/// sentences, and then the other places. What would drive a terminal is shown as U+FFFD. It refuses only where memory was refused.
+pub fn render_in(
+    alloc: Global,
+    path: &str,
+    text: &Lines<'_>,
+    note: &Note,
+) -> Result<String, AllocError>
+    ensures { IfOk result (λ lines. IsRendered path.now text.now note.now (string_bytes lines)) }
+{
+    let (sort, words) = (sort_words(note.sort), note.words.as_str());
+    let mut lines = String::new(alloc);
+    add_marked(&mut lines, alloc, sort, path, text, note.span, words)?;
+    add_fix(&mut lines, alloc, text, note)?;
+    for sentence in &note.below {
+        add_remark(&mut lines, text, note.span, sentence.as_str())?;
+    }
+    for other in &note.others {
+        let words = other.words.as_str();
+        add_marked(&mut lines, alloc, "note", path, text, other.span, words)?;
+    }
+    Ok(lines)
+}
+
+/// The same of a text whose lines weren't counted. It refuses only where memory was refused.
+pub fn render(alloc: Global, path: &str, text: &str, note: &Note) -> Result<String, AllocError>
+    ensures { IfOk result (λ lines. IsRendered path.now text.now note.now (string_bytes lines)) }
+{
+    let text = Lines::new(alloc, text)?;
+    render_in(alloc, path, &text, note)
+}
+
+/// Whether a byte is a letter, a digit or `_`.
+fn is_of_word(byte: Option<u8>) -> bool {
+    matches!(byte, Some(b'a'..=b'z' | b'A'..=b'Z' | b'0'..=b'9' | b'_'))
+}
+
+/// Whether a blank stands before what is put there: between two words, and before what is put in, if it is no bracket and ends nothing.
+fn is_apart(before: Option<u8>, put: &str, is_insertion: bool) -> bool {
+    let is_free = !matches!(put, ";" | "," | ")" | "(") && !matches!(before, None | Some(b' '));
+    is_insertion && is_free || is_of_word(before) && is_of_word(put.as_bytes().first().copied())
+}
+
+/// A blank, or none.
+fn gap(is_there: bool) -> &'static str
+    ensures { IsGap result.now }
+{
+    if is_there { " " } else { "" }
+}
+
+/// What is put into a text, with blanks where two words would grow together.
+pub fn padded(alloc: Global, text: &str, fix: &Fix) -> Result<String, AllocError>
+    ensures { IfOk result (λ put. IsPadded (string_bytes fix.now.put) (string_bytes put)) }
+{
+    let (bytes, put) = (text.as_bytes(), fix.put.as_str());
+    let before = bytes.get(fix.span.from.wrapping_sub(1)).copied();
+    let behind = bytes.get(fix.span.to).copied();
+    let last = put.as_bytes().last().copied().or(before);
+    let front = gap(is_apart(before, put, fix.span.from == fix.span.to));
+    let back = gap(is_of_word(last) && is_of_word(behind));
+    let mut all = String::new(alloc);
+    all.push_str(front)?;
+    all.push_str(put)?;
+    all.push_str(back)?;
+    Ok(all)
+}
+
+/// A text with a change of it; nothing where no characters begin and end there.
+pub fn applied(alloc: Global, text: &str, fix: &Fix) -> Result<Option<String>, AllocError>
+    ensures { IfOk result (λ new. IfSome new (λ new. IsApplied text.now fix.now (string_bytes new))) }
+{
+    let Some((before, _)) = text.split_at_checked(fix.span.from) else {
+        return Ok(None);
+    };
+    let Some((_, behind)) = text.split_at_checked(fix.span.to) else {
+        return Ok(None);
+    };
+    let put = padded(alloc, text, fix)?;
+    let mut new = String::from_str(alloc, before)?;
+    new.push_str(put.as_str())?;
+    new.push_str(behind)?;
+    Ok(Some(new))
+}

@@ -1,7 +1,0 @@
--- None of the rules so far has it.
-use Rattle.kahn_wanted.proofs.Common.{List, drop, enters, rules_as, terminal_with, ℕ, ℤ, ◌≡◌}
-use Rattle.kahn_wanted.proofs.grammar.by_rules.Given as goal
-
-abbrev pub invariant-loop-rule : goal.invariant-loop-rule
-invariant-loop-rule l =
-    (n : List ℕ) (z : ℤ) → enters (rules_as l.from (drop l.rule-index l.rules)) (terminal_with n z l.class) ≡ enters (rules_as l.from l.rules) (terminal_with n z l.class)

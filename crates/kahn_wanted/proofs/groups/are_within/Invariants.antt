@@ -1,6 +1,0 @@
--- Each class so far is among those.
-use Rattle.std.proofs.Common.{All, Contains, take}
-use Rattle.kahn_wanted.proofs.groups.are_within.Given as goal
-
-abbrev pub invariant-loop-class : goal.invariant-loop-class
-invariant-loop-class l = All (Contains l.classes) (take l.class-index l.some)

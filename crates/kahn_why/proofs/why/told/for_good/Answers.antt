@@ -1,5 +1,0 @@
-use Rattle.kahn_why.proofs.{Lasting.for_ever, Stands.for_good}
-use Rattle.kahn_why.proofs.why.told.for_good.Goals as goal
-
-pub returns : goal.returns
-returns c = record { ends = for_good; told = for_ever }
