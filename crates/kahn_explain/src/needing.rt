@@ -9,7 +9,7 @@ use crate::tracing::{TableText, add_line, add_value, counted};
 use itoa::Buffer;
 use kahn_code::CodeFault;
 use kahn_fault::{WorkFault, shown_path};
-use kahn_hints::add_unknown_channel;
+use kahn_program_notes::add_unknown_channel;
 use kahn_line::parted;
 use kahn_diagnostic::add;
 use kahn_needs::{Found, Seeker};

@@ -4,7 +4,7 @@ use Rattle.kahn_streams.specs.{declared.span.Span.Span, declared.fault.CheckFaul
 use Rattle.kahn_check.specs.Parts.{faults_by_part}
 use Rattle.kahn_syntax.specs.{declared.fault.What.What, declared.fault.SyntaxFault.SyntaxFault, declared.fault.SyntaxFault.TheVariants.Expected, Texts.IsTextFault}
 use Rattle.kahn_fault.specs.Message.{syntax_span}
-use Rattle.kahn_notes.specs.Notes.{IsNoteAt, Mends}
+use Rattle.kahn_program_notes.specs.Notes.{IsNoteAt, Mends}
 
 abbrev unwrapped : Span × What → Option (Span × What) → Span × What
 unwrapped d None = d

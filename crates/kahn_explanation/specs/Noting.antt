@@ -2,7 +2,7 @@
 use Rattle.std.specs.Prelude.{◌≡◌, ℕ, All, List, [], ◌++◌, take}
 use Rattle.kahn_streams.specs.{declared.tree.Program.Program, declared.fault.CheckFault.CheckFault}
 use Rattle.kahn_diagnostic.specs.{Notes.IsRendered, Told.most_notes, declared.rendering.Note.Note}
-use Rattle.kahn_hints.specs.Hints.{TellsOne}
+use Rattle.kahn_program_notes.specs.Hints.{TellsOne}
 use Rattle.kahn_warnings.specs.Telling.{AreWarningNotes}
 
 -- a note stands in lines, as it is rendered

@@ -6,7 +6,7 @@ use Rattle.kahn_check.specs.Parts.{faults_by_part}
 use Rattle.kahn_syntax.specs.{declared.fault.What.What, declared.fault.SyntaxFault.SyntaxFault, declared.fault.SyntaxFault.TheVariants.Expected}
 use Rattle.kahn_fault.specs.{declared.work.WorkFault.WorkFault, declared.work.WorkFault.TheVariants.Syntax, declared.work.WorkFault.TheVariants.Check, Message.check_span, Message.syntax_span, Message.syntax_words, Work.IsChecked, Work.IsParsed, Work.IsUnchecked}
 use Rattle.kahn_diagnostic.specs.{Notes.IsRendered, declared.rendering.Note.Note}
-use Rattle.kahn_notes.specs.Notes.{IsNoteAt, Mends}
+use Rattle.kahn_program_notes.specs.Notes.{IsNoteAt, Mends}
 use Rattle.kahn_explanation.specs.Noting.{AreFaultLines, AreWarningLines}
 
 -- the place and the reason, where a lexeme can't stand or the text ends too early

@@ -7,7 +7,7 @@ ghost use Rattle.kahn_input_notes.specs.{Fitting.line_name, Refused.IsHeadPart, 
 use crate::feeding::{kind_for, kind_words};
 use crate::fitting::{content, lack_of, line_name, part_of, unfit_span};
 use crate::strange::{PARTS, first_words, strange_words, value_words, words_of};
-use kahn_hints::add_unknown_input;
+use kahn_program_notes::add_unknown_input;
 use kahn_streams::Network;
 use std::alloc::{AllocError, Global};
 

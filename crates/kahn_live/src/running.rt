@@ -11,7 +11,7 @@ use crate::outlet::DeferredWriter;
 use crate::taking::{LiveStage, take_all, wants_memory};
 use crate::telling::Teller;
 use kahn_fault::{Fault, WorkFault, checked, live_status};
-use kahn_hints::add_unknown_channel;
+use kahn_program_notes::add_unknown_channel;
 use kahn_line::{LiveOptions, PlainNames, copied, input_named, parted};
 use kahn_session::{Origin, Session};
 use kahn_streams::{Config, Network, RunFault, Verdict};

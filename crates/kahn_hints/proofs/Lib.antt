@@ -1,3 +1,0 @@
-mod Nearest
-mod Telling
-pub mod Common

@@ -1,5 +1,0 @@
-use Rattle.std.proofs.Common.{inl}
-use Rattle.kahn_notes.proofs.place.goes_on.Goals as goal
-
-pub returns-in-Ok : goal.returns-in-Ok
-returns-in-Ok c h = inl (c.in-Ok._program, c.in-Ok.ensures.spells)

@@ -1,0 +1,4 @@
+pub mod Pieces
+mod Nearest
+mod Telling
+pub mod Common

@@ -1,0 +1,4 @@
+pub mod Notes
+pub mod Words
+pub mod Hints
+pub mod Near

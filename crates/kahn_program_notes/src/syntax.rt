@@ -1,0 +1,9 @@
+//! Why a text is no program: what was found at a place, what may come there, the changes that mend it, and open blocks.
+
+mod blocks;
+mod place;
+mod rules;
+mod unexpected;
+
+pub use rules::character_help;
+pub use unexpected::{commented_note, held_remark, unexpected_note};
