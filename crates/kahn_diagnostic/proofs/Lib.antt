@@ -1,5 +1,4 @@
 mod Counted
 mod Ends
-mod Fronts
-mod Rows
+mod Written
 pub mod Common

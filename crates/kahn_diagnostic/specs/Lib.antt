@@ -1,6 +1,5 @@
 pub mod Marks
 pub mod Near
 pub mod Notes
-pub mod Shown
 pub mod Told
 pub mod inner

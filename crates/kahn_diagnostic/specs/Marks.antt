@@ -2,42 +2,9 @@
 use Rattle.std.specs.Prelude.{ℕ, zero, suc, ◌+◌, ◌-◌, ◌==◌, ◌&&◌, List, [], ◌∷◌, ◌++◌, Bool, false, if◌then◌else◌, nat_le, nat_lt, not, ◌||◌, unwrap_or, codes, chars, decimal, drop, encode_utf8, flat_map, length, min, slice_index_or}
 use Rattle.std.specs.{List.concat, List.prefix_len, Char.is_control}
 use Rattle.unicode_width.specs.Width.{char_width}
+use Rattle.kahn_texts.specs.Shown.{is_kept_back, shown_character, shown_text, spot_text, times_over}
 use Rattle.kahn_streams.specs.{Place.line_of, Place.column_of, declared.span.Span.Span}
-use Rattle.kahn_diagnostic.specs.{declared.pieces.Row.Row, declared.pieces.Row.TheVariants.Source, declared.pieces.Row.TheVariants.Blanks, declared.pieces.Row.TheVariants.Carets}
-
--- a line and a column behind a word
-abbrev pub counted_text : List ℕ → ℕ → ℕ → List ℕ
-counted_text before line column = concat (before ∷ decimal line ∷ codes ":" ∷ decimal column ∷ [])
-
--- those of a byte of a text, or of its end where the text has no such byte
-abbrev pub spot_text : List ℕ → List ℕ → ℕ → List ℕ
-spot_text before text from = counted_text before (line_of text from) (column_of text from)
-
--- the piece so many times
-abbrev pub times_over : ℕ → List ℕ → List ℕ
-times_over zero piece = []
-times_over (suc n) piece = piece ++ times_over n piece
-
--- between these two
-abbrev pub is_between : ℕ → ℕ → ℕ → Bool
-is_between low high c = nat_le low c && nat_le c high
-
--- a format character that changes how or in which order those beside it are shown, or takes no place: the marks, embeddings, overrides
--- and isolates of a direction, what ends a line or a paragraph, what joins or parts words, and the mark of the order of bytes
-abbrev pub is_format : ℕ → Bool
-is_format c = c == 0x061C || is_between 0x200B 0x200F c || is_between 0x2028 0x202E c || is_between 0x2060 0x206F c || c == 0xFEFF
-
--- no terminal gets it as it is
-abbrev pub is_kept_back : ℕ → Bool
-is_kept_back c = is_control c || is_format c
-
--- a character as it is shown: a tab as four blanks, a control or format character as U+FFFD
-abbrev pub shown_character : ℕ → List ℕ
-shown_character c = if c == 9 then codes "    " else if is_kept_back c then encode_utf8 0xFFFD else encode_utf8 c
-
--- and a text, as of a path
-abbrev pub shown_text : List ℕ → List ℕ
-shown_text text = flat_map shown_character (chars text)
+use Rattle.kahn_diagnostic.specs.{declared.rows.Row.Row, declared.rows.Row.TheVariants.Source, declared.rows.Row.TheVariants.Blanks, declared.rows.Row.TheVariants.Carets}
 
 -- the columns that it takes then in a terminal
 abbrev pub columns : ℕ → ℕ

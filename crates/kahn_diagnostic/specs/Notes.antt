@@ -2,7 +2,8 @@
 use Rattle.std.specs.Prelude.{◌≡◌, ◌⊎◌, ℕ, List, ◌∷◌, [], ◌++◌, Option, Some, None, codes, decimal, drop, flat_map, length, string_bytes, take}
 use Rattle.std.specs.{List.concat, declared.alloc.Global.Global, declared.string.String.String}
 use Rattle.kahn_streams.specs.{Place.line_of, declared.span.Span.Span}
-use Rattle.kahn_diagnostic.specs.{declared.rendering.Sort.Sort, declared.rendering.Fix.Fix, declared.rendering.Other.Other, declared.rendering.Note.Note, Marks.marked_as, Marks.shown_text, Marks.times_over}
+use Rattle.kahn_diagnostic.specs.{declared.rendering.Sort.Sort, declared.rendering.Fix.Fix, declared.rendering.Other.Other, declared.rendering.Note.Note, Marks.marked_as}
+use Rattle.kahn_texts.specs.Shown.{shown_text, times_over}
 use Rattle.kahn_diagnostic.specs.declared.rendering.Sort.TheVariants as sort
 
 -- how a sort is called

@@ -3,14 +3,11 @@
 
 mod lines;
 mod near;
-mod pieces;
 mod rendering;
+mod rows;
 
 // For the crates above.
 pub use lines::Lines;
 pub use near::is_within;
-pub use pieces::{
-    MOST_NOTES, add, add_more, add_repeated, add_shown_text, add_spot, first_ones, place,
-    shown_part,
-};
 pub use rendering::{Fix, Note, Other, Sort, applied, padded, part_of, render, render_in, simple};
+pub use rows::MOST_NOTES;

@@ -2,10 +2,11 @@
 
 ghost use Rattle.std.specs.Prelude.{◌≡◌, ◌≤◌, ◌<◌, ◌+◌, ◌++◌, IfOk, All, length, string_bytes};
 ghost use Rattle.kahn_streams.specs.Place.{line_of, column_of};
-ghost use Rattle.kahn_diagnostic.specs.{Marks.near_of, Marks.near_end, Marks.spot_text, inner.Spots.IsSpotOf};
+ghost use Rattle.kahn_diagnostic.specs.{Marks.near_of, Marks.near_end, inner.Spots.IsSpotOf};
+ghost use Rattle.kahn_texts.specs.Shown.{spot_text};
 
-use crate::pieces::add_counted;
 use kahn_streams::Span;
+use kahn_texts::add_counted;
 use std::alloc::{AllocError, Global};
 use std::marker::Model;
 
@@ -145,7 +146,7 @@ impl<'t> Lines<'t> {
     }
 
     /// Returns the line and the column of byte `from`, both from 1, columns in bytes; of the end of the text if there is no such byte.
-    #[tactic(auto, using(crate::proofs::Rows::same_line, crate::proofs::Rows::same_column))]
+    #[tactic(auto, using(kahn_texts::proofs::Characters::same_line, kahn_texts::proofs::Characters::same_column))]
     pub fn place(&self, from: usize) -> (usize, usize)
         ensures line { result.0 ≡ line_of self.now from }
         ensures column { result.1 ≡ column_of self.now from }

@@ -4,9 +4,10 @@ ghost use Rattle.std.specs.Prelude.{◌≡◌, ◌++◌, IfOk, string_bytes, IfS
 ghost use Rattle.kahn_diagnostic.specs.{Marks.carets_of, Marks.heading, Marks.marked_as, Marks.rows_text, Notes.IsFixShown, Notes.IsRendered, Notes.line_below, Notes.sort_words, Notes.IsGap, Notes.IsApplied, Notes.IsPadded};
 
 use crate::lines::Lines;
-use crate::pieces::{Row, add, add_repeated, add_row, add_shown_text};
+use crate::rows::{Row, add_row};
 use itoa::Buffer;
 use kahn_streams::Span;
+use kahn_texts::{add, add_repeated, add_shown_text};
 use std::alloc::{AllocError, Global};
 
 /// How serious a note is.

@@ -9,13 +9,12 @@ use crate::tracing::{TableText, add_line, add_value, counted};
 use itoa::Buffer;
 use kahn_code::CodeFault;
 use kahn_fault::{WorkFault, shown_path};
-use kahn_program_notes::add_unknown_channel;
 use kahn_line::parted;
-use kahn_diagnostic::add;
 use kahn_needs::{Found, Seeker};
+use kahn_program_notes::add_unknown_channel;
 use kahn_sequential::Counted;
 use kahn_streams::{Config, Input, Line, Network, RunFault, Verdict, channel_named};
-use kahn_texts::read_input;
+use kahn_texts::{add, read_input};
 use std::alloc::{AllocError, Global};
 
 /// Why a word asks for nothing.

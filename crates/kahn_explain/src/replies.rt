@@ -13,11 +13,11 @@ use crate::needing::{
 use crate::rows::{RowsFault, put_needs};
 use crate::running::{Request, Sheet, told_of};
 use crate::tracing::{Trace, counted, counts_text, recorded};
+use kahn_explanation::{Admitted, Came, Finding, admit, write_both};
 use kahn_fault::WorkFault;
 use kahn_needs::Seeker;
 use kahn_streams::{Config, Line, Network, RunFault, Verdict};
 use kahn_texts::{read_input, write_line};
-use kahn_explanation::{Admitted, Came, Finding, admit, write_both};
 use std::alloc::Global;
 use std::io::Write;
 

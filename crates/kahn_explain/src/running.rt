@@ -8,11 +8,13 @@ ghost use Rattle.kahn_explanation.specs.{Why.standings_of};
 
 use crate::replies::sheet_out;
 use crate::tracing::{untaken_line, with_line};
+use kahn_explanation::{
+    Admitted, Came, Finding, admit, explained, refuse_input, write_both, write_data,
+};
 use kahn_fault::{Fault, WorkFault, tell, tell_reason};
 use kahn_sequential::{Count, run_counted};
 use kahn_streams::{Answer, Config, Network, NoMemory, RunFault, Verdict};
 use kahn_texts::{read_input, write_line};
-use kahn_explanation::{Admitted, Came, Finding, admit, explained, refuse_input, write_both, write_data};
 use std::alloc::Global;
 use std::hash::RandomState;
 use std::io;

@@ -10,10 +10,9 @@ use crate::rows::{flush_all, put, put_value};
 use itoa::Buffer;
 use kahn_fault::WorkFault;
 use kahn_line::parted;
-use kahn_diagnostic::add;
 use kahn_sequential::{Count, Counted, Recorded, run_counted, run_recorded};
 use kahn_streams::{Answer, Config, Line, Network, Role, Side, Stream, Value, Verdict};
-use kahn_texts::{WriteFault, channel_name, process_name, read_input};
+use kahn_texts::{WriteFault, add, channel_name, process_name, read_input};
 use std::alloc::{AllocError, Global};
 use std::io::Write;
 

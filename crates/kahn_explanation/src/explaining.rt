@@ -8,17 +8,16 @@ ghost use Rattle.kahn_syntax.specs.Texts.{IsTextFault as IsSyntaxFault};
 use crate::why::Finding;
 use itoa::Buffer;
 use kahn_check::{CheckFault, check, every, part_by_part};
+use kahn_diagnostic::{Lines, MOST_NOTES, Note, Sort, padded, render, simple};
+use kahn_expected::comments_of;
 use kahn_fault::{WorkFault, check_span, checked, syntax_span, syntax_words};
-use kahn_program_notes::fault_notes;
 use kahn_input_notes::input_note;
-use kahn_diagnostic::{
-    Lines, MOST_NOTES, Note, Sort, add, add_more, first_ones, padded, render, simple,
+use kahn_program_notes::{
+    character_help, commented_note, fault_notes, held_remark, unexpected_note,
 };
-use kahn_program_notes::{character_help, commented_note, held_remark, unexpected_note};
 use kahn_streams::{Network, NoMemory, Program, RunFault, Span};
 use kahn_syntax::{SyntaxFault, What, parse};
-use kahn_texts::{TextFault, read_input, write_line};
-use kahn_expected::comments_of;
+use kahn_texts::{TextFault, add, add_more, first_ones, read_input, write_line};
 use kahn_warnings::warning_notes;
 use std::alloc::{AllocError, Global};
 use std::hash::RandomState;

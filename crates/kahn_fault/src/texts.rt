@@ -3,12 +3,11 @@
 ghost use Rattle.std.specs.Prelude.{◌≡◌, ◌≤◌, IfErr, IfOk, MatchResult, None, [], length, string_bytes, Err};
 ghost use Rattle.kahn_texts.specs.{Reading.GivesAll, Formats.most_input_bytes};
 ghost use Rattle.kahn_fault.specs.{Texts.most_program_bytes, Texts.AreWithin, Texts.IsOfProgram, Texts.IsOfInput, Texts.IsOfTexts, Texts.StandsForProgram, Texts.StandsForInput, Reasons.reason_line, Status.status_of};
-ghost use Rattle.kahn_diagnostic.specs.Marks.{shown_text};
+ghost use Rattle.kahn_texts.specs.Shown.{shown_text};
 ghost use Rattle.kahn_streams.specs.Written.{Writes};
 
 use crate::fault::{Fault, tell};
-use kahn_diagnostic::add_shown_text;
-use kahn_texts::{ReadFault, WriteFault, read_text, write_line};
+use kahn_texts::{ReadFault, WriteFault, add_shown_text, read_text, write_line};
 use std::alloc::{AllocError, Global};
 use std::fs;
 use std::hash::RandomState;

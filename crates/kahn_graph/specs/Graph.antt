@@ -8,7 +8,7 @@ use Rattle.kahn_streams.specs.{declared.tree.Role.TheVariants.Inner, declared.tr
 use Rattle.kahn_streams.specs.declared.tree.Argument.TheVariants as A
 use Rattle.kahn_chain.specs.{declared.reason.Standing.Standing, Chain.IsRingMark, Chain.stands}
 use Rattle.kahn_chain.specs.declared.reason.Standing.TheVariants as Stands
-use Rattle.kahn_diagnostic.specs.Marks.{spot_text}
+use Rattle.kahn_texts.specs.Shown.{spot_text}
 use Rattle.kahn_graph.specs.Ran.{ended_text, carried, count_text, IsWaitMark}
 
 -- ---- instances

@@ -7,11 +7,11 @@ ghost use Rattle.kahn_chain.specs.Chain.{AreRings, stands, AreStandings, IsRingM
 
 use itoa::Buffer;
 use kahn_chain::rings;
-use kahn_diagnostic::{add, add_spot};
 use kahn_streams::{
     Argument, End, Failure, Line, Network, NetworkInstance, Outcome, Parameter, Process, Stream,
     declaration_prints,
 };
+use kahn_texts::{add, add_spot};
 use std::alloc::{AllocError, Global};
 
 /// A text where something is so, and else another one.

@@ -7,8 +7,8 @@ ghost use Rattle.kahn_graph.specs.{Graph.IsPicture, Graph.place_text, Graph.mark
 
 use crate::nodes::{add_count, add_nodes, carried, is_ring_channel, printing, rings_of, text_if};
 use itoa::Buffer;
-use kahn_diagnostic::add;
 use kahn_streams::{End, Kind, Network, Role, Side, Stream};
+use kahn_texts::add;
 use std::alloc::{AllocError, Global};
 
 /// The text in the language of Graphviz that draws the network of a program text: a node for each instance, with its number, its

@@ -7,10 +7,10 @@ use crate::fitting::{
     FoundLine, find_line, first_named, lack_of, line_name, moved_by, name_span, part_of, unfit_span,
 };
 use crate::strange::{head_words, value_words};
+use kahn_diagnostic::{Note, Other, Sort};
 use kahn_program_notes::add_unknown_input;
-use kahn_diagnostic::{Note, Other, Sort, add};
 use kahn_streams::{InputFault, Kind, Network, NoMemory, Role, Span, channel_named};
-use kahn_texts::TextFault;
+use kahn_texts::{TextFault, add};
 use std::alloc::{AllocError, Global};
 use std::str;
 

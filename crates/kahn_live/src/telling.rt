@@ -7,6 +7,7 @@ ghost use Rattle.kahn_live.specs.{Course.AreCausesOf, Course.IsFaultPut, Course.
 
 use crate::running::{Amiss, is_end_wanted};
 use itoa::Buffer;
+use kahn_explanation::causes;
 use kahn_fault::{Fault, live_status, tell, tell_explain};
 use kahn_input_notes::{
     RefusedPart, head_part, inputs_words, kind_part, name_part, unknown_words, value_part,
@@ -18,7 +19,6 @@ use kahn_session::{
 };
 use kahn_streams::{Failure, FeedFault, Network, Verdict};
 use kahn_texts::{process_name, write_line};
-use kahn_explanation::causes;
 use std::alloc::{AllocError, Global};
 use std::io::Write;
 

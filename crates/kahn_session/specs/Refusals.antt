@@ -3,7 +3,7 @@ use Rattle.std.specs.Prelude.{ℕ, ◌-◌, ◌^◌, ◌==◌, ◌&&◌, ◌++�
 use Rattle.std.specs.List.{concat}
 use Rattle.kahn_streams.specs.{declared.value.Failure.Failure, declared.value.Failure.TheVariants.Overflow, declared.value.Failure.TheVariants.Division, Written.Writes}
 use Rattle.kahn_streams.specs.declared.feeds.FeedFault.TheVariants as feed
-use Rattle.kahn_diagnostic.specs.Shown.{shown_part}
+use Rattle.kahn_texts.specs.Shown.{shown_part}
 use Rattle.kahn_session.specs.declared.refusal.TakeFault.{TakeFault}
 use Rattle.kahn_session.specs.declared.refusal.TakeFault.TheVariants as take
 use Rattle.kahn_session.specs.declared.refusal.Origin.{Origin}

@@ -4,9 +4,8 @@ ghost use Rattle.std.specs.Prelude.{◌≡◌, ◌++◌, ◌∷◌, []};
 ghost use Rattle.kahn_session.specs.{Refusals.Says, Refusals.before_part, Refusals.behind_part, Refusals.failure_words, Refusals.is_want, Refusals.like_words, Refusals.origin, Refusals.refused_origin, Refusals.take_words};
 
 use itoa::Buffer;
-use kahn_diagnostic::shown_part;
 use kahn_streams::{Failure, FeedFault};
-use kahn_texts::{WriteFault, write_line};
+use kahn_texts::{WriteFault, shown_part, write_line};
 use std::io::Write;
 use thiserror::Error;
 

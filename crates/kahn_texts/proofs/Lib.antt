@@ -11,4 +11,5 @@ pub mod Kept
 pub mod Told
 pub mod Same_inputs
 pub mod Cut
+pub mod Characters
 pub mod Common

@@ -5,6 +5,7 @@ mod bytes;
 mod input;
 mod read;
 mod several;
+mod shown;
 mod write;
 
 pub use bytes::{CallCount, WriteFault};
@@ -19,4 +20,8 @@ pub use input::{
     EntryFault, MOST_BYTES, blanks, is_blank, read_entries, read_line, value_of, word_bytes,
 };
 pub use several::write_for;
+pub use shown::{
+    add, add_counted, add_more, add_repeated, add_shown, add_shown_text, add_spot, first_ones,
+    is_kept_back, place, shown_part,
+};
 pub use write::{channel_name, process_name, write_closing, write_news, write_plain};

@@ -1,7 +1,7 @@
 //! Statements that are indented as if they belonged to the one before.
 
-use kahn_streams::{Action, Declaration, Program, Span, Statement};
 use kahn_expected::bytes_between;
+use kahn_streams::{Action, Declaration, Program, Span, Statement};
 use std::alloc::{AllocError, Global};
 
 /// Returns where the line of byte `at` begins.

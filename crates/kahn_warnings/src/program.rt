@@ -12,10 +12,10 @@ use crate::sites::{
     site_kind, varies_by, waits_in,
 };
 use kahn_diagnostic::{Note, Other, Sort, simple};
+use kahn_expected::{comments_of, swallows};
 use kahn_streams::{
     Action, Declaration, Failure, Instance, Kind, NoMemory, Process, Program, Span, Statement,
 };
-use kahn_expected::{comments_of, swallows};
 use std::alloc::{AllocError, Global};
 use std::hash::RandomState;
 

@@ -10,6 +10,7 @@ ghost use Rattle.kahn_explanation.specs.inner.Told.{IsAdmitted};
 
 use crate::secret::PageSecret;
 use itoa::Buffer;
+use kahn_explanation::{Admitted, Came, admit, explained, refuse_input, write_both};
 use kahn_fault::{Fault, WorkFault, checked, tell};
 use kahn_sequential::{Recorded, run_one, run_recorded};
 use kahn_streams::{Answer, Config, Line, Network, Verdict};
@@ -17,7 +18,6 @@ use kahn_texts::{
     ReadFault, TextFault, WriteFault, channel_name, read_input, write_line, write_news,
     write_report,
 };
-use kahn_explanation::{Admitted, Came, admit, explained, refuse_input, write_both};
 use std::alloc::Global;
 use std::hash::RandomState;
 use std::io::Write;

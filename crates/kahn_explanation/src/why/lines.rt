@@ -2,12 +2,10 @@
 
 use itoa::Buffer;
 use kahn_chain::{Cause, Reason, Standing};
-use kahn_diagnostic::{
-    Lines, MOST_NOTES, Other, Sort, add, add_more, first_ones, part_of, render_in, simple,
-};
+use kahn_diagnostic::{Lines, MOST_NOTES, Other, Sort, part_of, render_in, simple};
 use kahn_streams::{Failure, Input, Network, Outcome, Process, Span, Verdict};
 use kahn_syntax::{Class, Keyword, Lexeme, lex};
-use kahn_texts::{channel_name, process_name};
+use kahn_texts::{add, add_more, channel_name, first_ones, process_name};
 use kahn_warnings::fault_places;
 use std::alloc::{AllocError, Global};
 

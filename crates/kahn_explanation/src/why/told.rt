@@ -9,8 +9,9 @@ ghost use Rattle.kahn_explanation.specs.{Why.AreCauses, Why.IsExplained, Why.Las
 use crate::why::lines::{Story, add_causes, add_count, add_those, is_fed, led_to, lexemes_for};
 use itoa::Buffer;
 use kahn_chain::{Cause, Reason, reasons};
-use kahn_diagnostic::{Lines, add};
+use kahn_diagnostic::Lines;
 use kahn_streams::{Answer, End, Input, Network, Outcome, Verdict};
+use kahn_texts::add;
 use std::alloc::{AllocError, Global};
 
 /// What a run came to.

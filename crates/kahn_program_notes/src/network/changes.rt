@@ -7,11 +7,12 @@ ghost use Rattle.kahn_program_notes.specs.Hints.{AreFaultsOf, LessensFaults, are
 
 use crate::network::place::{NameKind, NetworkPlace, names_seen, side_of, taken_by, word_at};
 use kahn_check::every;
+use kahn_diagnostic::{Fix, applied};
 use kahn_fault::{check_span, check_words};
-use kahn_diagnostic::{Fix, add, applied};
 use kahn_streams::{CheckFault, Kind, NoMemory, Span};
 use kahn_syntax::Keyword::{Channel, In, Input, Integer, Logical, Out, Output};
 use kahn_syntax::{Class, Lexeme, SyntaxFault, parse};
+use kahn_texts::add;
 use std::alloc::Global;
 use std::hash::RandomState;
 

@@ -4,13 +4,15 @@ ghost use Rattle.std.specs.Prelude.{◌≡◌, [], All, Contains, IfOk, IfSome};
 ghost use Rattle.kahn_fault.specs.Message.{check_span};
 ghost use Rattle.kahn_program_notes.specs.Hints.{LessensFaults, TellsFault, TellsMore, TellsOne};
 
-use crate::network::changes::{Edit, EditKind, change_for, is_same_fault, left_by, letters_at, tries_of};
+use crate::network::changes::{
+    Edit, EditKind, change_for, is_same_fault, left_by, letters_at, tries_of,
+};
 use crate::network::place::{
     Body, NetworkPlace, beginning, bodies_in, body_called, handed_in, instance_at, side_of,
 };
 use crate::network::said::{add_said, facts_of, others_of};
-use kahn_fault::{check_span, check_words};
 use kahn_diagnostic::{Fix, MOST_NOTES, Note, Sort};
+use kahn_fault::{check_span, check_words};
 use kahn_streams::{CheckFault, NoMemory, Program, Span};
 use kahn_syntax::lex;
 use std::alloc::Global;

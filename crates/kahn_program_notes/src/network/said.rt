@@ -4,10 +4,11 @@ use crate::network::changes::{Edit, EditKind, MOST_LEXEMES, found_kind};
 use crate::network::near::{add_near, nearest};
 use crate::network::place::{NameKind, NetworkPlace, is_called, names_seen, side_of, taken_by};
 use itoa::Buffer;
+use kahn_diagnostic::Other;
 use kahn_fault::{check_span, check_words};
-use kahn_diagnostic::{Other, add};
 use kahn_streams::{CheckFault, Kind, NoMemory, Role, Span};
 use kahn_syntax::{Class, Keyword, Sign};
+use kahn_texts::add;
 use std::alloc::AllocError;
 
 /// Whether memory was there for adding words.

@@ -7,10 +7,11 @@ ghost use Rattle.kahn_syntax.specs.Texts.{IsTextFault};
 
 use crate::syntax::rules::row_of_foreign;
 use crate::syntax::unexpected::class_word;
-use kahn_diagnostic::{Fix, add, add_spot, applied, is_within, part_of};
+use kahn_diagnostic::{Fix, applied, is_within, part_of};
+use kahn_expected::{Change, LexemeGroup, Reach, Wanted, is_of_word};
 use kahn_streams::NoMemory;
 use kahn_syntax::{Class, Keyword, Lexeme, Span, SyntaxFault, parse};
-use kahn_expected::{Change, LexemeGroup, Reach, Wanted, is_of_word};
+use kahn_texts::{add, add_spot};
 use std::alloc::{AllocError, Global};
 
 /// Of how many lexemes a text may be for which changes are looked for.

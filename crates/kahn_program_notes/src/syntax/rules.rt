@@ -9,8 +9,8 @@ use crate::syntax::place::{
     is_declared, mending, name_at, near, offered, put_at, sentence, slip, told, word_at,
 };
 use kahn_diagnostic::{is_within, padded, part_of};
-use kahn_syntax::{Span, SyntaxFault};
 use kahn_expected::is_of_word;
+use kahn_syntax::{Span, SyntaxFault};
 use std::alloc::Global;
 
 /// A row has the lexeme before the place, the one there, and the tests; and what is said: where a change is and what is put there, of several

@@ -7,15 +7,18 @@ ghost use Rattle.kahn_streams.specs.declared.span.Span.{Span};
 ghost use Rattle.kahn_syntax.specs.{declared.fault.SyntaxFault.TheVariants.Expected, Texts.IsTextFault};
 ghost use Rattle.kahn_program_notes.specs.{Notes.IsExpected, Notes.IsNoteAt, Notes.IsThereOrFixed, Notes.IsToldAt, Notes.Mends, Notes.listed, Notes.pieces_of, Notes.text_end_words, Notes.wanted_words, Words.any_words, Words.separator};
 
-use crate::syntax::place::{Heading, MOST, Place, Saying, Words, mending, placed, put_behind, sentence};
+use crate::syntax::place::{
+    Heading, MOST, Place, Saying, Words, mending, placed, put_behind, sentence,
+};
 use crate::syntax::rules::{FAR, character_fix, grammar_said};
-use kahn_diagnostic::{Fix, Note, Other, Sort, add, add_repeated, part_of, simple};
-use kahn_streams::NoMemory;
-use kahn_syntax::{Class, Lexeme, Span, SyntaxFault, What, lex};
+use kahn_diagnostic::{Fix, Note, Other, Sort, part_of, simple};
 use kahn_expected::{
     FaultPlace, LexemeGroup, Unexpected, Wanted, comment_before, has_word, is_of_word, place_at,
     reaches, sign_letters, swallows,
 };
+use kahn_streams::NoMemory;
+use kahn_syntax::{Class, Lexeme, Span, SyntaxFault, What, lex};
+use kahn_texts::{add, add_repeated};
 use std::alloc::{AllocError, Global};
 
 /// What any lexeme of a class is called: what stands before its letters, these, and what stands behind them.

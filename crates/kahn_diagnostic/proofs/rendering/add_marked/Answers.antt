@@ -1,6 +1,6 @@
 use Rattle.kahn_diagnostic.proofs.Common.{string_bytes}
 use Rattle.std.proofs.lemmas.Result.{IfOk-weaker}
-use Rattle.kahn_diagnostic.proofs.Rows.{marked_more}
+use Rattle.kahn_diagnostic.proofs.Written.{marked_more}
 use Rattle.kahn_diagnostic.proofs.rendering.add_marked.Goals as goal
 
 pub returns : goal.returns

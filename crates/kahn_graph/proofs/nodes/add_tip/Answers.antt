@@ -1,5 +1,5 @@
 use Rattle.kahn_graph.proofs.Common.{[], at_index, bytes_of, codes, concat, rules, string_bytes, ◌++◌, ◌∷◌}
-use Rattle.kahn_diagnostic.specs.Marks.{spot_text}
+use Rattle.kahn_texts.specs.Shown.{spot_text}
 use Rattle.kahn_graph.proofs.Named.{as_many_trees}
 use Rattle.kahn_graph.proofs.Texts.{grown}
 use Rattle.kahn_graph.proofs.nodes.add_tip.Goals as goal

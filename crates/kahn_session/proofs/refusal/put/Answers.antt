@@ -1,5 +1,5 @@
 use Rattle.kahn_session.proofs.Common.{[], ◌∷◌, ◌++◌, ◌∙◌, List, ℕ, ap, append_assoc, codes, concat, length, rules, subst, sym, Writes}
-use Rattle.kahn_diagnostic.specs.Shown.{shown_part}
+use Rattle.kahn_texts.specs.Shown.{shown_part}
 use Rattle.kahn_session.specs.Refusals.{before_part, behind_part}
 use Rattle.kahn_session.proofs.refusal.put.Goals as goal
 

@@ -1,7 +1,7 @@
 -- What is left of the text comes behind the row so far.
 use Rattle.kahn_diagnostic.proofs.Common.{◌≡◌, ◌+◌, ◌++◌, IsUtf8, chars, string_bytes, char_indices_offset, char_indices_rest, shown_row}
-use Rattle.kahn_diagnostic.proofs.Rows.{written}
-use Rattle.kahn_diagnostic.proofs.pieces.add_row.Given as goal
+use Rattle.kahn_diagnostic.proofs.Written.{written}
+use Rattle.kahn_diagnostic.proofs.rows.add_row.Given as goal
 
 abbrev pub invariant-loop-at : goal.invariant-loop-at
 invariant-loop-at l =

@@ -1,6 +1,8 @@
 -- All bytes so far are shown.
-use Rattle.kahn_diagnostic.proofs.Common.{◌≡◌, ◌+◌, IsUtf8, chars, length, char_indices_offset, char_indices_rest, shown_length}
-use Rattle.kahn_diagnostic.proofs.pieces.shown_length.Given as goal
+use Rattle.std.proofs.Common.{◌≡◌, ◌+◌, IsUtf8, chars, length}
+use Rattle.std.specs.Str.Iter.{char_indices_offset, char_indices_rest}
+use Rattle.kahn_texts.specs.Shown.{shown_length}
+use Rattle.kahn_texts.proofs.shown.shown_length.Given as goal
 
 abbrev pub invariant-loop-at : goal.invariant-loop-at
 invariant-loop-at l =

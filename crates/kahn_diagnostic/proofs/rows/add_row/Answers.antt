@@ -1,8 +1,8 @@
 use Rattle.std.proofs.Common.{rules}
 use Rattle.kahn_diagnostic.proofs.Common.{ap, arith, ◌+◌, ◌≡◌, drop, subst, sym, IsUtf8, IsUtf8-drop, char_indices_offset, char_indices_rest}
 use Rattle.std.proofs.lemmas.Str.{IsUtf8-past_char, chars_past_char}
-use Rattle.kahn_diagnostic.proofs.Rows.{begun, cut, done, moved}
-use Rattle.kahn_diagnostic.proofs.pieces.add_row.Goals as goal
+use Rattle.kahn_diagnostic.proofs.Written.{begun, cut, done, moved}
+use Rattle.kahn_diagnostic.proofs.rows.add_row.Goals as goal
 
 pub loop-at-init : goal.loop-at-init
 loop-at-init c =

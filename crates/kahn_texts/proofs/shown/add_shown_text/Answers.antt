@@ -1,6 +1,6 @@
 use Rattle.std.proofs.lemmas.Str.{IsUtf8-past_char, chars_past_char}
-use Rattle.kahn_diagnostic.proofs.Rows.{shown_more, shown_whole}
-use Rattle.kahn_diagnostic.proofs.pieces.add_shown_text.Goals as goal
+use Rattle.kahn_texts.proofs.Characters.{shown_more, shown_whole}
+use Rattle.kahn_texts.proofs.shown.add_shown_text.Goals as goal
 
 pub loop-character-preserved : goal.loop-character-preserved
 loop-character-preserved c =

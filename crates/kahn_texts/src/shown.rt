@@ -1,18 +1,17 @@
-//! Texts that grow by pieces: places of a text, how many more there are than were told, and the characters of a source line and of a sentence
-//! as they are shown: no character of a text drives a terminal, and none turns its neighbours.
+//! What is shown of a text: pieces, places, how many more there are, and characters. No character of a text drives a terminal, and none turns
+//! its neighbours.
 
 ghost use Rattle.std.specs.Prelude.{◌≡◌, ◌++◌, IfOk, drop, flat_map, string_bytes, take, ◌≤◌, chars, length};
-ghost use Rattle.kahn_streams.specs.Place.{line_of, column_of};
-ghost use Rattle.kahn_diagnostic.specs.{Marks.spot_text, Marks.counted_text, Marks.times_over, Told.more_ending, Told.unsaid_text, Marks.columns, Marks.is_kept_back, Marks.is_within, Marks.piece_of, Marks.shown_character, Marks.shown_row, Marks.shown_text, Shown.ends_before, Shown.shown_length, Shown.shown_part};
 ghost use Rattle.std.specs.Str.Lossy.{utf8_valid_len};
+ghost use Rattle.kahn_streams.specs.Place.{line_of, column_of};
+ghost use Rattle.kahn_texts.specs.Shown.{counted_text, ends_before, is_kept_back, more_ending, shown_character, shown_length, shown_part, shown_text, spot_text, times_over, unsaid_text};
 
 use itoa::Buffer;
 use kahn_streams::Span;
 use std::alloc::AllocError;
-use unicode_width::UnicodeWidthChar;
 
-/// The most notes of one sort.
-pub const MOST_NOTES: usize = 20;
+/// How many bytes of a part of a line are shown in a sentence, and the rest of a character there.
+const MOST_SHOWN: usize = 40;
 
 /// Adds pieces, one after another.
 pub fn add(text: &mut String, pieces: &[&str]) -> Result<(), AllocError>
@@ -52,7 +51,7 @@ pub fn add_spot(words: &mut String, before: &str, text: &str, from: usize) -> Re
 }
 
 /// Adds a line and a column behind a word.
-pub(crate) fn add_counted(
+pub fn add_counted(
     words: &mut String,
     before: &str,
     line: usize,
@@ -99,23 +98,9 @@ pub fn add_more<'a>(
     text.push_str(more_ending(more))
 }
 
-/// How many bytes of a part of a line are shown in a sentence, and the rest of a character there.
-const MOST_SHOWN: usize = 40;
-
-/// What is written of a source line.
-#[derive(Clone, Copy)]
-pub(crate) enum Row {
-    /// The line.
-    Source,
-    /// Blanks below what stands before the part.
-    Blanks,
-    /// Carets below the part.
-    Carets,
-}
-
 /// Whether a terminal doesn't get a character as it is: a control character, or a format character that changes how or in which order
 /// those beside it are shown, or takes no place.
-fn is_kept_back(character: char) -> bool
+pub fn is_kept_back(character: char) -> bool
     ensures { result ≡ is_kept_back character }
 {
     let is_format = matches!(
@@ -125,20 +110,8 @@ fn is_kept_back(character: char) -> bool
     character.is_control() || is_format
 }
 
-fn columns(character: char) -> usize
-    ensures { result ≡ columns character }
-{
-    if character == '\t' {
-        4
-    } else if is_kept_back(character) {
-        1
-    } else {
-        character.width().unwrap_or(0)
-    }
-}
-
 /// Adds a character as it is shown: a tab as four blanks, and a control or format character as U+FFFD.
-fn add_shown(text: &mut String, character: char) -> Result<(), AllocError>
+pub fn add_shown(text: &mut String, character: char) -> Result<(), AllocError>
     ensures { IfOk result (λ _. string_bytes text.new ≡ string_bytes text.old ++ shown_character character) }
 {
     if character == '\t' {
@@ -148,56 +121,6 @@ fn add_shown(text: &mut String, character: char) -> Result<(), AllocError>
     } else {
         text.push(character)
     }
-}
-
-fn is_within(part: Span, at: usize) -> bool
-    ensures { result ≡ is_within part at }
-{
-    part.from <= at && at < part.to
-}
-
-/// Adds what one row has of the character that begins at byte `at` of the text.
-fn add_piece(
-    text: &mut String,
-    row: Row,
-    near: Span,
-    part: Span,
-    at: usize,
-    character: char,
-) -> Result<(), AllocError>
-    ensures { IfOk result (λ _. string_bytes text.new ≡ string_bytes text.old ++ piece_of row near part at character) }
-{
-    if !is_within(near, at) {
-        return Ok(());
-    }
-    match row {
-        Row::Source => add_shown(text, character),
-        Row::Blanks if at < part.from => add_repeated(text, " ", columns(character)),
-        Row::Carets if is_within(part, at) => add_repeated(text, "^", columns(character)),
-        Row::Blanks | Row::Carets => Ok(()),
-    }
-}
-
-/// Adds a row of what is shown of a text, in the time of that.
-pub(crate) fn add_row(
-    text: &mut String,
-    source: &str,
-    row: Row,
-    near: Span,
-    part: Span,
-) -> Result<(), AllocError>
-    ensures { IfOk result (λ _. string_bytes text.new ≡ string_bytes text.old ++ shown_row row source.now near part) }
-{
-    let first = source.floor_char_boundary(near.from);
-    let (_, behind) = source.split_at(first);
-    for (at, character) in behind.char_indices() {
-        let at = first + at;
-        if at >= near.to {
-            return Ok(());
-        }
-        add_piece(text, row, near, part, at, character)?;
-    }
-    Ok(())
 }
 
 /// Adds a text, as a path, in the form of a source line.

@@ -1,6 +1,8 @@
 -- What is left of the text comes behind what was added.
-use Rattle.kahn_diagnostic.proofs.Common.{◌≡◌, ◌++◌, IsUtf8, chars, flat_map, string_bytes, chars_rest, shown_character, shown_text}
-use Rattle.kahn_diagnostic.proofs.pieces.add_shown_text.Given as goal
+use Rattle.std.proofs.Common.{◌≡◌, ◌++◌, IsUtf8, chars, flat_map, string_bytes}
+use Rattle.std.specs.Str.Iter.{chars_rest}
+use Rattle.kahn_texts.specs.Shown.{shown_character, shown_text}
+use Rattle.kahn_texts.proofs.shown.add_shown_text.Given as goal
 
 abbrev pub invariant-loop-character : goal.invariant-loop-character
 invariant-loop-character l =

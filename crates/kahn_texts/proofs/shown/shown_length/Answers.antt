@@ -1,6 +1,7 @@
-use Rattle.kahn_diagnostic.proofs.Common.{◌∙◌, sym, IsUtf8-past_char, chars_past_char}
-use Rattle.kahn_diagnostic.proofs.Fronts.{at_end, ends, goes_on, same_end}
-use Rattle.kahn_diagnostic.proofs.pieces.shown_length.Goals as goal
+use Rattle.std.proofs.Common.{◌∙◌, sym}
+use Rattle.std.proofs.lemmas.Str.{IsUtf8-past_char, chars_past_char}
+use Rattle.kahn_texts.proofs.Characters.{at_end, ends, goes_on, same_end}
+use Rattle.kahn_texts.proofs.shown.shown_length.Goals as goal
 
 pub returns-then-ends_before-clause-shown : goal.returns-then-ends_before-clause-shown
 returns-then-ends_before-clause-shown c =

@@ -1,4 +1,5 @@
 -- The characters of a line, one after another.
+use Rattle.kahn_texts.proofs.Characters.{none_left}
 use Rattle.kahn_diagnostic.proofs.Common.{◌≡◌, ◌==◌, ◌<◌, ◌≤◌, ⊎_elim, ℕ, ◌+◌, zero, suc, List, [], ◌∷◌, ◌++◌, length, refl, sym, ap, ◌∙◌, add-one, append_assoc, append-nil, arith, chars, encode_utf8, flat_map, IsUtf8, chars-nil, chars-append, encodes-chars, encode_utf8_all, false, if◌then◌else◌, length-append, length-encode, len_utf8_bounds, Row, is_within, near_piece, piece_of, shown_character, shown_row, with_places, times_over, cases_lt, column_of, count_by, line_of, min, not, suffix_len, take, take_all}
 use Rattle.std.proofs.lemmas.{Bool.Decides.nat_tests, List.Concat.flat_map-append}
 use Rattle.kahn_streams.specs.declared.span.Span.{Span}
@@ -21,36 +22,10 @@ moved row from bytes here at next c cs ds old new all same is step added before 
     ∙ ap (λ l. old ++ written row from bytes at l) (sym is)
     ∙ before
 
-pub none_left : (xs : List ℕ) → length xs ≡ 0 → xs ≡ []
-none_left [] e = refl
-none_left (x ∷ xs) e = absurd (omega (arith, e))
-
 -- and none
 pub done : (row : Row) (from bytes : Span) (at : ℕ) (rest text all : List ℕ) → length rest ≡ 0 → text ++ written row from bytes at (chars rest) ≡ all → text ≡ all
 done row from bytes at rest text all none before =
     sym (append-nil text) ∙ ap (λ l. text ++ written row from bytes at l) (sym (ap chars (none_left rest none) ∙ chars-nil)) ∙ before
-
--- of a text that is shown, one character more
-pub shown_more : (c : ℕ) (cs ds old new all : List ℕ) → cs ≡ c ∷ ds → new ≡ old ++ shown_character c → old ++ flat_map shown_character cs ≡ all
-    → new ++ flat_map shown_character ds ≡ all
-shown_more c cs ds old new all is added before =
-    ap (λ l. l ++ flat_map shown_character ds) added ∙ append_assoc old (shown_character c) (flat_map shown_character ds)
-    ∙ ap (λ l. old ++ flat_map shown_character l) (sym is) ∙ before
-
--- and none
-pub shown_whole : (rest text all : List ℕ) → length rest ≡ 0 → text ++ flat_map shown_character (chars rest) ≡ all → text ≡ all
-shown_whole rest text all none before =
-    sym (append-nil text) ∙ ap (λ l. text ++ flat_map shown_character l) (sym (ap chars (none_left rest none) ∙ chars-nil)) ∙ before
-
--- once more, at the end
-pub once_more : (n : ℕ) (piece : List ℕ) → times_over (suc n) piece ≡ times_over n piece ++ piece
-once_more zero piece = append-nil piece
-once_more (suc n) piece = ap (λ l. piece ++ l) (once_more n piece) ∙ sym (append_assoc piece (times_over n piece) piece)
-
-pub repeated_more : (n : ℕ) (piece old mid new : List ℕ) → mid ≡ old ++ times_over n piece → new ≡ mid ++ piece → new ≡ old ++ times_over (n + 1) piece
-repeated_more n piece old mid new before added =
-    added ∙ ap (λ l. l ++ piece) before ∙ append_assoc old (times_over n piece) piece
-    ∙ ap (λ l. old ++ l) (sym (once_more n piece)) ∙ ap (λ k. old ++ times_over k piece) (sym (add-one n))
 
 -- nothing is shown of characters before what is shown, and nothing behind it
 hidden : (row : Row) (near part : Span) (at c : ℕ) → is_within near at ≡ false → piece_of row near part at c ≡ []
@@ -130,19 +105,3 @@ marked_more old mid new sort path words text source number span near line from e
     more ∙ ap (λ l. l ++ rows_text source number near (record { from = from; to = span.to })) first
     ∙ append_assoc old (heading sort path text span.from words) (rows_text source number near (record { from = from; to = span.to }))
     ∙ ap (λ l. old ++ (heading sort path text span.from words ++ l)) (marked text source number span near line from e0 e1 e2 e3 e4)
-
--- the place of a byte that a text hasn't is that of its end
-same_take : (l : List ℕ) (n m : ℕ) → m ≡ min n (length l) → take m l ≡ take n l
-same_take l n m e = ⊎_elim within past (cases_lt n (length l))
-  where
-    within : n < length l → take m l ≡ take n l
-    within lt = let same : m ≡ n = omega (arith, e, lt) in ap (λ k. take k l) same
-
-    past : length l ≤ n → take m l ≡ take n l
-    past le = let more : length l ≤ m = omega (arith, e, le) in take_all m l more ∙ sym (take_all n l le)
-
-pub same_line : (l : List ℕ) (n m : ℕ) → m ≡ min n (length l) → line_of l m ≡ line_of l n
-same_line l n m e = ap (λ x. count_by (λ b. b == 10) x + 1) (same_take l n m e)
-
-pub same_column : (l : List ℕ) (n m : ℕ) → m ≡ min n (length l) → column_of l m ≡ column_of l n
-same_column l n m e = ap (λ x. suffix_len (λ b. not (b == 10)) x + 1) (same_take l n m e)
