@@ -29,6 +29,23 @@ pub struct Board<T: Reports> {
     ghost read: { (length readers.items ≡ channels) × ((c : ℕ) → c < channels → slice_index_or readers.items c None ≡ (wired table.shared.key).reader c) },
 }
 
+/// What a board was made of: the network, the first words, the cells and the bound. Only contracts read the first
+/// three, which have no bytes.
+#[derive(Drop)]
+pub struct Terms<T> {
+    pub network: Snapshot<Network>,
+    pub words: Snapshot<Vec<u64, Global>>,
+    pub cells: Snapshot<Vec<T, Global>>,
+    pub bound: u64,
+}
+
+/// The rule of a board's table, which holds between any two steps of any seats.
+pub struct Rule<T> {
+    cells: PhantomData<T>,
+}
+
+pub(crate) struct Notes;
+
 impl<T: Reports> Board<T> {
     ghost use prog.Atomic.{either};
     ghost use Rattle.atomic_table.specs.Table.{rest};
@@ -247,21 +264,6 @@ pub trait Reports {
     ghost after: { Self → Self → Type 0 };
 }
 
-/// What a board was made of: the network, the first words, the cells and the bound. Only contracts read the first
-/// three, which have no bytes.
-#[derive(Drop)]
-pub struct Terms<T> {
-    pub network: Snapshot<Network>,
-    pub words: Snapshot<Vec<u64, Global>>,
-    pub cells: Snapshot<Vec<T, Global>>,
-    pub bound: u64,
-}
-
-/// The rule of a board's table, which holds between any two steps of any seats.
-pub struct Rule<T> {
-    cells: PhantomData<T>,
-}
-
 impl<T: Reports> TableRule<Option<T>, SeatView, Terms<T>> for Rule<T> {
     ghost use Rattle.kahn_board.specs.Rule.{opening_view, holds, wired};
 
@@ -274,8 +276,6 @@ impl<T: Reports> TableRule<Option<T>, SeatView, Terms<T>> for Rule<T> {
 impl<T> Play<Option<T>, SeatView> for Brand {
     ghost then = { λ _ _ _ _. Unit {0} };
 }
-
-pub(crate) struct Notes;
 
 impl<T> Play<Option<T>, SeatView> for Notes {
     ghost then = { becomes (λ _. after_step) };

@@ -21,6 +21,31 @@ pub struct Seat<T> {
     ghost facts: { Facts seat.me seat.table_id held.items (deque_capacity held) },
 }
 
+/// How an instance is set down.
+#[derive(Clone, Copy)]
+pub enum Rest {
+    Ready,
+    Over,
+}
+
+/// The result of a draw.
+#[derive(Clone, Copy)]
+pub enum Draw {
+    Got(u64),
+    /// Another step came between.
+    Lost,
+    Empty,
+}
+
+/// The result of a look.
+#[derive(Clone, Copy)]
+pub enum Look {
+    Halted,
+    Quiet,
+    NoBudget,
+    Go,
+}
+
 impl<T: Reports> Seat<T> {
     ghost use Rattle.kahn_board.specs.Calls.{Becomes, Claims, IsAtBoard, LooksAt, IsSameSeat, IsFirstSlot, KeepsAll, Swaps, MayLeave, OwesFew, GivesUp, Parks, Publishes, Draws, CountsDown, Looks, downs_of};
     ghost use Rattle.kahn_board.specs.Wires.{TellsEnd, TellsWait};
@@ -230,29 +255,4 @@ impl<T: Reports> Seat<T> {
             Look::Go
         }
     }
-}
-
-/// How an instance is set down.
-#[derive(Clone, Copy)]
-pub enum Rest {
-    Ready,
-    Over,
-}
-
-/// The result of a draw.
-#[derive(Clone, Copy)]
-pub enum Draw {
-    Got(u64),
-    /// Another step came between.
-    Lost,
-    Empty,
-}
-
-/// The result of a look.
-#[derive(Clone, Copy)]
-pub enum Look {
-    Halted,
-    Quiet,
-    NoBudget,
-    Go,
 }

@@ -16,6 +16,36 @@ use std::collections::VecDeque;
 // How often it draws at most when other workers come between.
 const DRAWS: usize = 64;
 
+/// How many instances and channels a network has, and who reads each channel.
+#[derive(Drop)]
+pub struct Wiring {
+    pub instances: usize,
+    pub channels: usize,
+    pub readers: Vec<Option<usize>, Global>,
+}
+
+// All that a board allocates but its table: the first words, the list of a seat, and the slots.
+pub(crate) type Reserved<T> = (
+    Wiring,
+    Vec<u64, Global>,
+    VecDeque<usize, Global>,
+    Vec<Option<T>, Global>,
+);
+
+/// How a seat's view is split: the second part is an unused seat.
+pub struct SplitsSeat;
+
+/// How the views of two seats are joined: the second is spent.
+pub struct Both;
+
+/// What a closed board returns.
+#[derive(Drop)]
+pub struct Closed<T> {
+    pub cells: Vec<T, Global>,
+    pub budget: u64,
+    pub halted: bool,
+}
+
 /// Claims the instance, if it is ready, for what is left of a draw. False if it isn't, since another worker has it, or it
 /// waits, or it is over: its word was not 0 then.
 pub fn claim<T: Reports>(seat: &mut Seat<T>, board: &Board<T>, p: usize) -> bool
@@ -136,14 +166,6 @@ pub fn go_on<T: Reports>(seat: &mut Seat<T>, board: &Board<T>) -> bool
     matches!(seat.look(board), Look::Go)
 }
 
-/// How many instances and channels a network has, and who reads each channel.
-#[derive(Drop)]
-pub struct Wiring {
-    pub instances: usize,
-    pub channels: usize,
-    pub readers: Vec<Option<usize>, Global>,
-}
-
 /// Returns the instance that reads the channel, if one does; none reads an output channel. Never allocates.
 pub fn reader_of(network: &Network, channel: usize) -> Option<usize>
     requires { channel < (wires network.now).channels }
@@ -206,14 +228,6 @@ pub(crate) fn out_of_slots<T>(
     cells
 }
 
-// All that a board allocates but its table: the first words, the list of a seat, and the slots.
-pub(crate) type Reserved<T> = (
-    Wiring,
-    Vec<u64, Global>,
-    VecDeque<usize, Global>,
-    Vec<Option<T>, Global>,
-);
-
 pub(crate) fn reserved<T>(
     alloc: Global,
     network: &Network,
@@ -244,9 +258,6 @@ pub(crate) fn reserved<T>(
     Ok((wiring, words, held, slots))
 }
 
-/// How a seat's view is split: the second part is an unused seat.
-pub struct SplitsSeat;
-
 impl Split<SeatView> for SplitsSeat {
     ghost use Rattle.kahn_board.specs.Calls.{after_splitting, split_off};
 
@@ -255,9 +266,6 @@ impl Split<SeatView> for SplitsSeat {
     ghost right = { split_off };
 }
 
-/// How the views of two seats are joined: the second is spent.
-pub struct Both;
-
 impl Join<SeatView> for Both {
     ghost use Rattle.kahn_board.specs.Calls.{after_joining};
     ghost use Rattle.kahn_board.specs.Rule.{spent};
@@ -265,14 +273,6 @@ impl Join<SeatView> for Both {
     ghost both = { after_joining };
 
     ghost spent = { spent };
-}
-
-/// What a closed board returns.
-#[derive(Drop)]
-pub struct Closed<T> {
-    pub cells: Vec<T, Global>,
-    pub budget: u64,
-    pub halted: bool,
 }
 
 /// Splits one seat into `count`. `NoMemory` comes with the one seat.

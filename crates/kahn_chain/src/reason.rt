@@ -23,6 +23,39 @@ pub struct Reason {
     pub lasts: bool,
 }
 
+/// Where the waits of an instance lead.
+#[derive(Clone, Copy)]
+pub(crate) struct Caused {
+    /// To one that waits on an input, to one that doesn't wait, or into a ring, whose least number this is.
+    pub cause: Cause,
+    /// Whether they lead back to it.
+    pub is_on_ring: bool,
+}
+
+/// The state of an instance.
+#[derive(Clone, Copy)]
+pub enum Standing {
+    /// It has ended.
+    Ended,
+    /// It waits on the channel with that number.
+    Waits(usize),
+    /// A fault of arithmetic stopped it.
+    Faulted,
+    /// It needs more events.
+    More,
+}
+
+/// Why an instance goes no further.
+#[derive(Clone, Copy)]
+pub enum Cause {
+    /// This instance waits on this channel, whose values come from outside.
+    Input(usize, usize),
+    /// This instance doesn't wait.
+    Stopped(usize, Standing),
+    /// This instance is on a ring of instances that wait on one another.
+    Ring(usize),
+}
+
 /// Whether an instance with this cause stands so for ever, after a run that ended so. Want of memory can leave values where
 /// a reader doesn't come to them.
 fn lasts(verdict: Verdict, cause: Cause) -> bool
@@ -76,15 +109,6 @@ pub fn reasons(
     Ok(reasons)
 }
 
-/// Where the waits of an instance lead.
-#[derive(Clone, Copy)]
-pub(crate) struct Caused {
-    /// To one that waits on an input, to one that doesn't wait, or into a ring, whose least number this is.
-    pub cause: Cause,
-    /// Whether they lead back to it.
-    pub is_on_ring: bool,
-}
-
 #[tactic(auto, using(crate::proofs::Walking::ring_within))]
 pub(crate) fn cause_of(network: &Network, ends: &[End], instance: usize) -> Caused
     requires known { AreStandings (network_of network.now) (map stands ends.now) }
@@ -130,30 +154,6 @@ pub fn has_ring(network: &Network, ends: &[End]) -> bool
         }
     }
     false
-}
-
-/// The state of an instance.
-#[derive(Clone, Copy)]
-pub enum Standing {
-    /// It has ended.
-    Ended,
-    /// It waits on the channel with that number.
-    Waits(usize),
-    /// A fault of arithmetic stopped it.
-    Faulted,
-    /// It needs more events.
-    More,
-}
-
-/// Why an instance goes no further.
-#[derive(Clone, Copy)]
-pub enum Cause {
-    /// This instance waits on this channel, whose values come from outside.
-    Input(usize, usize),
-    /// This instance doesn't wait.
-    Stopped(usize, Standing),
-    /// This instance is on a ring of instances that wait on one another.
-    Ring(usize),
 }
 
 pub(crate) fn standing_of(outcome: Outcome) -> Standing

@@ -24,6 +24,17 @@ const MOST_CHANNELS: usize = 1024;
 /// The most instances of a program.
 const MOST_INSTANCES: usize = 256;
 
+/// What is wrong with a program, and its tables.
+#[derive(Drop)]
+struct CheckWalk {
+    /// The first fault of each part.
+    faults: Vec<CheckFault>,
+    /// The declared channels, each with its first writer and its first reader.
+    wires: Vec<(String, Wire)>,
+    /// Where the processes of the instances are declared.
+    processes: Vec<usize>,
+}
+
 /// Adds a fault, if there is one.
 fn add(faults: &mut Vec<CheckFault>, found: Option<CheckFault>) -> Result<(), NoMemory>
     ensures { IfOk result (λ u. faults.new.items ≡ faults.old.items ++ fault_alone found) }
@@ -281,17 +292,6 @@ fn add_wires(
         wires.push((name.text.clone()?, wire))?;
     }
     Ok(())
-}
-
-/// What is wrong with a program, and its tables.
-#[derive(Drop)]
-struct CheckWalk {
-    /// The first fault of each part.
-    faults: Vec<CheckFault>,
-    /// The declared channels, each with its first writer and its first reader.
-    wires: Vec<(String, Wire)>,
-    /// Where the processes of the instances are declared.
-    processes: Vec<usize>,
 }
 
 /// Returns the faults of the sides of channels, unless something else is wrong.

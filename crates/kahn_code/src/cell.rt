@@ -32,6 +32,15 @@ pub struct Kept<A: Allocator + Drop = Global> {
     pub printed: Tokens<A>,
 }
 
+/// One process of a network on its way, which lets go of the tokens that it kept when it is told to. Contracts see it as a
+/// cell that keeps all of them, and which of them are gone.
+#[derive(Drop)]
+pub struct Tap<A: Allocator + Copy + Drop = Global> {
+    progress: Progress<A>,
+    network: About<Network>,
+    input: About<Input>,
+}
+
 impl<A: Allocator + Copy + Drop> Model for Cell<A> {
     ghost Value = { CellView };
 
@@ -165,15 +174,6 @@ fn regrown<A: Allocator + Copy + Drop>(tap: Tap<A>, _input: &Input) -> Tap<A>
     let mut tap = tap;
     tap.regrow();
     tap
-}
-
-/// One process of a network on its way, which lets go of the tokens that it kept when it is told to. Contracts see it as a
-/// cell that keeps all of them, and which of them are gone.
-#[derive(Drop)]
-pub struct Tap<A: Allocator + Copy + Drop = Global> {
-    progress: Progress<A>,
-    network: About<Network>,
-    input: About<Input>,
 }
 
 impl<A: Allocator + Copy + Drop> Model for Tap<A> {

@@ -18,6 +18,33 @@ use std::sync::ledger::Blank;
 use std::thread;
 use std::thread::{Promise, Scope, Threads};
 
+#[derive(Drop)]
+struct Shared<'b, 'c, R, G> {
+    rt: &'b R,
+    run: &'b Run<'c>,
+    gate: &'b G,
+}
+
+/// The workers of a run and their quantum, as a configuration has them: nothing else makes one. At an open gate, where nobody can tell
+/// who works, fewer workers may come than are asked for, and turns may have another length.
+#[derive(Clone, Copy)]
+pub struct Crewing {
+    /// The number of the channel that is watched, if any.
+    pub watch: Option<usize>,
+    workers: usize,
+    quantum: u64,
+    // How many workers come, and the most events of a turn.
+    come: usize,
+    turn: u64,
+}
+
+// What a thread promises: one that has done its work.
+#[derive(Drop)]
+struct Promised<'c, C, T> {
+    shared: &'c C,
+    worker: Snapshot<T>,
+}
+
 // A worker at each seat, with hints of its own, and the list of the seats, which is empty.
 fn workers_at(
     mut seats: Vec<Seat<Boxed>>,
@@ -54,13 +81,6 @@ fn seats_of(workers: Vec<Worker>, mut seats: Vec<Seat<Boxed>>) -> (Vec<Seat<Boxe
         seats.push_reserved(worker.seat);
     }
     (seats, wanted)
-}
-
-#[derive(Drop)]
-struct Shared<'b, 'c, R, G> {
-    rt: &'b R,
-    run: &'b Run<'c>,
-    gate: &'b G,
 }
 
 impl<'b, 'c, R: Wait + Sync, G: Gate + Sync> Parallel<Shared<'b, 'c, R, G>> for Worker {
@@ -213,19 +233,6 @@ pub fn run_tasks<R: Threads + Wait + Sync, G: Gate + Sync>(
     (outcome, left)
 }
 
-/// The workers of a run and their quantum, as a configuration has them: nothing else makes one. At an open gate, where nobody can tell
-/// who works, fewer workers may come than are asked for, and turns may have another length.
-#[derive(Clone, Copy)]
-pub struct Crewing {
-    /// The number of the channel that is watched, if any.
-    pub watch: Option<usize>,
-    workers: usize,
-    quantum: u64,
-    // How many workers come, and the most events of a turn.
-    come: usize,
-    turn: u64,
-}
-
 impl Crewing {
     /// As the configuration has it. Of the channel that it watches the number is given.
     pub fn of(config: &Config, watch: Option<usize>) -> Crewing
@@ -294,13 +301,6 @@ pub(crate) trait Parallel<C> {
     fn run(self, shared: &C) -> Self
         requires { Self.may shared.now self }
         ensures { Self.did shared.now self result };
-}
-
-// What a thread promises: one that has done its work.
-#[derive(Drop)]
-struct Promised<'c, C, T> {
-    shared: &'c C,
-    worker: Snapshot<T>,
 }
 
 impl<'c, C, T: Parallel<C>> Promise<T> for Promised<'c, C, T> {

@@ -35,6 +35,48 @@ pub enum CrewFault {
     NoThread,
 }
 
+/// A task in a box of its own, so that it moves as one pointer. Contracts see the task.
+#[derive(Drop)]
+pub struct Boxed {
+    pub(crate) task: Box<Task>,
+}
+
+/// The board on which the tasks are, their network, its input and its code, and how many events a task may do before another one is
+/// looked for, at least 1.
+#[derive(Drop)]
+pub struct Run<'b> {
+    pub board: &'b Board<Boxed>,
+    pub network: &'b Network,
+    pub input: &'b Input,
+    pub code: &'b Code,
+    pub quantum: u64,
+    ghost fits: { FitTogether board.now.table.shared.key network.now code.now.network.value input.now },
+    ghost some: { 0 < quantum },
+}
+
+// One of this many hints that a worker takes from its own is the oldest in any case, so that each comes.
+const CHAIN: usize = 64;
+
+/// When a hint comes among a worker's own: before all others, or after them.
+#[derive(Clone, Copy)]
+pub(crate) enum Order {
+    Next,
+    Last,
+}
+
+/// The hints of one worker: its own, and those of the others, which it may steal. A hint that is out of date does no harm.
+/// The newest reader of what the worker sent stands beside the deque: it comes next, while its tokens are in this processor's
+/// cache, and needs no step on a word that others see. Others steal the oldest hint.
+#[derive(Drop)]
+pub struct Hints {
+    next: Option<usize>,
+    taken: usize,
+    own: Worker<usize>,
+    others: Vec<Stealer<usize>>,
+    // Whether memory was refused to the worker: for a hint, an event or a segment.
+    pub(crate) wanted: bool,
+}
+
 impl From<CrewFault> for RunFault {
     ghost from_gives = { λ f e. e ≡ run_fault f };
 
@@ -132,12 +174,6 @@ pub(crate) fn open_board(
     }
 }
 
-/// A task in a box of its own, so that it moves as one pointer. Contracts see the task.
-#[derive(Drop)]
-pub struct Boxed {
-    pub(crate) task: Box<Task>,
-}
-
 impl Model for Boxed {
     ghost use Rattle.kahn_streams.specs.contracts.tree.Action as action;
     ghost use Rattle.kahn_streams.specs.contracts.tree.Form as form;
@@ -193,42 +229,6 @@ pub(crate) fn unbox_all(mut boxes: Vec<Boxed>, mut tasks: Vec<Task>) -> Vec<Task
     }
     tasks.reverse();
     tasks
-}
-
-/// The board on which the tasks are, their network, its input and its code, and how many events a task may do before another one is
-/// looked for, at least 1.
-#[derive(Drop)]
-pub struct Run<'b> {
-    pub board: &'b Board<Boxed>,
-    pub network: &'b Network,
-    pub input: &'b Input,
-    pub code: &'b Code,
-    pub quantum: u64,
-    ghost fits: { FitTogether board.now.table.shared.key network.now code.now.network.value input.now },
-    ghost some: { 0 < quantum },
-}
-
-// One of this many hints that a worker takes from its own is the oldest in any case, so that each comes.
-const CHAIN: usize = 64;
-
-/// When a hint comes among a worker's own: before all others, or after them.
-#[derive(Clone, Copy)]
-pub(crate) enum Order {
-    Next,
-    Last,
-}
-
-/// The hints of one worker: its own, and those of the others, which it may steal. A hint that is out of date does no harm.
-/// The newest reader of what the worker sent stands beside the deque: it comes next, while its tokens are in this processor's
-/// cache, and needs no step on a word that others see. Others steal the oldest hint.
-#[derive(Drop)]
-pub struct Hints {
-    next: Option<usize>,
-    taken: usize,
-    own: Worker<usize>,
-    others: Vec<Stealer<usize>>,
-    // Whether memory was refused to the worker: for a hint, an event or a segment.
-    pub(crate) wanted: bool,
 }
 
 impl Hints {

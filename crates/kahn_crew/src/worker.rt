@@ -30,6 +30,34 @@ pub struct Worker {
     pub start: usize,
 }
 
+// How often a worker without hints of its own pauses before it looks elsewhere: for some tens of microseconds.
+const PAUSES: usize = 64;
+
+// How long a worker sleeps that has found nothing, in microseconds: at least and at most this, since the end of a run waits for those who
+// sleep, and between the two a fraction of the time that it has slept since it found something.
+const SHORTEST: u64 = 50;
+
+const LONGEST: u64 = 4000;
+
+const PARTS: u64 = 8;
+
+/// How long a worker has rested since it found an instance last: first it pauses, and then it sleeps, for longer the longer it has slept.
+#[derive(Drop)]
+pub(crate) struct Idling {
+    backoff: Backoff,
+    parker: Parker,
+    slept: u64,
+}
+
+/// How an instance is to be set down.
+#[derive(Clone, Copy)]
+pub(crate) enum Due {
+    Ready,
+    Over,
+    /// It waits on the channel, of which it took that number of tokens.
+    Waits(usize, u64),
+}
+
 // Whether there is an instance of that number that looks ready, and is taken if it `claims`. It looks first, since a claim writes a word.
 fn pick_one(run: &Run<'_>, seat: &mut Seat<Boxed>, p: usize, claims: bool) -> bool
     requires { (n : ℕ) × SitsWith run.now n seat.old }
@@ -158,25 +186,6 @@ pub(crate) fn turns<R: Wait, G: Gate, L: Ledger>(
     }
 }
 
-// How often a worker without hints of its own pauses before it looks elsewhere: for some tens of microseconds.
-const PAUSES: usize = 64;
-
-// How long a worker sleeps that has found nothing, in microseconds: at least and at most this, since the end of a run waits for those who
-// sleep, and between the two a fraction of the time that it has slept since it found something.
-const SHORTEST: u64 = 50;
-
-const LONGEST: u64 = 4000;
-
-const PARTS: u64 = 8;
-
-/// How long a worker has rested since it found an instance last: first it pauses, and then it sleeps, for longer the longer it has slept.
-#[derive(Drop)]
-pub(crate) struct Idling {
-    backoff: Backoff,
-    parker: Parker,
-    slept: u64,
-}
-
 impl Idling {
     /// Sleeps, if nothing was found anywhere.
     pub(crate) fn sleep<R: Wait>(&mut self, rt: &R) {
@@ -184,15 +193,6 @@ impl Idling {
         self.parker.park_timeout(rt, Duration::from_micros(time));
         self.slept = self.slept.saturating_add(time);
     }
-}
-
-/// How an instance is to be set down.
-#[derive(Clone, Copy)]
-pub(crate) enum Due {
-    Ready,
-    Over,
-    /// It waits on the channel, of which it took that number of tokens.
-    Waits(usize, u64),
 }
 
 fn due_of(run: &Run<'_>, task: &Task, p: usize) -> Due

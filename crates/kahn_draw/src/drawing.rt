@@ -26,6 +26,13 @@ pub(crate) enum Drawn {
     Run(u64),
 }
 
+/// A picture, and how the run ended that it shows. A network without a run has finished.
+#[derive(Drop)]
+pub(crate) struct DrawnPicture {
+    pub(crate) text: String,
+    pub(crate) verdict: Verdict,
+}
+
 /// The picture of a network, with the streams and the ends of a run, or none.
 fn pictured(
     alloc: Global,
@@ -41,13 +48,6 @@ fn pictured(
         Ok(picture) => Ok(picture),
         Err(_) => Err(WorkFault::Run(RunFault::NoMemory)),
     }
-}
-
-/// A picture, and how the run ended that it shows. A network without a run has finished.
-#[derive(Drop)]
-pub(crate) struct DrawnPicture {
-    pub(crate) text: String,
-    pub(crate) verdict: Verdict,
 }
 
 fn shown(picture: Result<String, WorkFault>, verdict: Verdict) -> Result<DrawnPicture, WorkFault>

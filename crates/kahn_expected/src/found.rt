@@ -31,6 +31,26 @@ pub struct FaultPlace {
     pub unexpected: Unexpected,
 }
 
+/// A change of a list of lexemes: some are left out, and others put there.
+#[derive(Clone, Copy)]
+pub struct Change {
+    /// How many lexemes stand before it.
+    pub at: usize,
+    /// How many are left out.
+    pub out: usize,
+    /// The class of the lexeme that is put there, if one is; the number 0 stands for all numbers.
+    pub put: Option<Class>,
+}
+
+/// How far a text goes with a change.
+#[derive(Clone, Copy)]
+pub struct Reach {
+    /// The change.
+    pub change: Change,
+    /// The number of the lexeme of the text that can't stand then; the greatest number where the text is a program.
+    pub to: usize,
+}
+
 fn lexeme_at(lexemes: &[Lexeme], number: usize) -> Option<Lexeme>
     ensures { result ≡ slice_get lexemes.now number }
 {
@@ -137,26 +157,6 @@ fn coming(alloc: Global, before: &[Lexeme], some: &[Class]) -> Result<Vec<Class>
         }
     }
     Ok(wanted)
-}
-
-/// A change of a list of lexemes: some are left out, and others put there.
-#[derive(Clone, Copy)]
-pub struct Change {
-    /// How many lexemes stand before it.
-    pub at: usize,
-    /// How many are left out.
-    pub out: usize,
-    /// The class of the lexeme that is put there, if one is; the number 0 stands for all numbers.
-    pub put: Option<Class>,
-}
-
-/// How far a text goes with a change.
-#[derive(Clone, Copy)]
-pub struct Reach {
-    /// The change.
-    pub change: Change,
-    /// The number of the lexeme of the text that can't stand then; the greatest number where the text is a program.
-    pub to: usize,
 }
 
 /// How far lexemes go with a change, before which this is open; not at all where what is put there can't stand.

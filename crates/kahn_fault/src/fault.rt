@@ -30,6 +30,15 @@ pub enum Fault {
     Work(WorkFault),
 }
 
+/// What was reported.
+#[derive(Drop)]
+pub struct Told {
+    /// The status that the program ends with. A line that couldn't be written doesn't change it.
+    pub status: u8,
+    /// Whether the line of the fault went out, if there is a fault.
+    pub line: Result<(), WriteFault>,
+}
+
 fn work_status(fault: WorkFault) -> u8
     ensures { result ≡ work_status fault }
 {
@@ -72,15 +81,6 @@ pub fn live_status(answer: &Result<Verdict, Fault>, refused: bool) -> u8
         (true, 0) => 1,
         (_, status) => status,
     }
-}
-
-/// What was reported.
-#[derive(Drop)]
-pub struct Told {
-    /// The status that the program ends with. A line that couldn't be written doesn't change it.
-    pub status: u8,
-    /// Whether the line of the fault went out, if there is a fault.
-    pub line: Result<(), WriteFault>,
 }
 
 /// Reports the fault of a run over this program text, if there is one, in one line, and returns the status. Never allocates.

@@ -11,6 +11,15 @@ use kahn_texts::{blanks, is_blank, value_of, word_bytes};
 /// The most bytes of a name.
 const MOST_NAME_BYTES: usize = 64;
 
+/// A line of an input text.
+#[derive(Clone, Copy)]
+pub(crate) struct FoundLine<'a> {
+    /// The byte at which it begins.
+    pub from: usize,
+    /// The line without its end.
+    pub line: &'a [u8],
+}
+
 fn first_blank(bytes: &[u8]) -> Option<usize>
     ensures { result ≡ position is_blank bytes.now }
 {
@@ -165,15 +174,6 @@ pub(crate) fn unfit_span(asked: Option<Kind>, line: &[u8]) -> Span
         Some(span) => moved_by(from, span),
         None => name_span(line),
     }
-}
-
-/// A line of an input text.
-#[derive(Clone, Copy)]
-pub(crate) struct FoundLine<'a> {
-    /// The byte at which it begins.
-    pub from: usize,
-    /// The line without its end.
-    pub line: &'a [u8],
 }
 
 /// A line without one carriage return before its end.

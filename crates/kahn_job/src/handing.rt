@@ -11,6 +11,17 @@ use kahn_lane::lane_at;
 use kahn_streams::{Input, Network, NoMemory, Role, Side, Token};
 use std::alloc::Global;
 
+/// The ends of the channels of an instance while it runs, one for each parameter. What the instance reads it takes from a
+/// lane or from the list of an input channel; what it writes it puts into a lane. Nothing is put on an output channel.
+#[derive(Drop)]
+pub(crate) struct Ends<'a> {
+    pub(crate) network: &'a Network,
+    pub(crate) input: &'a Input,
+    pub(crate) instance: usize,
+    pub(crate) ports: &'a mut Vec<TaskPort>,
+    ghost served: { AreServed network.now input.now instance ports.now.items } by { Prim.hlevel (props, Serves-prop) },
+}
+
 /// Gives a parameter another end, and returns the one it had.
 #[tactic(auto, using(crate::proofs::Idles::cells_exchanged, crate::proofs::Idles::row_at, crate::proofs::Idles::rows_exchanged))]
 pub(crate) fn exchange(idles: &mut Vec<Idle>, side: Side, port: TaskPort) -> TaskPort
@@ -186,17 +197,6 @@ pub fn unseat(idles: Vec<Idle>, mut taps: Vec<Tap>) -> Vec<Tap>
         taps.push_reserved(Tap::of(idle.cell));
     }
     taps
-}
-
-/// The ends of the channels of an instance while it runs, one for each parameter. What the instance reads it takes from a
-/// lane or from the list of an input channel; what it writes it puts into a lane. Nothing is put on an output channel.
-#[derive(Drop)]
-pub(crate) struct Ends<'a> {
-    pub(crate) network: &'a Network,
-    pub(crate) input: &'a Input,
-    pub(crate) instance: usize,
-    pub(crate) ports: &'a mut Vec<TaskPort>,
-    ghost served: { AreServed network.now input.now instance ports.now.items } by { Prim.hlevel (props, Serves-prop) },
 }
 
 impl<'a> Ports for Ends<'a> {

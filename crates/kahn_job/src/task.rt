@@ -26,6 +26,27 @@ pub enum TaskStanding {
     Dry(usize),
 }
 
+/// A cell and the ends of its channels, which go from worker to worker together, with where its process stood when it was last
+/// run, and by parameter how many of the tokens that it sent are published. Code, network and input are lent to it when it runs.
+#[derive(Drop)]
+pub struct Task {
+    cell: Cell,
+    instance: usize,
+    ports: Vec<TaskPort>,
+    standing: TaskStanding,
+    published: Vec<u64>,
+}
+
+/// A cell and the ends of its channels between two runs. It doesn't borrow the input, which may grow meanwhile. It keeps a
+/// list with a number for each parameter for the next run, so that going on never allocates.
+#[derive(Drop)]
+pub struct Idle {
+    pub(crate) cell: Cell,
+    pub(crate) instance: usize,
+    pub(crate) ports: Vec<TaskPort>,
+    pub(crate) numbers: Vec<u64>,
+}
+
 impl TaskStanding {
     /// Returns the standing after a pause.
     pub fn after(pause: Pause) -> TaskStanding
@@ -38,17 +59,6 @@ impl TaskStanding {
             Pause::Dry(parameter) => TaskStanding::Dry(parameter),
         }
     }
-}
-
-/// A cell and the ends of its channels, which go from worker to worker together, with where its process stood when it was last
-/// run, and by parameter how many of the tokens that it sent are published. Code, network and input are lent to it when it runs.
-#[derive(Drop)]
-pub struct Task {
-    cell: Cell,
-    instance: usize,
-    ports: Vec<TaskPort>,
-    standing: TaskStanding,
-    published: Vec<u64>,
 }
 
 impl Model for Task {
@@ -223,16 +233,6 @@ impl Task {
     {
         self.ports[parameter].fed();
     }
-}
-
-/// A cell and the ends of its channels between two runs. It doesn't borrow the input, which may grow meanwhile. It keeps a
-/// list with a number for each parameter for the next run, so that going on never allocates.
-#[derive(Drop)]
-pub struct Idle {
-    pub(crate) cell: Cell,
-    pub(crate) instance: usize,
-    pub(crate) ports: Vec<TaskPort>,
-    pub(crate) numbers: Vec<u64>,
 }
 
 impl Model for Idle {

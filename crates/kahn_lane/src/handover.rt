@@ -15,6 +15,17 @@ use std::mem;
 use std::sync::ledger::{Blank, Ledger};
 use thiserror::Error;
 
+// How often a steal that met another one is tried again. Clauses of relays and lanes count this.
+pub(crate) const TRIES: usize = 64;
+
+/// Why a lane or a relay couldn't be made.
+#[derive(PartialEq, Eq, Debug, Drop, Error)]
+pub enum LaneFault {
+    /// Memory was refused.
+    #[error("no memory")]
+    NoMemory,
+}
+
 /// Makes a relay. Its two ends may go to different threads. Nothing was given or taken yet.
 #[tactic(auto, using(crate::proofs::RelayMoves::begins, crate::proofs::RelayMoves::forks))]
 pub fn relay<T: Drop, A: Allocator + Clone + Drop>(
@@ -99,9 +110,6 @@ impl<T, A: Allocator> Taker<T, A> {
     }
 }
 
-// How often a steal that met another one is tried again. Clauses of relays and lanes count this.
-pub(crate) const TRIES: usize = 64;
-
 /// A new deque, with memory for one item, whose items are stolen in the order in which they were pushed.
 pub(crate) fn small_deque<T: Drop, A: Allocator + Clone + Drop, V, P: Protocol<T, V>>(
     alloc: A,
@@ -111,14 +119,6 @@ pub(crate) fn small_deque<T: Drop, A: Allocator + Clone + Drop, V, P: Protocol<T
     ensures first { IfOk result (λ w. (worker_flavor w ≡ 0) × (worker_index w ≡ 0) × (worker_view w ≡ P.first)) }
 {
     Worker::<T, A, V, P>::fifo_as(alloc, 1)
-}
-
-/// Why a lane or a relay couldn't be made.
-#[derive(PartialEq, Eq, Debug, Drop, Error)]
-pub enum LaneFault {
-    /// Memory was refused.
-    #[error("no memory")]
-    NoMemory,
 }
 
 impl From<AllocError> for LaneFault {

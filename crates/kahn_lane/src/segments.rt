@@ -54,91 +54,29 @@ pub struct Mark {
 /// The rule of a lane: tokens come out in the order of their places.
 pub struct InPlaces;
 
-impl<A: Allocator> Protocol<Segment<A>, Mark> for InPlaces {
-    ghost holds = { Laned };
-
-    ghost first = { opening_mark };
-
-    ghost guest = { spent_mark };
-}
-
 /// The first segment says what the tokens are of.
 pub struct Telling;
-
-impl<A: Allocator> Outcome<Segment<A>, Mark> for Telling {
-    ghost then = { λ _. TellsName };
-}
 
 /// The first segment is taken out again, and the lane begins. It can't be missing.
 pub struct Starting;
 
-impl<A: Allocator> Outcome<Segment<A>, Mark> for Starting {
-    ghost then = { λ v _ w. w ≡ owner v.writes_on v.flushed };
-
-    ghost empty = { λ _. ⊥ };
-}
-
 /// The right to steal or to take goes to another pass, or comes back.
 pub struct Sides;
-
-impl Split<Mark> for Sides {
-    ghost left = { λ v. writing_mark v.writes_on v.flushed };
-
-    ghost right = { λ v. reading v.reads_on v.stolen v.flushed };
-}
-
-impl Join<Mark> for Sides {
-    ghost both = { λ v w. both v.writes_on w.reads_on v.flushed w.stolen w.known };
-
-    ghost spent = { spent_mark };
-}
 
 /// A pass without rights comes, or goes.
 pub struct Bare;
 
-impl Split<Mark> for Bare {
-    ghost left = { λ v. v };
-
-    ghost right = { λ _. spent_mark };
-}
-
-impl Join<Mark> for Bare {
-    ghost both = { λ v _. v };
-
-    ghost spent = { spent_mark };
-}
-
 /// A segment is flushed.
 pub struct Flushed;
-
-impl<A: Allocator> Outcome<Segment<A>, Mark> for Flushed {
-    ghost then = { Flushes };
-}
 
 /// A segment is stolen. An empty deque shows that all that is known to have been flushed was stolen.
 pub struct Stolen;
 
-impl<A: Allocator> Outcome<Segment<A>, Mark> for Stolen {
-    ghost then = { Steals };
-
-    ghost empty = { λ v. v.known ≤ v.stolen };
-}
-
 /// A pass with both rights takes a segment out. An empty deque shows that all that was flushed was taken out.
 pub struct Emptied;
 
-impl<A: Allocator> Outcome<Segment<A>, Mark> for Emptied {
-    ghost then = { Empties };
-
-    ghost empty = { λ v. v.stolen ≡ v.flushed };
-}
-
 /// A pass with both rights sees that no more was stolen than was flushed, of the same name.
 pub struct Behind;
-
-impl<A: Allocator> Lesson<Segment<A>, Mark> for Behind {
-    ghost fact = { λ v _. (v.stolen ≤ v.flushed) × (v.writes_on ≡ v.reads_on) };
-}
 
 /// The deque of a lane, as its owner sees it.
 pub(crate) type LaneWorker<A> = Worker<Segment<A>, A, Mark, InPlaces>;
@@ -214,6 +152,99 @@ pub struct Log<T> {
 /// The rule of a relay: items are taken in the order in which they were given.
 pub struct InOrder;
 
+/// A push adds its item to those given.
+pub struct Sent;
+
+/// A steal adds its item to those taken. An empty deque shows that all that is known to have been given was taken.
+pub struct Got;
+
+/// A pass with both rights sees the whole: what was given is what was taken, and then what the deque holds.
+pub struct Total;
+
+/// The end of a relay that puts items in.
+#[derive(Drop)]
+pub struct Giver<T, A: Allocator = Global> {
+    pub(crate) worker: Worker<T, A, Log<T>, InOrder>,
+    ghost gives: { (worker_view worker).pushes ≡ true },
+    ghost counted: { worker_index worker ≡ length (worker_view worker).given },
+    ghost roomy: { 1 ≤ worker_capacity worker },
+}
+
+/// The end of a relay that takes them out.
+#[derive(Drop)]
+pub struct Taker<T, A: Allocator = Global> {
+    pub(crate) stealer: Stealer<T, A, Log<T>, InOrder>,
+    pub(crate) pass: Pass<T, Log<T>, A>,
+    ghost rows: { pass.rows ≡ (stealer_deque stealer).0 },
+    ghost heap: { pass.heap ≡ (stealer_deque stealer).1 },
+    ghost hand: { is_some pass.me.hand ≡ false },
+    ghost spare: { is_some pass.me.spare ≡ false },
+    ghost takes: { (view pass).pops ≡ true },
+    ghost in_order: { stealer_flavor stealer ≡ 0 },
+}
+
+impl<A: Allocator> Protocol<Segment<A>, Mark> for InPlaces {
+    ghost holds = { Laned };
+
+    ghost first = { opening_mark };
+
+    ghost guest = { spent_mark };
+}
+
+impl<A: Allocator> Outcome<Segment<A>, Mark> for Telling {
+    ghost then = { λ _. TellsName };
+}
+
+impl<A: Allocator> Outcome<Segment<A>, Mark> for Starting {
+    ghost then = { λ v _ w. w ≡ owner v.writes_on v.flushed };
+
+    ghost empty = { λ _. ⊥ };
+}
+
+impl Split<Mark> for Sides {
+    ghost left = { λ v. writing_mark v.writes_on v.flushed };
+
+    ghost right = { λ v. reading v.reads_on v.stolen v.flushed };
+}
+
+impl Join<Mark> for Sides {
+    ghost both = { λ v w. both v.writes_on w.reads_on v.flushed w.stolen w.known };
+
+    ghost spent = { spent_mark };
+}
+
+impl Split<Mark> for Bare {
+    ghost left = { λ v. v };
+
+    ghost right = { λ _. spent_mark };
+}
+
+impl Join<Mark> for Bare {
+    ghost both = { λ v _. v };
+
+    ghost spent = { spent_mark };
+}
+
+impl<A: Allocator> Outcome<Segment<A>, Mark> for Flushed {
+    ghost then = { Flushes };
+}
+
+impl<A: Allocator> Outcome<Segment<A>, Mark> for Stolen {
+    ghost then = { Steals };
+
+    ghost empty = { λ v. v.known ≤ v.stolen };
+}
+
+impl<A: Allocator> Outcome<Segment<A>, Mark> for Emptied {
+    ghost then = { Empties };
+
+    ghost empty = { λ v. v.stolen ≡ v.flushed };
+}
+
+impl<A: Allocator> Lesson<Segment<A>, Mark> for Behind {
+    ghost fact = { λ v _. (v.stolen ≤ v.flushed) × (v.writes_on ≡ v.reads_on) };
+}
+
 impl<T> Protocol<T, Log<T>> for InOrder {
     ghost holds = { Relayed };
 
@@ -246,15 +277,9 @@ impl<T> Join<Log<T>> for Bare {
     ghost spent = { log false false 0 [] [] };
 }
 
-/// A push adds its item to those given.
-pub struct Sent;
-
 impl<T> Outcome<T, Log<T>> for Sent {
     ghost then = { λ v xs w. w ≡ log v.pushes v.pops v.known (v.given ++ xs) v.taken };
 }
-
-/// A steal adds its item to those taken. An empty deque shows that all that is known to have been given was taken.
-pub struct Got;
 
 impl<T> Outcome<T, Log<T>> for Got {
     ghost then = { λ v xs w. w ≡ log v.pushes v.pops v.known v.given (v.taken ++ xs) };
@@ -262,31 +287,6 @@ impl<T> Outcome<T, Log<T>> for Got {
     ghost empty = { λ v. v.known ≤ length v.taken };
 }
 
-/// A pass with both rights sees the whole: what was given is what was taken, and then what the deque holds.
-pub struct Total;
-
 impl<T> Lesson<T, Log<T>> for Total {
     ghost fact = { λ v items. v.given ≡ v.taken ++ items };
-}
-
-/// The end of a relay that puts items in.
-#[derive(Drop)]
-pub struct Giver<T, A: Allocator = Global> {
-    pub(crate) worker: Worker<T, A, Log<T>, InOrder>,
-    ghost gives: { (worker_view worker).pushes ≡ true },
-    ghost counted: { worker_index worker ≡ length (worker_view worker).given },
-    ghost roomy: { 1 ≤ worker_capacity worker },
-}
-
-/// The end of a relay that takes them out.
-#[derive(Drop)]
-pub struct Taker<T, A: Allocator = Global> {
-    pub(crate) stealer: Stealer<T, A, Log<T>, InOrder>,
-    pub(crate) pass: Pass<T, Log<T>, A>,
-    ghost rows: { pass.rows ≡ (stealer_deque stealer).0 },
-    ghost heap: { pass.heap ≡ (stealer_deque stealer).1 },
-    ghost hand: { is_some pass.me.hand ≡ false },
-    ghost spare: { is_some pass.me.spare ≡ false },
-    ghost takes: { (view pass).pops ≡ true },
-    ghost in_order: { stealer_flavor stealer ≡ 0 },
 }

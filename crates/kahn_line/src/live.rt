@@ -76,6 +76,15 @@ pub struct LiveOptions {
     pub plain: Option<PlainNames>,
 }
 
+/// Channels whose values stand alone in the lines of input and output.
+#[derive(Debug, Drop)]
+pub struct PlainNames {
+    /// The names of the channels whose values are taken, with commas between, never empty; or nothing if lines begin with names.
+    pub input: Option<String>,
+    /// The names of the channels whose values are shown, with commas between, or nothing for the first stream of a report.
+    pub output: Option<String>,
+}
+
 /// Makes an option with names of channels, which may not be empty.
 fn names_arg<'a>(alloc: Global, name: &'a str, value: &'a str, help: &'a str) -> Arg<'a>
     ensures rule { rule_of result ≡ names_rule name.entry.now }
@@ -151,15 +160,6 @@ pub fn read_live_line<S: AsStr>(alloc: Global, words: &[S]) -> Result<LiveOption
         at_end: lines_at_end(alloc, &matches, &plain)?,
         plain,
     })
-}
-
-/// Channels whose values stand alone in the lines of input and output.
-#[derive(Debug, Drop)]
-pub struct PlainNames {
-    /// The names of the channels whose values are taken, with commas between, never empty; or nothing if lines begin with names.
-    pub input: Option<String>,
-    /// The names of the channels whose values are shown, with commas between, or nothing for the first stream of a report.
-    pub output: Option<String>,
 }
 
 /// Returns the parts of a word before and after the first such sign; a word without it has one part.

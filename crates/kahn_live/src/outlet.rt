@@ -20,6 +20,13 @@ pub(crate) struct DeferredWriter<W: Write> {
     pub(crate) gone: bool,
 }
 
+/// A stream whose calls wait until they can do something.
+#[derive(Drop)]
+pub(crate) struct Patient<'c, S, C> {
+    pub(crate) stream: S,
+    pub(crate) clock: &'c C,
+}
+
 impl<W: Write> DeferredWriter<W> {
     pub(crate) fn new(writer: W) -> DeferredWriter<W>
         ensures { output_of W.contents result ≡ unwritten (W.contents writer) }
@@ -74,13 +81,6 @@ impl<W: Write> Write for DeferredWriter<W> {
     {
         Ok(())
     }
-}
-
-/// A stream whose calls wait until they can do something.
-#[derive(Drop)]
-pub(crate) struct Patient<'c, S, C> {
-    pub(crate) stream: S,
-    pub(crate) clock: &'c C,
 }
 
 fn would_wait<T>(done: &io::Result<T>) -> bool

@@ -19,6 +19,27 @@ use std::alloc::Global;
 use std::hash::RandomState;
 use std::io::{BufReader, Read, Write};
 
+/// What is amiss with a run that is judged.
+#[derive(Clone, Copy)]
+pub(crate) enum Amiss {
+    /// A process has a fault of arithmetic.
+    Faulted,
+    /// None has, and processes wait on one another in a ring.
+    Ringed,
+}
+
+/// How a run ended.
+#[derive(Drop)]
+pub(crate) enum RunEnding {
+    /// The end of the input was reached, and that is amiss.
+    Reached(Verdict, Option<Amiss>),
+    /// Nobody reads what is new any more.
+    Gone,
+    /// There is no channel of a name of `--plain`, or it is no input where its values stand in the lines; or a line of `--at-end` isn't
+    /// meant for an input channel.
+    Refused,
+}
+
 /// The name of the channel that is watched: where values stand alone, of the first one whose values are shown, which so has a stream.
 fn name_watched(options: &LiveOptions) -> Option<&str>
     ensures { option_copied result ≡ name_watched options.now.plain options.now.config.watch }
@@ -191,27 +212,6 @@ pub(crate) fn ran<I: Read + Drop, W: Write + Drop, E: Write + Drop>(
     let (ending, outlet, mut teller) = run(seed, program, options, input, outlet, teller);
     let status = told(ending, program, &mut teller);
     (status, outlet, teller)
-}
-
-/// What is amiss with a run that is judged.
-#[derive(Clone, Copy)]
-pub(crate) enum Amiss {
-    /// A process has a fault of arithmetic.
-    Faulted,
-    /// None has, and processes wait on one another in a ring.
-    Ringed,
-}
-
-/// How a run ended.
-#[derive(Drop)]
-pub(crate) enum RunEnding {
-    /// The end of the input was reached, and that is amiss.
-    Reached(Verdict, Option<Amiss>),
-    /// Nobody reads what is new any more.
-    Gone,
-    /// There is no channel of a name of `--plain`, or it is no input where its values stand in the lines; or a line of `--at-end` isn't
-    /// meant for an input channel.
-    Refused,
 }
 
 fn judged(session: &Session<'_>, strict: bool) -> Option<Amiss>

@@ -25,28 +25,6 @@ use std::io::Write;
 /// Of more letters of names none is looked for that is near to the name of a refused line: that would take longer than its lines.
 const MOST_LETTERS: u64 = 16_777_216;
 
-fn is_alike(last: Option<TakeFault>, fault: TakeFault) -> bool
-    ensures { result ≡ is_alike last fault }
-{
-    last.is_some_and(|last| take_words(last) == take_words(fault))
-}
-
-fn cause_words(
-    alloc: Global,
-    path: &str,
-    program: &str,
-    session: &Session<'_>,
-) -> Result<String, AllocError>
-    requires { HasVerdict session.now }
-    ensures { IfOk result (λ words. AreCausesOf session.now.flow.run (string_bytes words)) }
-{
-    let Some(verdict) = session.verdict() else {
-        unreachable!()
-    };
-    let network = session.network();
-    causes(alloc, path, program, network, verdict, session.ends())
-}
-
 /// A writer of faults, and what lines were refused.
 #[derive(Drop)]
 pub(crate) struct Teller<E: Write> {
@@ -71,6 +49,28 @@ pub(crate) struct Teller<E: Write> {
     pub(crate) ringed: bool,
     // How many letters of names were compared with those of refused lines.
     letters: u64,
+}
+
+fn is_alike(last: Option<TakeFault>, fault: TakeFault) -> bool
+    ensures { result ≡ is_alike last fault }
+{
+    last.is_some_and(|last| take_words(last) == take_words(fault))
+}
+
+fn cause_words(
+    alloc: Global,
+    path: &str,
+    program: &str,
+    session: &Session<'_>,
+) -> Result<String, AllocError>
+    requires { HasVerdict session.now }
+    ensures { IfOk result (λ words. AreCausesOf session.now.flow.run (string_bytes words)) }
+{
+    let Some(verdict) = session.verdict() else {
+        unreachable!()
+    };
+    let network = session.network();
+    causes(alloc, path, program, network, verdict, session.ends())
 }
 
 impl<E: Write> Teller<E> {

@@ -45,6 +45,24 @@ pub struct Held<'n> {
     verdict: Option<Verdict>,
 }
 
+/// Room for the tasks of a part of a run, for the jobs that they leave, and for their ends.
+#[derive(Drop)]
+pub(crate) struct PartRoom {
+    pub(crate) tasks: Vec<Task>,
+    pub(crate) idles: Vec<Idle>,
+    pub(crate) ends: Vec<End>,
+}
+
+/// How a part of a run stopped: its jobs at rest, what is left of the bound, the end of each instance, and the verdict.
+/// Without a verdict the ends mean nothing.
+#[derive(Drop)]
+pub(crate) struct Stopped {
+    pub(crate) idles: Vec<Idle>,
+    pub(crate) budget: u64,
+    pub(crate) ends: Vec<End>,
+    pub(crate) outcome: Result<Verdict, CrewFault>,
+}
+
 impl<'n> Model for Held<'n> {
     ghost Value = { HeldRun };
 
@@ -252,14 +270,6 @@ pub(crate) fn settle_all(tasks: &mut Vec<Task>, part: &RunPart<'_>)
     }
 }
 
-/// Room for the tasks of a part of a run, for the jobs that they leave, and for their ends.
-#[derive(Drop)]
-pub(crate) struct PartRoom {
-    pub(crate) tasks: Vec<Task>,
-    pub(crate) idles: Vec<Idle>,
-    pub(crate) ends: Vec<End>,
-}
-
 impl PartRoom {
     pub(crate) fn new(alloc: Global, instances: usize) -> Result<PartRoom, NoMemory>
         ensures { IfOk result (IsRoomFor instances) }
@@ -269,16 +279,6 @@ impl PartRoom {
         let ends = Vec::with_capacity(alloc, instances)?;
         Ok(PartRoom { tasks, idles, ends })
     }
-}
-
-/// How a part of a run stopped: its jobs at rest, what is left of the bound, the end of each instance, and the verdict.
-/// Without a verdict the ends mean nothing.
-#[derive(Drop)]
-pub(crate) struct Stopped {
-    pub(crate) idles: Vec<Idle>,
-    pub(crate) budget: u64,
-    pub(crate) ends: Vec<End>,
-    pub(crate) outcome: Result<Verdict, CrewFault>,
 }
 
 // The jobs, the ends and the verdict of a run that is over, or the jobs of one that was given up. The verdict is `Memory` exactly if the run

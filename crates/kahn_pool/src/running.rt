@@ -20,6 +20,15 @@ use std::sync::Wait;
 use std::sync::ledger::Blank;
 use std::thread::{Threads, available_parallelism};
 
+/// What is wanted of memory where a run is handed over: jobs that stand where the bench stands, room for what a part wants, and room for
+/// taps, if the bench takes its processes back.
+#[derive(Drop)]
+pub(crate) struct HandRoom {
+    pub(crate) idles: Vec<Idle>,
+    pub(crate) part: PartRoom,
+    pub(crate) taps: Vec<Tap>,
+}
+
 fn hand_room(
     alloc: Global,
     network: &Network,
@@ -188,15 +197,6 @@ pub(crate) fn run_workers<R: Threads + Wait + Sync, G: Gate + Sync>(
     };
     let stopped = run_part(rt, alloc, &part, idles, room, gate);
     Ok(answer_of(&part, stopped, streams, kept)?)
-}
-
-/// What is wanted of memory where a run is handed over: jobs that stand where the bench stands, room for what a part wants, and room for
-/// taps, if the bench takes its processes back.
-#[derive(Drop)]
-pub(crate) struct HandRoom {
-    pub(crate) idles: Vec<Idle>,
-    pub(crate) part: PartRoom,
-    pub(crate) taps: Vec<Tap>,
 }
 
 /// The answer of a run that was left there, once several workers went on from where its processes stand, or one if memory is refused

@@ -6,6 +6,15 @@ use kahn_pool::{Flow, Held, Verdict};
 use kahn_streams::Input;
 use std::test::Fail;
 
+// A body of 14 events.
+static SHORT: &str = "integer I; while I < 6 do begin I := I + 1; print I end; print 7";
+
+// A body of 4,000 events.
+static LONG: &str = "integer I; while I < 1999 do begin I := I + 1; print I end; print 7";
+
+// Once for each of 16 instances.
+const EACH: u64 = 0x1111_1111_1111_1111;
+
 #[test]
 fn two_at_once(rt: HostRuntime) -> Result<(), Fail> {
     let gate = Counting::of(Hold::Each, false);
@@ -71,15 +80,6 @@ fn a_flow_takes_turns(rt: HostRuntime) -> Result<(), Fail> {
     assert_eq!(rt; gate.order(), 0b01_10_01_10_01_10_01_10);
     Ok(())
 }
-
-// A body of 14 events.
-static SHORT: &str = "integer I; while I < 6 do begin I := I + 1; print I end; print 7";
-
-// A body of 4,000 events.
-static LONG: &str = "integer I; while I < 1999 do begin I := I + 1; print I end; print 7";
-
-// Once for each of 16 instances.
-const EACH: u64 = 0x1111_1111_1111_1111;
 
 // As many workers as are asked for are there at the same time and never more, and one comes to each quantum of each process.
 #[test]

@@ -13,6 +13,9 @@ use std::sync::Wait;
 use std::test::Fail;
 use std::thread::Threads;
 
+// A held run, and what is left to feed of each channel, reversed.
+type Part<'n> = (Held<'n>, Vec<(String, Vec<Value>)>);
+
 // Returns the next pseudo-random number, the same whenever the test is run.
 fn shuffled(number: u64) -> u64 {
     number
@@ -65,9 +68,6 @@ fn piece(alloc: Global, left: &mut Vec<Value>, most: u64) -> Result<Vec<Value>, 
     }
     Ok(values)
 }
-
-// A held run, and what is left to feed of each channel, reversed.
-type Part<'n> = (Held<'n>, Vec<(String, Vec<Value>)>);
 
 // Feeds a piece of each list, of at most `most` values, and runs a part of at most `events` events. Returns its answer.
 fn answer_of<R: Threads + Wait + Sync>(

@@ -14,46 +14,6 @@ use std::thread::Threads;
 /// A bound that no run reaches if it comes to an end.
 pub const AMPLE: u64 = 1_000_000;
 
-/// Makes a configuration.
-pub fn config(workers: u64, quantum: u64, bound: u64) -> Config {
-    Config {
-        workers,
-        quantum,
-        bound,
-        watch: None,
-    }
-}
-
-/// Returns the network of a program text.
-pub fn network_of<R: RandomSource>(rt: &R, alloc: Global, program: &str) -> Result<Network, Fail> {
-    Ok(check(alloc, RandomState::new(rt)?, parse(alloc, program)?)?)
-}
-
-/// Returns the report of a program without an input, by so many workers with a quantum and a bound.
-pub fn reported<R: RandomSource + Threads + Wait + Sync, G: Gate + Sync>(
-    rt: &R,
-    alloc: Global,
-    program: &str,
-    (workers, quantum, bound): (u64, u64, u64),
-    gate: &G,
-) -> Result<String, Fail> {
-    let config = config(workers, quantum, bound);
-    let mut written = Vec::new(alloc);
-    let seed = RandomState::new(rt)?;
-    work(rt, alloc, seed, program, "", config, gate, &mut written)?;
-    Ok(String::from_utf8(written)?)
-}
-
-/// Makes so many instances of a process with this body.
-pub fn instances(alloc: Global, number: u64, body: &str) -> Result<String, AllocError> {
-    let mut text = format!(in alloc; "begin process p(); begin {body} end; p()")?;
-    for _ in 1..number {
-        text.push_str(" par p()")?;
-    }
-    text.push_str(" end")?;
-    Ok(text)
-}
-
 /// Counts to 3.
 pub const COUNT: &str = "\
 begin integer output channel W;
@@ -152,3 +112,43 @@ begin integer channel X;
   s(X) par c(X)
 end
 ";
+
+/// Makes a configuration.
+pub fn config(workers: u64, quantum: u64, bound: u64) -> Config {
+    Config {
+        workers,
+        quantum,
+        bound,
+        watch: None,
+    }
+}
+
+/// Returns the network of a program text.
+pub fn network_of<R: RandomSource>(rt: &R, alloc: Global, program: &str) -> Result<Network, Fail> {
+    Ok(check(alloc, RandomState::new(rt)?, parse(alloc, program)?)?)
+}
+
+/// Returns the report of a program without an input, by so many workers with a quantum and a bound.
+pub fn reported<R: RandomSource + Threads + Wait + Sync, G: Gate + Sync>(
+    rt: &R,
+    alloc: Global,
+    program: &str,
+    (workers, quantum, bound): (u64, u64, u64),
+    gate: &G,
+) -> Result<String, Fail> {
+    let config = config(workers, quantum, bound);
+    let mut written = Vec::new(alloc);
+    let seed = RandomState::new(rt)?;
+    work(rt, alloc, seed, program, "", config, gate, &mut written)?;
+    Ok(String::from_utf8(written)?)
+}
+
+/// Makes so many instances of a process with this body.
+pub fn instances(alloc: Global, number: u64, body: &str) -> Result<String, AllocError> {
+    let mut text = format!(in alloc; "begin process p(); begin {body} end; p()")?;
+    for _ in 1..number {
+        text.push_str(" par p()")?;
+    }
+    text.push_str(" end")?;
+    Ok(text)
+}

@@ -32,6 +32,17 @@ struct Slow {
     flush_fails: bool,
 }
 
+// A reader of one byte a call, which fails at a call.
+#[derive(Drop)]
+struct Drip<'a> {
+    left: &'a [u8],
+    calls: usize,
+    fails_at: usize,
+    error: ErrorKind,
+}
+
+static REPORT: &[u8; 47] = b"W: 0 1 2\nend 1 count: ended after 7\nfinished 7\n";
+
 impl Slow {
     fn new(alloc: Global, fails_at: usize, error: Option<ErrorKind>, flush_fails: bool) -> Slow {
         Slow {
@@ -72,15 +83,6 @@ impl Write for Slow {
     }
 }
 
-// A reader of one byte a call, which fails at a call.
-#[derive(Drop)]
-struct Drip<'a> {
-    left: &'a [u8],
-    calls: usize,
-    fails_at: usize,
-    error: ErrorKind,
-}
-
 impl Read for Drip<'_> {
     fn read(&mut self, buf: &mut [u8]) -> io::Result<usize> {
         self.calls = self.calls.saturating_add(1);
@@ -98,8 +100,6 @@ impl Read for Drip<'_> {
         Ok(1)
     }
 }
-
-static REPORT: &[u8; 47] = b"W: 0 1 2\nend 1 count: ended after 7\nfinished 7\n";
 
 // The bytes before the call that fails went out, and no others.
 #[test]

@@ -30,6 +30,64 @@ pub(crate) struct Awake {
     handed: usize,
 }
 
+// What an event takes, beside the instructions of its turn of a loop.
+const EVENT: u64 = 5;
+
+// What an event of a brief turn counts: such turns are only counted together.
+const BRIEF_EVENT: u64 = 8;
+
+// A turn of at least so many events isn't brief.
+const LONG_TURN: u64 = 64;
+
+// A turn of at least so much work is long: several workers then gain more time than lanes and threads cost.
+const LONG: u64 = 1_500;
+
+// A look is over after so much work at least, or a part of all that was done before, but not more than the most. So work for several
+// is seen at any time of a run, if it lasts for a while.
+const LEAST: u64 = 200_000;
+
+const PART: u64 = 8;
+
+const MOST: u64 = 25_000_000;
+
+// It sees so many long turns, if most is done in such turns; and there is work for several only if the turn goes so often from one
+// busy instance to another.
+const TURNS: u64 = 32;
+
+const CHANGES: u64 = 16;
+
+// This many instances with long turns are work for several, even if they send one another tokens all the time.
+const MANY: usize = 32;
+
+// Instances that do at least so much work for each token that they send one another mostly compute by themselves.
+const WORK_A_TOKEN: u64 = 36;
+
+/// What is seen in a look: how much work was done, how much of it in long turns, and by whom.
+#[derive(Drop)]
+pub(crate) struct Looks {
+    // The work of an event of each instance.
+    costs: Vec<u64>,
+    // How many events a brief turn has at most; none of those is long. How many events were left after the last other turn, and how much was
+    // done in those.
+    pub(crate) most: u64,
+    pub(crate) left: u64,
+    done: u64,
+    // How much was done and how many tokens were sent before the look, and when it may be over.
+    from: u64,
+    sent: u64,
+    next: u64,
+    // How much was done in long turns, how many these were, who had the last one, how often another one than before had one, and how many
+    // had them in their order: now, and at most.
+    long: u64,
+    turns: u64,
+    busy: usize,
+    changes: u64,
+    in_order: usize,
+    most_in_order: usize,
+    // How many instances had work in the last look, if that was work for several.
+    pub(crate) wide: usize,
+}
+
 fn written_by(alloc: Global, network: &Network) -> Result<Vec<Vec<usize>>, NoMemory> {
     let mut written = Vec::with_capacity(alloc, network.instances())?;
     for _ in 0..network.instances() {
@@ -178,64 +236,6 @@ impl Awake {
         }
         false
     }
-}
-
-// What an event takes, beside the instructions of its turn of a loop.
-const EVENT: u64 = 5;
-
-// What an event of a brief turn counts: such turns are only counted together.
-const BRIEF_EVENT: u64 = 8;
-
-// A turn of at least so many events isn't brief.
-const LONG_TURN: u64 = 64;
-
-// A turn of at least so much work is long: several workers then gain more time than lanes and threads cost.
-const LONG: u64 = 1_500;
-
-// A look is over after so much work at least, or a part of all that was done before, but not more than the most. So work for several
-// is seen at any time of a run, if it lasts for a while.
-const LEAST: u64 = 200_000;
-
-const PART: u64 = 8;
-
-const MOST: u64 = 25_000_000;
-
-// It sees so many long turns, if most is done in such turns; and there is work for several only if the turn goes so often from one
-// busy instance to another.
-const TURNS: u64 = 32;
-
-const CHANGES: u64 = 16;
-
-// This many instances with long turns are work for several, even if they send one another tokens all the time.
-const MANY: usize = 32;
-
-// Instances that do at least so much work for each token that they send one another mostly compute by themselves.
-const WORK_A_TOKEN: u64 = 36;
-
-/// What is seen in a look: how much work was done, how much of it in long turns, and by whom.
-#[derive(Drop)]
-pub(crate) struct Looks {
-    // The work of an event of each instance.
-    costs: Vec<u64>,
-    // How many events a brief turn has at most; none of those is long. How many events were left after the last other turn, and how much was
-    // done in those.
-    pub(crate) most: u64,
-    pub(crate) left: u64,
-    done: u64,
-    // How much was done and how many tokens were sent before the look, and when it may be over.
-    from: u64,
-    sent: u64,
-    next: u64,
-    // How much was done in long turns, how many these were, who had the last one, how often another one than before had one, and how many
-    // had them in their order: now, and at most.
-    long: u64,
-    turns: u64,
-    busy: usize,
-    changes: u64,
-    in_order: usize,
-    most_in_order: usize,
-    // How many instances had work in the last look, if that was work for several.
-    pub(crate) wide: usize,
 }
 
 /// How many tokens were sent on all channels between processes, and those of the input.

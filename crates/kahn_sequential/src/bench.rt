@@ -30,6 +30,17 @@ pub struct Sequential<'n> {
     looks: Looks,
 }
 
+/// A bench whose processes went to jobs. Its queues stay as they stood.
+#[derive(Drop)]
+pub struct Vacant<'n> {
+    network: &'n Network,
+    watch: Option<usize>,
+    code: Code,
+    queues: Plain<'n, Global>,
+    awake: Awake,
+    looks: Looks,
+}
+
 impl<'n> Model for Sequential<'n> {
     ghost use Rattle.kahn_streams.specs.contracts.tree.Action as action;
     ghost use Rattle.kahn_streams.specs.contracts.tree.Form as form;
@@ -404,17 +415,6 @@ impl<'n> Sequential<'n> {
         fill(self.network, &mut streams, &mut kept);
         streams
     }
-}
-
-/// A bench whose processes went to jobs. Its queues stay as they stood.
-#[derive(Drop)]
-pub struct Vacant<'n> {
-    network: &'n Network,
-    watch: Option<usize>,
-    code: Code,
-    queues: Plain<'n, Global>,
-    awake: Awake,
-    looks: Looks,
 }
 
 impl<'n> Model for Vacant<'n> {

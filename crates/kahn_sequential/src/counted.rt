@@ -30,6 +30,15 @@ pub struct Counted {
     pub counts: Vec<Count>,
 }
 
+/// The answer of a run that kept all that was sent, and of each channel, by its number, its count and its stream. The stream of an output
+/// channel has no tokens here: they are in the answer.
+#[derive(Drop)]
+pub struct Recorded {
+    pub answer: Answer,
+    pub counts: Vec<Count>,
+    pub channels: Vec<Stream>,
+}
+
 fn sent_on(network: &Network, input: &Input, bench: &Sequential<'_>, channel: usize) -> u64
     requires names { (bench.now.network ≡ network.now) × (bench.now.input ≡ input.now) }
     requires here { channel < length (network_of network.now).channels }
@@ -109,15 +118,6 @@ pub fn run_counted(
     let plan = plan_of(network, &config)?;
     laws::finished_exactly();
     Ok(run_kept(alloc, network, &input, plan, &mut None)?)
-}
-
-/// The answer of a run that kept all that was sent, and of each channel, by its number, its count and its stream. The stream of an output
-/// channel has no tokens here: they are in the answer.
-#[derive(Drop)]
-pub struct Recorded {
-    pub answer: Answer,
-    pub counts: Vec<Count>,
-    pub channels: Vec<Stream>,
 }
 
 fn is_own(network: &Network, channel: usize) -> bool

@@ -46,6 +46,26 @@ pub struct Flow<'n> {
     given: Tokens,
 }
 
+// How many turns, for each instance, those that were woken have at most before rounds of all.
+const WOKEN_TURNS: usize = 4;
+
+/// Why a part of a held run gives no verdict, by the first of these that holds.
+#[derive(Clone, Copy, Debug, PartialEq, Eq, Drop, Error)]
+pub enum HeldFault {
+    /// The sum of all bounds would pass 2^48 - 1.
+    #[error("bound is out of range")]
+    BadMore,
+    /// Memory was refused before the first event.
+    #[error("no memory")]
+    NoMemory,
+    /// A thread couldn't be started. Those that were are halted and gathered.
+    #[error("no thread")]
+    NoThread,
+    /// The workers left and the run neither finished nor reached its bound nor wanted memory.
+    #[error("workers stalled")]
+    Stalled,
+}
+
 impl<'n> Model for Flow<'n> {
     ghost use Rattle.kahn_streams.specs.contracts.tree.Action as action;
     ghost use Rattle.kahn_streams.specs.contracts.tree.Form as form;
@@ -286,9 +306,6 @@ impl<'n> Flow<'n> {
     }
 }
 
-// How many turns, for each instance, those that were woken have at most before rounds of all.
-const WOKEN_TURNS: usize = 4;
-
 impl<'g, L: Ledger, G: Gate> Driver<'g, L, G> {
     // The turn of an instance that was woken, which wakes the readers of what it wrote. Whether it is at rest then.
     fn settle_one(
@@ -392,23 +409,6 @@ pub(crate) fn run_on<G: Gate, L: Ledger>(
     };
     woken.clear(matches!(part.verdict, Verdict::Finished));
     part
-}
-
-/// Why a part of a held run gives no verdict, by the first of these that holds.
-#[derive(Clone, Copy, Debug, PartialEq, Eq, Drop, Error)]
-pub enum HeldFault {
-    /// The sum of all bounds would pass 2^48 - 1.
-    #[error("bound is out of range")]
-    BadMore,
-    /// Memory was refused before the first event.
-    #[error("no memory")]
-    NoMemory,
-    /// A thread couldn't be started. Those that were are halted and gathered.
-    #[error("no thread")]
-    NoThread,
-    /// The workers left and the run neither finished nor reached its bound nor wanted memory.
-    #[error("workers stalled")]
-    Stalled,
 }
 
 impl From<NoMemory> for HeldFault {

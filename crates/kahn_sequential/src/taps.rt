@@ -7,6 +7,20 @@ use kahn_code::{Code, CodeFault, Kept, Tap};
 use kahn_streams::{Input, Line, Network, NoMemory};
 use std::alloc::Global;
 
+/// The instances that were woken since their ends were noted, or had turns since what they kept was let go of, if that is known.
+#[derive(Drop)]
+pub(crate) struct Woken {
+    pub(crate) instances: Vec<usize>,
+    pub(crate) known: bool,
+}
+
+/// The first and the last number of a stream that an instance writes.
+#[derive(Clone, Copy, Drop)]
+pub(crate) struct NumberRange {
+    first: usize,
+    last: usize,
+}
+
 pub(crate) fn named_taps(
     alloc: Global,
     network: &Network,
@@ -91,13 +105,6 @@ pub(crate) fn all_kept(taps: Vec<Tap>, mut kept: Vec<Kept>) -> Vec<Kept>
     kept
 }
 
-/// The instances that were woken since their ends were noted, or had turns since what they kept was let go of, if that is known.
-#[derive(Drop)]
-pub(crate) struct Woken {
-    pub(crate) instances: Vec<usize>,
-    pub(crate) known: bool,
-}
-
 impl Woken {
     pub(crate) fn new(alloc: Global, room: usize) -> Result<Woken, NoMemory>
         ensures { IfOk result (λ w. w.known ≡ false) }
@@ -146,13 +153,6 @@ impl Woken {
         self.instances.clear();
         self.known = known;
     }
-}
-
-/// The first and the last number of a stream that an instance writes.
-#[derive(Clone, Copy, Drop)]
-pub(crate) struct NumberRange {
-    first: usize,
-    last: usize,
 }
 
 fn writer_of(network: &Network, line: Line) -> Option<usize>

@@ -29,6 +29,8 @@ pub(crate) struct Paced<'n> {
     kept: Vec<Vec<Value>>,
 }
 
+type WriteResult = Result<(), WriteFault>;
+
 impl<'n> Model for Paced<'n> {
     ghost use Rattle.kahn_streams.specs.contracts.tree.Action as action;
     ghost use Rattle.kahn_streams.specs.contracts.tree.Form as form;
@@ -143,8 +145,6 @@ fn next_stream(run: &Paced<'_>, from: usize, count: usize) -> Option<usize>
     }
     Some(next)
 }
-
-type WriteResult = Result<(), WriteFault>;
 
 fn put_news<W: Write>(
     writer: &mut W,

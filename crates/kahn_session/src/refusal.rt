@@ -12,6 +12,49 @@ use thiserror::Error;
 /// The number of each line of `--at-end`. No line of the input has it.
 pub const AT_END: u64 = u64::MAX;
 
+/// Where what is said comes from, behind the program's file.
+#[derive(Clone, Copy)]
+pub enum Origin {
+    /// Nothing more.
+    File,
+    /// A name of `--plain`.
+    Plain,
+    /// The name of `--watch`.
+    Watch,
+    /// The line of that number. Lines of the input are counted from 1; number 0 stands for what is before the first, and `AT_END` for
+    /// each line of `--at-end`.
+    Line(u64),
+}
+
+/// Why a line of input isn't taken. After each but `Write` the session goes on with the next line.
+#[derive(Clone, Copy, Debug, PartialEq, Eq, Drop, Error)]
+pub enum TakeFault {
+    /// The line has more than 16,777,216 bytes. Nothing changed.
+    #[error("line is too long")]
+    TooLong,
+    /// The line isn't UTF-8. Nothing changed.
+    #[error("not UTF-8")]
+    NotUtf8,
+    /// The line isn't blank and doesn't begin with a name and a colon. Nothing changed.
+    #[error("not a name and a colon")]
+    BadLine,
+    /// A word after the colon is no value. Nothing changed.
+    #[error("not a value")]
+    BadValue,
+    /// The line is a row, and hasn't one value for each of its channels. A session takes no rows, and never says so.
+    #[error("not one value for each channel")]
+    BadRow,
+    /// The values aren't fed to the channel of the name. Nothing changed.
+    #[error("{0}")]
+    Feed(FeedFault),
+    /// Memory was refused while the line was read. Nothing changed.
+    #[error("no memory")]
+    NoMemory,
+    /// The part was run, and what is new couldn't be written whole. A prefix of it was, and the session is broken.
+    #[error("news could not be written")]
+    Write(WriteFault),
+}
+
 /// Whether memory was refused for a line.
 pub fn is_want(fault: TakeFault) -> bool
     ensures { result ≡ is_want fault }
@@ -60,20 +103,6 @@ pub fn failure_words(kind: Failure) -> &'static str
         Failure::Overflow => " has a fault: overflow",
         Failure::Division => " has a fault: division",
     }
-}
-
-/// Where what is said comes from, behind the program's file.
-#[derive(Clone, Copy)]
-pub enum Origin {
-    /// Nothing more.
-    File,
-    /// A name of `--plain`.
-    Plain,
-    /// The name of `--watch`.
-    Watch,
-    /// The line of that number. Lines of the input are counted from 1; number 0 stands for what is before the first, and `AT_END` for
-    /// each line of `--at-end`.
-    Line(u64),
 }
 
 /// Where a line comes from that isn't taken: one of number 0 is made of a name of `--plain`.
@@ -160,33 +189,4 @@ pub fn write_said<W: Write>(
     let mut room = Buffer::new();
     let (from, number) = origin_words(&mut room, from);
     put(out, path, from, number, words, part, first, next, last)
-}
-
-/// Why a line of input isn't taken. After each but `Write` the session goes on with the next line.
-#[derive(Clone, Copy, Debug, PartialEq, Eq, Drop, Error)]
-pub enum TakeFault {
-    /// The line has more than 16,777,216 bytes. Nothing changed.
-    #[error("line is too long")]
-    TooLong,
-    /// The line isn't UTF-8. Nothing changed.
-    #[error("not UTF-8")]
-    NotUtf8,
-    /// The line isn't blank and doesn't begin with a name and a colon. Nothing changed.
-    #[error("not a name and a colon")]
-    BadLine,
-    /// A word after the colon is no value. Nothing changed.
-    #[error("not a value")]
-    BadValue,
-    /// The line is a row, and hasn't one value for each of its channels. A session takes no rows, and never says so.
-    #[error("not one value for each channel")]
-    BadRow,
-    /// The values aren't fed to the channel of the name. Nothing changed.
-    #[error("{0}")]
-    Feed(FeedFault),
-    /// Memory was refused while the line was read. Nothing changed.
-    #[error("no memory")]
-    NoMemory,
-    /// The part was run, and what is new couldn't be written whole. A prefix of it was, and the session is broken.
-    #[error("news could not be written")]
-    Write(WriteFault),
 }

@@ -37,6 +37,15 @@ pub struct Session<'n> {
     ring: RingHint,
 }
 
+/// Whether processes may have come to wait on one another in a ring, and from how many events on that is asked again. No clause speaks of it.
+#[derive(Drop)]
+struct RingHint {
+    seen: bool,
+    from: u64,
+    // Of each process the number from 1 of the first one whose waits led to it.
+    walked: Vec<usize>,
+}
+
 impl<'n> Model for Session<'n> {
     ghost use Rattle.kahn_streams.specs.contracts.tree.Action as action;
     ghost use Rattle.kahn_streams.specs.contracts.tree.Form as form;
@@ -388,15 +397,6 @@ impl<'n> Session<'n> {
             Err(fault) => Err(fault),
         }
     }
-}
-
-/// Whether processes may have come to wait on one another in a ring, and from how many events on that is asked again. No clause speaks of it.
-#[derive(Drop)]
-struct RingHint {
-    seen: bool,
-    from: u64,
-    // Of each process the number from 1 of the first one whose waits led to it.
-    walked: Vec<usize>,
 }
 
 fn awaited(network: &Network, ends: &[End], instance: usize) -> Option<usize> {

@@ -52,22 +52,6 @@ pub enum CheckFault {
     NoMemory,
 }
 
-impl From<AllocError> for CheckFault {
-    ghost from_gives = { λ _ e. e ≡ NoMemory };
-
-    fn from(_error: AllocError) -> Self {
-        CheckFault::NoMemory
-    }
-}
-
-impl<T: Drop> From<AllocFailed<T>> for CheckFault {
-    ghost from_gives = { λ _ e. e ≡ NoMemory };
-
-    fn from(_error: AllocFailed<T>) -> Self {
-        CheckFault::NoMemory
-    }
-}
-
 /// Why there is no answer.
 #[derive(Clone, Copy, Debug, PartialEq, Eq, Drop, Error)]
 pub enum RunFault {
@@ -86,6 +70,22 @@ pub enum RunFault {
     /// The workers left, but the run neither finished nor reached its bound nor was refused memory.
     #[error("workers stalled")]
     Stalled,
+}
+
+impl From<AllocError> for CheckFault {
+    ghost from_gives = { λ _ e. e ≡ NoMemory };
+
+    fn from(_error: AllocError) -> Self {
+        CheckFault::NoMemory
+    }
+}
+
+impl<T: Drop> From<AllocFailed<T>> for CheckFault {
+    ghost from_gives = { λ _ e. e ≡ NoMemory };
+
+    fn from(_error: AllocFailed<T>) -> Self {
+        CheckFault::NoMemory
+    }
 }
 
 impl From<NoMemory> for RunFault {

@@ -19,18 +19,18 @@ pub trait Gate {
 #[derive(Clone, Copy, Default)]
 pub struct Open;
 
+/// That a gate was entered for an instance, which may run for one quantum then. Nothing but `enter_gate` makes one.
+#[derive(Drop)]
+pub struct GateEntry {
+    instance: usize,
+}
+
 impl Gate for Open {
     fn enter(&self, _instance: usize) {}
 
     fn is_open(&self) -> bool {
         true
     }
-}
-
-/// That a gate was entered for an instance, which may run for one quantum then. Nothing but `enter_gate` makes one.
-#[derive(Drop)]
-pub struct GateEntry {
-    instance: usize,
 }
 
 /// Enters the gate.

@@ -22,22 +22,6 @@ pub struct Network {
     processes: Vec<usize>,
 }
 
-impl Model for Network {
-    ghost use Rattle.kahn_streams.specs.contracts.tree.Action as action;
-    ghost use Rattle.kahn_streams.specs.contracts.tree.Form as form;
-    ghost use Rattle.kahn_streams.specs.declared.tree.Program.{Program};
-    ghost use Rattle.std.specs.Coded.{codes};
-    ghost use Rattle.kahn_streams.specs.Wires.{IsKept};
-
-    ghost Value = { Program };
-
-    ghost coded = { Prim.hlevel (codes, action.the_row.coded, form.the_row.coded) };
-
-    ghost view = { λ n. n.program };
-
-    ghost invariant = { λ n. IsKept n.program n.wires.entries n.processes.items };
-}
-
 /// A channel of a network.
 #[derive(Clone, Copy)]
 pub struct Channel<'n> {
@@ -58,6 +42,22 @@ pub struct NetworkInstance<'n> {
     pub process: &'n Process,
     /// What is handed to the parameters of the process, one for each.
     pub arguments: &'n [Argument],
+}
+
+impl Model for Network {
+    ghost use Rattle.kahn_streams.specs.contracts.tree.Action as action;
+    ghost use Rattle.kahn_streams.specs.contracts.tree.Form as form;
+    ghost use Rattle.kahn_streams.specs.declared.tree.Program.{Program};
+    ghost use Rattle.std.specs.Coded.{codes};
+    ghost use Rattle.kahn_streams.specs.Wires.{IsKept};
+
+    ghost Value = { Program };
+
+    ghost coded = { Prim.hlevel (codes, action.the_row.coded, form.the_row.coded) };
+
+    ghost view = { λ n. n.program };
+
+    ghost invariant = { λ n. IsKept n.program n.wires.entries n.processes.items };
 }
 
 /// Makes the network of a well wired program, with its tables. Channels are looked up under `seed`. Fails only if memory is

@@ -26,6 +26,18 @@ const LONG: usize = 16_384;
 /// Tokens one after another. Only contracts use it: no value of it is made.
 pub struct Series;
 
+/// A list of tokens, stored as their values: in eight bytes while they are integers, and in nine from the first logical value
+/// on. Contracts see the tokens, for how many more there is room, whatever they are, and for how many integers without a look.
+#[derive(Drop)]
+pub struct Tokens<A: Allocator = Global> {
+    /// The first ones, as long as all are integers.
+    numbers: Vec<i64, A>,
+    rest: Vec<Packed, A>,
+    /// While there are fewer integers than these, there is room for any token, and no rest.
+    limit: usize,
+    series: About<Series>,
+}
+
 impl Model for Series {
     ghost use Rattle.kahn_streams.specs.contracts.tree.Action as action;
     ghost use Rattle.kahn_streams.specs.contracts.tree.Form as form;
@@ -38,18 +50,6 @@ impl Model for Series {
     ghost coded = { Prim.hlevel (codes, action.the_row.coded, form.the_row.coded) };
 
     ghost view = { λ _. [] };
-}
-
-/// A list of tokens, stored as their values: in eight bytes while they are integers, and in nine from the first logical value
-/// on. Contracts see the tokens, for how many more there is room, whatever they are, and for how many integers without a look.
-#[derive(Drop)]
-pub struct Tokens<A: Allocator = Global> {
-    /// The first ones, as long as all are integers.
-    numbers: Vec<i64, A>,
-    rest: Vec<Packed, A>,
-    /// While there are fewer integers than these, there is room for any token, and no rest.
-    limit: usize,
-    series: About<Series>,
 }
 
 impl<A: Allocator> Model for Tokens<A> {

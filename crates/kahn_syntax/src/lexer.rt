@@ -20,6 +20,14 @@ enum Item {
     Comment(usize),
 }
 
+/// A form that the text has at a place, with the place after it.
+#[derive(Clone, Copy)]
+pub enum LexemeForm {
+    Word(usize),
+    Run(usize),
+    Sign(Sign, usize),
+}
+
 /// Reads the lexeme of a word, or the comment that it begins.
 fn word_item(text: &str, span: Span) -> Result<Item, SyntaxFault>
     requires longest { IsLongest text.now span.from span.to }
@@ -124,14 +132,6 @@ pub fn lex(alloc: Global, text: &str) -> Result<Vec<Lexeme>, SyntaxFault>
 pub fn one_list()
     ensures { (text : List ℕ) (xs ys : List Lexeme) → Lexed text 0 (length text) xs → Lexed text 0 (length text) ys → xs ≡ ys }
 {}
-
-/// A form that the text has at a place, with the place after it.
-#[derive(Clone, Copy)]
-pub enum LexemeForm {
-    Word(usize),
-    Run(usize),
-    Sign(Sign, usize),
-}
 
 /// Whether it is a space, a tab, a CR or an LF.
 pub fn is_blank(b: u8) -> bool

@@ -21,6 +21,12 @@ pub enum WriteFault {
 /// How many bytes a pipe takes at once or not at all: if several programs write to it, they stay together.
 const ROOM: usize = 4096;
 
+/// A count that only contracts see. It has no bytes.
+#[derive(Drop)]
+pub struct GhostCount {
+    calls: About<u64>,
+}
+
 /// Writes bytes, by as many writes as it takes.
 #[inline(always)]
 pub fn put<W: Write, C: CallCount>(
@@ -125,12 +131,6 @@ impl<L: Ledger> CallCount for Steps<L> {
     fn tick(&mut self) {
         Steps::tick(self);
     }
-}
-
-/// A count that only contracts see. It has no bytes.
-#[derive(Drop)]
-pub struct GhostCount {
-    calls: About<u64>,
 }
 
 impl CallCount for GhostCount {

@@ -30,6 +30,23 @@ pub enum TextFault {
     NoMemory,
 }
 
+/// The most bytes of an input text.
+pub const MOST_BYTES: usize = 16777216;
+
+/// Why a line is no entry.
+#[derive(Clone, Copy, Debug, PartialEq, Eq, Drop, Error)]
+pub enum EntryFault {
+    /// It doesn't begin with a name and a colon.
+    #[error("not a name and a colon")]
+    NoHead,
+    /// A word after its colon is no value.
+    #[error("not a value")]
+    NoValues,
+    /// Memory was refused.
+    #[error("no memory")]
+    NoMemory,
+}
+
 impl From<InputFault> for TextFault {
     ghost use Rattle.std.specs.Prelude.{◌≡◌};
     ghost use Rattle.kahn_texts.specs.Formats.{told_of_input};
@@ -196,23 +213,6 @@ fn read_values(alloc: Global, text: &[u8]) -> Result<Vec<Value>, EntryFault>
         }
     }
     Ok(values)
-}
-
-/// The most bytes of an input text.
-pub const MOST_BYTES: usize = 16777216;
-
-/// Why a line is no entry.
-#[derive(Clone, Copy, Debug, PartialEq, Eq, Drop, Error)]
-pub enum EntryFault {
-    /// It doesn't begin with a name and a colon.
-    #[error("not a name and a colon")]
-    NoHead,
-    /// A word after its colon is no value.
-    #[error("not a value")]
-    NoValues,
-    /// Memory was refused.
-    #[error("no memory")]
-    NoMemory,
 }
 
 /// Returns a line without one carriage return before its end.

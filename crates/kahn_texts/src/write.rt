@@ -10,6 +10,21 @@ use itoa::{Buffer, write_digits};
 use kahn_streams::{Answer, End, Failure, Line, Network, Outcome, Stream, Value, Values, Verdict};
 use std::io::Write;
 
+/// How many values one write has.
+const TOGETHER: usize = 32;
+
+/// Room for these, each of 20 bytes at most and a space.
+const ROOM: usize = 21 * TOGETHER;
+
+/// How values are separated.
+#[derive(Clone, Copy)]
+pub(crate) enum Layout {
+    /// A space before each.
+    Spaced,
+    /// Each on a line of its own.
+    Lined,
+}
+
 /// Writes what a stream's line begins with.
 pub(crate) fn put_head<W: Write, C: CallCount>(
     writer: &mut W,
@@ -287,12 +302,6 @@ pub fn write_closing<W: Write>(
     )
 }
 
-/// How many values one write has.
-const TOGETHER: usize = 32;
-
-/// Room for these, each of 20 bytes at most and a space.
-const ROOM: usize = 21 * TOGETHER;
-
 /// Places a text so that it ends at `end`, and returns where it begins.
 #[inline(always)]
 fn place(text: &[u8], room: &mut [u8], end: usize) -> usize
@@ -333,15 +342,6 @@ fn place_value(value: Value, room: &mut [u8], end: usize) -> usize
         Value::Logical(true) => place(b"true", room, end),
         Value::Logical(false) => place(b"false", room, end),
     }
-}
-
-/// How values are separated.
-#[derive(Clone, Copy)]
-pub(crate) enum Layout {
-    /// A space before each.
-    Spaced,
-    /// Each on a line of its own.
-    Lined,
 }
 
 /// Places a value and its separator so that they end at `end`, and returns where they begin.

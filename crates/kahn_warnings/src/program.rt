@@ -19,6 +19,35 @@ use kahn_streams::{
 use std::alloc::{AllocError, Global};
 use std::hash::RandomState;
 
+#[derive(Clone, Copy)]
+pub(crate) enum WarningKind {
+    LongComment,
+    NoInstance,
+    Unused,
+    Unread,
+    StaysZero,
+    StaysFalse,
+    Idle,
+    Unreached,
+    Divides,
+    Overflows,
+    AlwaysTrue,
+    AlwaysFalse,
+    Unchanged,
+    BareDo,
+    BareThen,
+    Beside,
+}
+
+/// A warning, and the part of the text that it is about.
+#[derive(Clone, Copy)]
+pub(crate) struct Warning {
+    pub kind: WarningKind,
+    /// The whole comment; the name of the process, of the parameter or of the variable where it is declared; the loop; the
+    /// first statement that isn't reached, or doesn't belong to the `if`; the right operand, or the one behind a sign; the test; or the `if`.
+    pub span: Span,
+}
+
 /// The warnings of the comments of a text that has lexemes, in order. It refuses only where memory was refused.
 fn comment_warnings(alloc: Global, text: &str) -> Result<Vec<Warning>, NoMemory>
     ensures { IfOk result (λ ws. AreCommentWarnings text.now ws.items) }
@@ -253,35 +282,6 @@ fn warnings(
 pub fn loops_hold()
     ensures { LoopsHold }
 {}
-
-#[derive(Clone, Copy)]
-pub(crate) enum WarningKind {
-    LongComment,
-    NoInstance,
-    Unused,
-    Unread,
-    StaysZero,
-    StaysFalse,
-    Idle,
-    Unreached,
-    Divides,
-    Overflows,
-    AlwaysTrue,
-    AlwaysFalse,
-    Unchanged,
-    BareDo,
-    BareThen,
-    Beside,
-}
-
-/// A warning, and the part of the text that it is about.
-#[derive(Clone, Copy)]
-pub(crate) struct Warning {
-    pub kind: WarningKind,
-    /// The whole comment; the name of the process, of the parameter or of the variable where it is declared; the loop; the
-    /// first statement that isn't reached, or doesn't belong to the `if`; the right operand, or the one behind a sign; the test; or the `if`.
-    pub span: Span,
-}
 
 /// Adds the warning of a part, where there is something to warn of and the part stands anywhere.
 fn add_warning(

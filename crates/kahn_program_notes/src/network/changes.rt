@@ -27,6 +27,40 @@ const MOST_TRIES: usize = 256;
 
 const MOST_READ: usize = 4_000_000;
 
+/// How a change is told.
+#[derive(Clone, Copy, PartialEq, Eq)]
+pub(crate) enum EditKind {
+    /// As a change that an editor may make.
+    Fix,
+    /// Two parts are interchanged.
+    Swap,
+    /// Another name is put there.
+    Name,
+}
+
+/// A change that leaves fewer faults.
+#[derive(Drop)]
+pub(crate) struct Edit {
+    pub(crate) way: EditKind,
+    pub(crate) fix: Fix,
+    /// The first and the last part of what it changes.
+    pub(crate) parts: (Span, Span),
+    /// How many faults it leaves.
+    pub(crate) left: usize,
+    /// Whether another name leaves as few.
+    is_one_of: bool,
+}
+
+/// The changes that are tried for a fault, one after another.
+#[derive(Drop)]
+struct Trial<'p> {
+    place: NetworkPlace<'p>,
+    fault: CheckFault,
+    /// How many may be tried yet.
+    tries: usize,
+    best: Option<Edit>,
+}
+
 pub(crate) fn letters_at(text: &str, fault: CheckFault) -> &[u8]
     ensures { result.now ≡ letters_at text.now fault }
 {
@@ -133,30 +167,6 @@ pub(crate) fn found_kind(place: NetworkPlace) -> Result<Option<Kind>, NoMemory> 
     }))
 }
 
-/// How a change is told.
-#[derive(Clone, Copy, PartialEq, Eq)]
-pub(crate) enum EditKind {
-    /// As a change that an editor may make.
-    Fix,
-    /// Two parts are interchanged.
-    Swap,
-    /// Another name is put there.
-    Name,
-}
-
-/// A change that leaves fewer faults.
-#[derive(Drop)]
-pub(crate) struct Edit {
-    pub(crate) way: EditKind,
-    pub(crate) fix: Fix,
-    /// The first and the last part of what it changes.
-    pub(crate) parts: (Span, Span),
-    /// How many faults it leaves.
-    pub(crate) left: usize,
-    /// Whether another name leaves as few.
-    is_one_of: bool,
-}
-
 pub(crate) fn tries_of(text: &str, lexemes: &[Lexeme]) -> usize {
     if lexemes.len() > MOST_LEXEMES {
         return 0;
@@ -191,16 +201,6 @@ fn others_for(class: Class, is_of_kinds: bool) -> &'static [&'static str] {
         (Class::Word(Output), false) => &["input", ""],
         _ => &[],
     }
-}
-
-/// The changes that are tried for a fault, one after another.
-#[derive(Drop)]
-struct Trial<'p> {
-    place: NetworkPlace<'p>,
-    fault: CheckFault,
-    /// How many may be tried yet.
-    tries: usize,
-    best: Option<Edit>,
 }
 
 impl<'p> Trial<'p> {

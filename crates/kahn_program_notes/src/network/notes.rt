@@ -27,6 +27,17 @@ pub struct FaultNotes {
     pub more: usize,
 }
 
+/// What is told so far.
+#[derive(Drop)]
+struct ToldNotes {
+    notes: Vec<Note>,
+    /// The faults of the notes, and those that have none since there are too many, and how many these are.
+    told: Vec<CheckFault>,
+    more: usize,
+    /// How many changes may be tried yet.
+    tries: usize,
+}
+
 /// Whether a fault of a text is held back, where others were told: of an instance what was told, one of sides beside any that isn't, one beside
 /// a fault of the text of its process, and one of a name that is declared twice; and a channel without a side where one lacks the other side.
 fn is_held(place: NetworkPlace, told: &[CheckFault], fault: CheckFault) -> bool {
@@ -103,17 +114,6 @@ fn found_at(
         others: others_of(place, fault, &facts)?,
     };
     Ok((note, is_whole))
-}
-
-/// What is told so far.
-#[derive(Drop)]
-struct ToldNotes {
-    notes: Vec<Note>,
-    /// The faults of the notes, and those that have none since there are too many, and how many these are.
-    told: Vec<CheckFault>,
-    more: usize,
-    /// How many changes may be tried yet.
-    tries: usize,
 }
 
 impl ToldNotes {

@@ -31,6 +31,48 @@ pub(crate) enum NameKind {
     Process,
 }
 
+/// A process, and its part of the text: from its name to the declaration behind it, or to the first instance.
+#[derive(Clone, Copy)]
+pub(crate) struct Body<'p> {
+    pub(crate) process: &'p Process,
+    pub(crate) from: usize,
+    pub(crate) to: usize,
+}
+
+/// An argument that an instance hands over.
+#[derive(Clone, Copy)]
+pub(crate) struct Handed<'p> {
+    pub(crate) span: Span,
+    /// The letters of a channel; none of a value.
+    channel: &'p [u8],
+    /// What takes it, if the process is declared and has so many parameters.
+    parameter: Option<&'p Parameter>,
+    /// The process of the instance.
+    process: &'p Name,
+}
+
+/// The place of a fault.
+#[derive(Clone, Copy)]
+pub(crate) struct NetworkPlace<'p> {
+    pub(crate) alloc: Global,
+    pub(crate) seed: RandomState,
+    pub(crate) text: &'p str,
+    pub(crate) lexemes: &'p [Lexeme],
+    pub(crate) program: &'p Program,
+    /// Its processes, the last first.
+    pub(crate) bodies: &'p [Body<'p>],
+    /// What its instances hand over.
+    pub(crate) handed: &'p [Handed<'p>],
+    /// All faults of the text.
+    pub(crate) faults: &'p [CheckFault],
+    /// The part that is at fault.
+    pub(crate) at: Span,
+    /// How many lexemes begin before it.
+    pub(crate) number: usize,
+    /// The process in whose text it stands, behind its name.
+    pub(crate) body: Option<Body<'p>>,
+}
+
 /// What a parameter takes stands for, and of which kind it is.
 pub(crate) fn taken_by(parameter: &Parameter) -> (NameKind, Kind) {
     match parameter.taking {
@@ -61,14 +103,6 @@ pub(crate) fn word_at(text: &str, at: Span) -> &[u8]
 
 pub(crate) fn is_called(word: &[u8], name: &Name) -> bool {
     word == name.text.as_bytes()
-}
-
-/// A process, and its part of the text: from its name to the declaration behind it, or to the first instance.
-#[derive(Clone, Copy)]
-pub(crate) struct Body<'p> {
-    pub(crate) process: &'p Process,
-    pub(crate) from: usize,
-    pub(crate) to: usize,
 }
 
 /// Those of a program, the last first.
@@ -107,18 +141,6 @@ pub(crate) fn instance_at(instances: &[Instance], from: usize) -> Option<&Instan
     instances.get(count.checked_sub(1)?)
 }
 
-/// An argument that an instance hands over.
-#[derive(Clone, Copy)]
-pub(crate) struct Handed<'p> {
-    pub(crate) span: Span,
-    /// The letters of a channel; none of a value.
-    channel: &'p [u8],
-    /// What takes it, if the process is declared and has so many parameters.
-    parameter: Option<&'p Parameter>,
-    /// The process of the instance.
-    process: &'p Name,
-}
-
 /// All arguments of the instances that a program may have.
 pub(crate) fn handed_in<'p>(
     alloc: Global,
@@ -144,28 +166,6 @@ pub(crate) fn handed_in<'p>(
         }
     }
     Ok(all)
-}
-
-/// The place of a fault.
-#[derive(Clone, Copy)]
-pub(crate) struct NetworkPlace<'p> {
-    pub(crate) alloc: Global,
-    pub(crate) seed: RandomState,
-    pub(crate) text: &'p str,
-    pub(crate) lexemes: &'p [Lexeme],
-    pub(crate) program: &'p Program,
-    /// Its processes, the last first.
-    pub(crate) bodies: &'p [Body<'p>],
-    /// What its instances hand over.
-    pub(crate) handed: &'p [Handed<'p>],
-    /// All faults of the text.
-    pub(crate) faults: &'p [CheckFault],
-    /// The part that is at fault.
-    pub(crate) at: Span,
-    /// How many lexemes begin before it.
-    pub(crate) number: usize,
-    /// The process in whose text it stands, behind its name.
-    pub(crate) body: Option<Body<'p>>,
 }
 
 /// That at the beginning of a text.

@@ -33,6 +33,21 @@ pub(crate) struct Place<'p> {
     pub(crate) to: usize,
 }
 
+/// How many lexemes a text has to go on with a change that is as good as one with which it is a program.
+const GOOD: usize = 16;
+
+pub(crate) type Put = Result<Fix, AllocError>;
+
+pub(crate) type Fixed = Result<Option<Fix>, NoMemory>;
+
+/// Where a heading stands and what it says, where that isn't what was expected at the place.
+pub(crate) type Heading = Option<(Span, String)>;
+
+/// What is said of a place, where something is: the heading, the change that mends it, and a sentence.
+pub(crate) type Saying = Result<Option<(Heading, Option<Fix>, Option<String>)>, NoMemory>;
+
+pub(crate) type Words = Result<String, AllocError>;
+
 /// The lexeme so many behind the one at a place, or before it.
 pub(crate) fn near(place: Place, count: isize) -> Option<Lexeme> {
     let number = place.number.checked_add_signed(count)?;
@@ -59,9 +74,6 @@ pub(crate) fn name_at<'p>(place: Place<'p>, count: isize) -> Option<&'p str> {
     let name = near(place, count).filter(|one| one.what == Class::Name)?;
     Some(part_of(place.text, name.span))
 }
-
-/// How many lexemes a text has to go on with a change that is as good as one with which it is a program.
-const GOOD: usize = 16;
 
 fn is_far(place: Place) -> bool {
     let number = place.number.wrapping_add(place.back);
@@ -232,10 +244,6 @@ fn goes_on(alloc: Global, new: &str, text: &str, span: Span, part: Span) -> Resu
     }
 }
 
-pub(crate) type Put = Result<Fix, AllocError>;
-
-pub(crate) type Fixed = Result<Option<Fix>, NoMemory>;
-
 pub(crate) fn mending(alloc: Global, text: &str, span: Span, fix: Option<Fix>) -> Fixed
     ensures { IfOk result (λ fix. IfSome fix (Mends text.now span)) }
 {
@@ -250,14 +258,6 @@ pub(crate) fn mending(alloc: Global, text: &str, span: Span, fix: Option<Fix>) -
     }
     Ok(None)
 }
-
-/// Where a heading stands and what it says, where that isn't what was expected at the place.
-pub(crate) type Heading = Option<(Span, String)>;
-
-/// What is said of a place, where something is: the heading, the change that mends it, and a sentence.
-pub(crate) type Saying = Result<Option<(Heading, Option<Fix>, Option<String>)>, NoMemory>;
-
-pub(crate) type Words = Result<String, AllocError>;
 
 /// A sentence of ASCII with words for some of its signs.
 pub(crate) fn filled(alloc: Global, sentence: &str, words: &[(u8, &str)]) -> Words {

@@ -142,6 +142,70 @@ any | any | +integer | parameters are like `integer in U; integer out W; integer
 /// How many lexemes before a place a change may stand.
 pub(crate) const FAR: usize = 8;
 
+/// What stands there, what is put in its place if the text goes on with it, and what is said. The first row that fits is told.
+const CHARACTERS: &str = "
+. |  | ; numbers are whole, and no `.` stands in a name or behind the last `end`
+_ |  | ; a name begins with a letter, and a number has decimal digits alone
+!= ~= /= \u{2260} | <> | ; unequal is `<>`
+! | not | ; a value is sent by `send E on C`, and `not` is a word
+% | mod comment | ; a remainder is `mod`, and a comment goes from `comment` to `;`
+// /* | comment | ; a comment goes from `comment` to `;`, and a quotient is `div`
+/ | div | ; a quotient is `div`, and a comment goes from `comment` to `;`
+#define |  | ; there are no constants: an instance hands a number over, `P(A, 10)`
+# | comment | ; a comment goes from `comment` to `;`, and unequal is `<>`
+\" \u{2018} \u{2019} \u{201C} \u{201D} |  | ; there are no texts
+' | _ | ; there are no texts, and a name has letters, digits and `_`
+] | ) | ; brackets are `(` and `)`
+[ | ( | ; brackets are `(` and `)`, and there are no arrays; a channel that one process writes and reads is a queue
+{ | begin | ; a block goes from `begin` to `end`, a comment from `comment` to `;`
+} | end ) | ; a block goes from `begin` to `end`, a comment from `comment` to `;`
+&& & | and par | ; `and` is a word, and of logicals; between instances stands `par`
+^ |  | ; there is no power and no exclusive or: of logicals it is `<>`
+|| | or par | ; it is the word `or`, and between instances `par`
+| | or par | ; it is the word `or`, and between instances `par`
+~ | not | ; it is the word `not`
+? |  | ; a value is taken by `X := wait(C)`, and a choice is `if .. then .. else ..`
+: | then do nothing := ; | ; `:` stands right before `=` alone: a kind stands before its names, and behind a test `then` or `do`
+$ @ | nothing | ; a name begins with a letter, and has letters, digits and `_`
+``` |  | ; the lines of a fence are no part of a program
+` | nothing | ; names and operators stand without such marks
+\u{A0} \u{2002} \u{2003} \u{2009} \u{200A} \u{200B} \u{202F} |  | ; this isn't the blank that the space bar makes
+\u{2192} |  | ; there is no arrow: `send E on C` sends, `X := wait(C)` takes
+\u{2190} \u{2254} | := | ; all signs are of ASCII
+\u{2011} \u{2013} \u{2014} \u{2212} | - | ; all signs are of ASCII
+\u{2264} | <= | ; all signs are of ASCII
+\u{2265} | >= | ; all signs are of ASCII
+\u{FEFF} |  | ; a byte order mark (U+FEFF) isn't a blank here: save the text without one
+";
+
+/// Words of other languages, the keyword in their place if the text goes on with it, what is said of them, and a test of the place.
+const FOREIGN: &str = "
+elif elsif elseif | none | ; it is two words: `else if`
+let set var local declare | none | ; a kind declares variables, right behind the `begin` of a process: `integer X`; and `X := E` assigns
+until goto | none | ; `repeat S` goes on for ever, and a loop with a test is `while not E do S`
+for foreach | none | ; a loop that counts is `while I < N do begin S; I := I + 1 end`, and one without an end `repeat S`
+inout | none | ; one process reads a channel, and another one writes it: `in U`, `out W`
+break exit continue stop halt | none | ; a loop ends where the test of its `while` is false
+return yield | send | ; a process has no result: `send E on C` gives a value to another one | +:=
+int ints long short unsigned | integer | ; the kinds are `integer` and `logical`; one stands before its names
+bool boolean booleans | logical | ; the kinds are `integer` and `logical`; one stands before its names
+real float string char array | none | ; the kinds are `integer` and `logical`; one stands before its names
+inputs | input in | ; an input is `integer input channel C`, an output `integer output channel C`
+outputs | output out | ; an input is `integer input channel C`, an output `integer output channel C`
+function func procedure proc def fn void thread task node actor | process | ; a process is `process P(integer in U; integer out W); begin .. end`
+endif endwhile endfor endprocess endproc fi od done tel | end | ; an `if`, a `while` or a `repeat` has no `end` of its own
+const constant | none | ; there are no constants: an instance hands a number over, `P(A, 10)`
+xor | none | ; there is no exclusive or: of logicals it is `<>`
+go call spawn start run cobegin parbegin doco closeco coend parend | none | ; nothing starts an instance: it is `p(A, B)`, and `par` stands between two
+select alt | none | ; there is no choice among channels, since timing can't matter: a process waits on one at a time | +:=
+case switch match | none | ; a choice is `if E then S else if F then T else ..` | +:=
+recv receive get read take await waits scanf getline readln | none | ; a statement takes a value by `X := wait(C)` | +:=
+put emit write push sends give | send | ; a statement sends a value by `send E on C` | +:=
+writeln println printf echo prints | print | ; a statement prints a value by `print E` | +:=
+close | none | ; a channel has no end that is told: a process just sends no more | +:=
+skip pass null nop | none | ; a statement that does nothing is empty, or `begin end` | +:=
+";
+
 /// What is said of a word of another language: the keyword in its place; or else what the language has, and it may be left out.
 fn foreign_said(place: Place) -> Saying {
     let Some((at, row)) = foreign_word(place) else {
@@ -231,42 +295,6 @@ pub(crate) fn grammar_said(place: Place) -> Saying {
     Ok(None)
 }
 
-/// What stands there, what is put in its place if the text goes on with it, and what is said. The first row that fits is told.
-const CHARACTERS: &str = "
-. |  | ; numbers are whole, and no `.` stands in a name or behind the last `end`
-_ |  | ; a name begins with a letter, and a number has decimal digits alone
-!= ~= /= \u{2260} | <> | ; unequal is `<>`
-! | not | ; a value is sent by `send E on C`, and `not` is a word
-% | mod comment | ; a remainder is `mod`, and a comment goes from `comment` to `;`
-// /* | comment | ; a comment goes from `comment` to `;`, and a quotient is `div`
-/ | div | ; a quotient is `div`, and a comment goes from `comment` to `;`
-#define |  | ; there are no constants: an instance hands a number over, `P(A, 10)`
-# | comment | ; a comment goes from `comment` to `;`, and unequal is `<>`
-\" \u{2018} \u{2019} \u{201C} \u{201D} |  | ; there are no texts
-' | _ | ; there are no texts, and a name has letters, digits and `_`
-] | ) | ; brackets are `(` and `)`
-[ | ( | ; brackets are `(` and `)`, and there are no arrays; a channel that one process writes and reads is a queue
-{ | begin | ; a block goes from `begin` to `end`, a comment from `comment` to `;`
-} | end ) | ; a block goes from `begin` to `end`, a comment from `comment` to `;`
-&& & | and par | ; `and` is a word, and of logicals; between instances stands `par`
-^ |  | ; there is no power and no exclusive or: of logicals it is `<>`
-|| | or par | ; it is the word `or`, and between instances `par`
-| | or par | ; it is the word `or`, and between instances `par`
-~ | not | ; it is the word `not`
-? |  | ; a value is taken by `X := wait(C)`, and a choice is `if .. then .. else ..`
-: | then do nothing := ; | ; `:` stands right before `=` alone: a kind stands before its names, and behind a test `then` or `do`
-$ @ | nothing | ; a name begins with a letter, and has letters, digits and `_`
-``` |  | ; the lines of a fence are no part of a program
-` | nothing | ; names and operators stand without such marks
-\u{A0} \u{2002} \u{2003} \u{2009} \u{200A} \u{200B} \u{202F} |  | ; this isn't the blank that the space bar makes
-\u{2192} |  | ; there is no arrow: `send E on C` sends, `X := wait(C)` takes
-\u{2190} \u{2254} | := | ; all signs are of ASCII
-\u{2011} \u{2013} \u{2014} \u{2212} | - | ; all signs are of ASCII
-\u{2264} | <= | ; all signs are of ASCII
-\u{2265} | >= | ; all signs are of ASCII
-\u{FEFF} |  | ; a byte order mark (U+FEFF) isn't a blank here: save the text without one
-";
-
 /// The row of the character that begins a text, and the part of it that stands there.
 fn row_at(rest: &str) -> Option<(&'static str, &'static str)> {
     for row in CHARACTERS.lines() {
@@ -329,34 +357,6 @@ pub fn character_help(program: &str, fault: SyntaxFault) -> &'static str {
         (None, _) => "; names have ASCII letters, digits and `_`, and all signs are of ASCII",
     }
 }
-
-/// Words of other languages, the keyword in their place if the text goes on with it, what is said of them, and a test of the place.
-const FOREIGN: &str = "
-elif elsif elseif | none | ; it is two words: `else if`
-let set var local declare | none | ; a kind declares variables, right behind the `begin` of a process: `integer X`; and `X := E` assigns
-until goto | none | ; `repeat S` goes on for ever, and a loop with a test is `while not E do S`
-for foreach | none | ; a loop that counts is `while I < N do begin S; I := I + 1 end`, and one without an end `repeat S`
-inout | none | ; one process reads a channel, and another one writes it: `in U`, `out W`
-break exit continue stop halt | none | ; a loop ends where the test of its `while` is false
-return yield | send | ; a process has no result: `send E on C` gives a value to another one | +:=
-int ints long short unsigned | integer | ; the kinds are `integer` and `logical`; one stands before its names
-bool boolean booleans | logical | ; the kinds are `integer` and `logical`; one stands before its names
-real float string char array | none | ; the kinds are `integer` and `logical`; one stands before its names
-inputs | input in | ; an input is `integer input channel C`, an output `integer output channel C`
-outputs | output out | ; an input is `integer input channel C`, an output `integer output channel C`
-function func procedure proc def fn void thread task node actor | process | ; a process is `process P(integer in U; integer out W); begin .. end`
-endif endwhile endfor endprocess endproc fi od done tel | end | ; an `if`, a `while` or a `repeat` has no `end` of its own
-const constant | none | ; there are no constants: an instance hands a number over, `P(A, 10)`
-xor | none | ; there is no exclusive or: of logicals it is `<>`
-go call spawn start run cobegin parbegin doco closeco coend parend | none | ; nothing starts an instance: it is `p(A, B)`, and `par` stands between two
-select alt | none | ; there is no choice among channels, since timing can't matter: a process waits on one at a time | +:=
-case switch match | none | ; a choice is `if E then S else if F then T else ..` | +:=
-recv receive get read take await waits scanf getline readln | none | ; a statement takes a value by `X := wait(C)` | +:=
-put emit write push sends give | send | ; a statement sends a value by `send E on C` | +:=
-writeln println printf echo prints | print | ; a statement prints a value by `print E` | +:=
-close | none | ; a channel has no end that is told: a process just sends no more | +:=
-skip pass null nop | none | ; a statement that does nothing is empty, or `begin end` | +:=
-";
 
 pub(crate) fn row_of_foreign(word: &str) -> Option<&'static str> {
     FOREIGN.lines().find(|row| has_word(cell(row, 0), word))

@@ -21,6 +21,9 @@ use kahn_syntax::{Class, Lexeme, Span, SyntaxFault, What, lex};
 use kahn_texts::{add, add_repeated};
 use std::alloc::{AllocError, Global};
 
+/// What a note has beside what was expected: a heading of its own, a change, and sentences, of which one is on the comment before it.
+type Parts = (Heading, Option<Fix>, Vec<String>);
+
 /// What any lexeme of a class is called: what stands before its letters, these, and what stands behind them.
 fn class_parts(class: Class) -> ((&'static str, &'static str), &'static str)
     ensures { result.0.0.now ++ (result.0.1.now ++ result.1.now) ≡ any_words class }
@@ -169,9 +172,6 @@ fn heading_at(span: Span, fix: &Option<Fix>) -> Span
         None => span,
     }
 }
-
-/// What a note has beside what was expected: a heading of its own, a change, and sentences, of which one is on the comment before it.
-type Parts = (Heading, Option<Fix>, Vec<String>);
 
 /// The note on a place where something was expected, with a heading of its own or without.
 fn note_at(alloc: Global, span: Span, expected: String, parts: Parts) -> Result<Note, AllocError>

@@ -21,6 +21,9 @@ pub enum Stop {
     NoMemory,
 }
 
+/// A part of the tree, and the lexemes after it.
+pub type Read<'t, T> = Result<(T, &'t [Lexeme]), Stop>;
+
 impl From<AllocError> for Stop {
     ghost from_gives = { λ _ e. e ≡ NoMemory };
 
@@ -36,9 +39,6 @@ impl<T: Drop> From<AllocFailed<T>> for Stop {
         Stop::NoMemory
     }
 }
-
-/// A part of the tree, and the lexemes after it.
-pub type Read<'t, T> = Result<(T, &'t [Lexeme]), Stop>;
 
 /// Returns what the first lexeme is, and the lexemes after it.
 #[tactic(auto, using(crate::proofs::Lists::next_unsigned, crate::proofs::Lists::next_proper, crate::proofs::Lists::next_passed))]

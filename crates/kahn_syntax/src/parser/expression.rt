@@ -10,6 +10,16 @@ use crate::parser::cursor::{Read, Stop, deeper, expect, made, next, past, read_n
 use kahn_streams::{Expression, Form, Operand, Operator};
 use std::alloc::Global;
 
+/// A level of operators with two operands. From `Or` to `Term` they bind ever tighter.
+#[derive(Clone, Copy)]
+pub enum Level {
+    Or,
+    And,
+    Relation,
+    Sum,
+    Term,
+}
+
 /// Reads an expression.
 #[cycle(expression)]
 pub fn read_expression<'t>(
@@ -163,16 +173,6 @@ fn read_factor<'t>(
         }
         _ => Err(Stop::Refused(false, input.len())),
     }
-}
-
-/// A level of operators with two operands. From `Or` to `Term` they bind ever tighter.
-#[derive(Clone, Copy)]
-pub enum Level {
-    Or,
-    And,
-    Relation,
-    Sum,
-    Term,
 }
 
 fn is_alone(level: Level) -> bool
