@@ -130,6 +130,14 @@ def clauses(kind, chunk):
     return "\n".join(kept)
 
 
+def home(module, name):
+    """The file of an item that a module has or passes on."""
+    for path, names in re.findall(r"(?m)^pub use ([\w:]+?)::(\{[^}]*\}|\w+);", read(f"{module}.rt")):
+        if name in parts(names):
+            return home(f"{module}/{path.replace('::', '/')}", name)
+    return f"{module}.rt"
+
+
 def exported(crate, whole=False):
     """The public items of a crate above the line, or all of them: (crate, file, name); the crate may be one below."""
     lib = f"{TOP}/crates/{crate}/src/lib.rt"
@@ -143,7 +151,7 @@ def exported(crate, whole=False):
         if path.startswith("kahn_"):
             yield from (item for item in exported(path, True) if item[2] in parts(names))
         else:
-            yield from ((crate, f"{TOP}/crates/{crate}/src/{path.replace('::', '/')}.rt", name) for name in parts(names))
+            yield from ((crate, home(f"{TOP}/crates/{crate}/src/{path.replace('::', '/')}", name), name) for name in parts(names))
 
 
 def roots(wanted):

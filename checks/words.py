@@ -39,7 +39,7 @@ PATTERNS = {
     "it refuses (it fails)": r"\b[Ii]t refuses\b|\bwhere memory (?:was|is)\b",
     "amiss, remark, lack (wrong, note, has no)": r"\b(?:remarks?|amiss|lacks?)\b",
 }
-PRINTING = tuple(f"crates/kahn_{name}/" for name in "notes hints wanted marks warnings inputs why session live explain line fault".split())
+PRINTING = tuple(f"crates/kahn_{name}/" for name in "program_notes expected diagnostic warnings input_notes explanation session live explain line fault".split())
 LONG_SENTENCE = 25
 
 

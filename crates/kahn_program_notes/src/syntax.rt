@@ -1,4 +1,4 @@
-//! Why a text is no program: what was found at a place, what may come there, the changes that mend it, and open blocks.
+//! Why a text isn't a program: what was found at a place, what may come there, the changes that mend it, and open blocks.
 
 mod blocks;
 mod place;
