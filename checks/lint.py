@@ -20,12 +20,15 @@ import words
 from common import TOP, text_of as read, write
 
 LIMITS = f"{TOP}/checks/limits.txt"
-LONG_CLAUSE, LONG_BODY, LONG_FILE = 160, 40, 500
+LONG_CLAUSE, LONG_BODY, LONG_FILE, LONG_IMPORT = 160, 40, 500, 200
 
 CLAUSE = re.compile(r"^ *(?:requires|ensures|(?:pub )?ghost \w+(?: =|:))[^{\n]*\{", re.M)
 FUNCTION = re.compile(r"^( *)(?:pub(?:\([a-z]+\))? )?(?:unsafe )?fn (\w+)")
 PUBLIC = re.compile(r"^ *pub (?:unsafe )?(fn|struct|enum|trait|type|const|static) (\w+)")
 DEFINED = re.compile(r"^(?: *abbrev pub |(?:abbrev |unfoldable )?(?:pub )?(?:record |data )?)([^\s:(={]+)(?: [^=]*)?:")
+CODE = re.compile(r"(?:pub(?:\([a-z]+\))? )?(?:unsafe |const )*(?:fn|impl|trait)\b")
+DATA = re.compile(r"(?:pub(?:\([a-z]+\))? )?(?:struct|enum|const|static|type) (\w+)")
+IMPORT = re.compile(r" *(?:pub )?(?:ghost )?use .{%d,}" % (LONG_IMPORT - 10))
 SOURCES, SPECS, PROOFS = "src/**/*.rt", "specs/**/*.antt", "proofs/**/*.antt"
 
 
@@ -118,6 +121,18 @@ def unfit_edits():
                 yield f"{os.path.relpath(path, TOP)}: {word}: {rest}"
 
 
+def late_data():
+    """Types and constants that come after the first function of their file."""
+    for path, text in files(SOURCES):
+        lines = text.split("\n")
+        first = next((at for at, line in enumerate(lines) if CODE.match(line)), len(lines))
+        yield from (f"{path}:{at + 1}: {found[1]}" for at, line in enumerate(lines) if at > first and (found := DATA.match(line)) and not CODE.match(line))
+
+
+def long_imports():
+    return (f"{path}:{at + 1}: {len(lines[at])} characters" for path, lines, at, _ in found_lines(IMPORT, SOURCES) if len(lines[at]) > LONG_IMPORT)
+
+
 def not_laid_out():
     """Files that `rt fmt` would change: rt ci takes the crate of such a file for one that isn't proved."""
     if rt := shutil.which("rt"):
@@ -132,6 +147,8 @@ PARTS = {
     "names of specs that are defined more than once": names_twice,
     "bodies over 40 lines": long_bodies,
     "files over 500 lines": long_files,
+    "types and constants after a function": late_data,
+    "imports over 200 characters": long_imports,
     "sources and definitions without a head": without_head,
     "public items without words": without_words,
     "must-fail edits that can't be applied": unfit_edits,
