@@ -20,10 +20,10 @@ sed -i '
   s,(LICENSE),(copyright),; s,CHANGELOG\.md,NEWS.gz,
 ' README.md docs/*.md
 # The mistakes that pages show become examples.
-{ grep -oh 'checks/\(mistakes\|warnings\)/[a-z/-]*\.\(kahn\|input\)' docs/*.md || true; } | sort -u | while read -r file; do
-  install -D -m 644 "$top/$file" "examples/${file#checks/}"
+{ grep -oh 'tests/\(mistakes\|warnings\)/[a-z/-]*\.\(kahn\|input\)' docs/*.md || true; } | sort -u | while read -r file; do
+  install -D -m 644 "$top/$file" "examples/${file#tests/}"
 done
-sed -i 's,checks/\(mistakes\|warnings\),examples/\1,g' docs/*.md
+sed -i 's,tests/\(mistakes\|warnings\),examples/\1,g' docs/*.md
 # shellcheck disable=SC2016
 { grep -l '^\$ .*examples/' docs/*.md || true; } | while read -r page; do
   sed -i '1a \\nRun the commands in a folder of your own, with a copy of the examples:\n\n```\n$ cp -r /usr/share/doc/kahn/examples .\n```

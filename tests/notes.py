@@ -1,6 +1,6 @@
-"""What kahn_explain says of checks/mistakes and checks/warnings: what NAME.note has of NAME.kahn, byte for byte.
+"""What kahn_explain says of tests/mistakes and tests/warnings: what NAME.note has of NAME.kahn, byte for byte.
 
-A mistake is refused with its note, and nothing else is said; so is an input of checks/mistakes/inputs, for the program there. A warning comes
+A mistake is refused with its note, and nothing else is said; so is an input of tests/mistakes/inputs, for the program there. A warning comes
 before the explanation of the run, and alone with --strict, which refuses the program; a program without a note has no warning."""
 import glob
 import json
@@ -14,7 +14,7 @@ HEAD = re.compile(r"^[\w.-]+:(\d+:\d+: (?:error|warning|note): .*)$", re.M)
 PUT = re.compile(r"= fix: (?:remove `.*`|(?:insert|replace `.*?` with) `(.*?)`(?= at | after | before |$))", re.M)
 MORE = re.compile(r"^and \d+ (?:fault|warning)s? more$", re.M)
 UNSHOWN = re.compile("[\x00-\x1f\x7f-\x9f\u061c\u200b-\u200f\u2028-\u202e\u2060-\u206f\ufeff]")
-MISTAKES, WARNINGS, ROWS = (f"{TOP}/checks/{name}" for name in ("mistakes", "warnings", "rows"))
+MISTAKES, WARNINGS, ROWS = (f"{TOP}/tests/{name}" for name in ("mistakes", "warnings", "rows"))
 
 
 def explain(program, folder, *words):
@@ -70,7 +70,7 @@ def try_warnings(program, words, tried):
 
 
 def try_rows(program, words, tried):
-    """What is warned of in the rows of checks/rows, all in one note."""
+    """What is warned of in the rows of tests/rows, all in one note."""
     outputs = [explain(program, ROWS, path, "--bound", "100")[1] for path in sorted(glob.glob("*/program.kahn", root_dir=ROWS))]
     told = b"".join(line for out in outputs for line in out.splitlines(True) if b": warning: " in line)
     tried.same("warnings of the rows", told, note_of(f"{WARNINGS}/rows.note", told, words))

@@ -1,4 +1,4 @@
-"""The rows of checks/rows and the examples, each run by kahn and compared byte for byte.
+"""The rows of tests/rows and the examples, each run by kahn and compared byte for byte.
 
 A row is a folder with some of these files:
 
@@ -12,7 +12,7 @@ A row is a folder with some of these files:
 
 A row is run by 1, 4 and 16 workers with quanta of 1 and 1000, unless its words name one of these; what is refused before any worker starts
 (status 1 or 2) once. With status 3 and no report the interpreter of fuzz/ says whether the report is one of those that may be given. Rows that
-are made by a rule come from families.txt, and programs, inputs and command lines of one line that are refused from the tables in checks/rows."""
+are made by a rule come from families.txt, and programs, inputs and command lines of one line that are refused from the tables in tests/rows."""
 import itertools
 import os
 import subprocess
@@ -25,7 +25,7 @@ from common import TOP, read, text_of, write
 FILES = {"program.kahn", "input", "words", "report", "fault", "status", "limits"}
 MOST_BYTES = 1048576
 WAYS = [["--workers", str(workers), "--quantum", str(quantum)] for workers in (1, 4, 16) for quantum in (1, 1000)]
-ROWS = f"{TOP}/checks/rows"
+ROWS = f"{TOP}/tests/rows"
 
 
 def files_of(folder):
@@ -33,7 +33,7 @@ def files_of(folder):
 
 
 def kept_rows():
-    """The folders of checks/rows, and the examples, of which one without a report is stopped by a bound: (name, files)."""
+    """The folders of tests/rows, and the examples, of which one without a report is stopped by a bound: (name, files)."""
     for name in sorted(os.listdir(ROWS)):
         if os.path.isdir(f"{ROWS}/{name}"):
             yield name, files_of(f"{ROWS}/{name}")

@@ -3,11 +3,11 @@
 
 run.py [-k WORD] [--write] [--here] [PART ..]
 
-    rows        kahn on the programs of checks/rows and examples/ (rows.py)
+    rows        kahn on the programs of tests/rows and examples/ (rows.py)
     crowd       the same by workers that all begin at once, if that program was built
     sessions    commands and what they print, tests/*/*.t (sessions.py)
     pages       the commands of the README and of docs/; with --here in this tree, by its own programs
-    notes       kahn_explain on checks/mistakes and checks/warnings (notes.py)
+    notes       kahn_explain on tests/mistakes and tests/warnings (notes.py)
     growth      whether work grows no faster than texts and inputs (growth.py)
     worst       texts of the most bytes, against limits on time and memory (worst.py)
     NAME        the tests of tests/test_NAME.py, or sessions or a page by the path from the top (tests/release)

@@ -1,4 +1,4 @@
-The pictures of the page: python3 checks/web.py chromium release/kahn.html --pictures
+The pictures of the page: python3 tests/web.py chromium release/kahn.html --pictures
 
 Steps.
   $ size 1300 840

@@ -76,5 +76,5 @@ A table without a row.
   $ kahn_explain none.kahn --channels
   channel,from,to,sent,taken,left
 Texts that are refused.
-  $ ln -s "$TOP/checks/mistakes/a-sign-for-becomes.kahn" bad.kahn; kahn_explain bad.kahn --channels 2>&1 > table | head -n 1; cat table
+  $ ln -s "$TOP/tests/mistakes/a-sign-for-becomes.kahn" bad.kahn; kahn_explain bad.kahn --channels 2>&1 > table | head -n 1; cat table
   bad.kahn:8:9: error: expected `:=`, found `=`

@@ -1,7 +1,7 @@
 Files, streams and arguments of kahn_explain.
 
 A text of a million bytes.
-  $ { cat "$TOP/checks/mistakes/a-sign-for-becomes.kahn"; head -c 1000000 /dev/zero | tr '\0' ' '; } > long; kahn_explain long
+  $ { cat "$TOP/tests/mistakes/a-sign-for-becomes.kahn"; head -c 1000000 /dev/zero | tr '\0' ' '; } > long; kahn_explain long
   long:8:9: error: expected `:=`, found `=`
    8 |       I = wait(U);
      |         ^
@@ -143,7 +143,7 @@ Standard input by its minus, as program and as input.
   finished
 Texts that are looked at, and not run.
   $ kahn_explain "$TOP/examples/sieve.kahn" --check
-  $ ln -s "$TOP/checks/mistakes/a-sign-for-becomes.kahn" bad.kahn; kahn_explain bad.kahn --check | head -n 1
+  $ ln -s "$TOP/tests/mistakes/a-sign-for-becomes.kahn" bad.kahn; kahn_explain bad.kahn --check | head -n 1
   bad.kahn:8:9: error: expected `:=`, found `=`
   $ kahn_explain bad.kahn --check > /dev/null
   [1]

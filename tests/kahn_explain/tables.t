@@ -70,7 +70,7 @@ A table without a column.
   $ kahn_explain none.kahn --trace
   place
 A table of a text that is refused.
-  $ cp "$TOP/checks/mistakes/a-sign-for-becomes.kahn" .; kahn_explain a-sign-for-becomes.kahn --trace
+  $ cp "$TOP/tests/mistakes/a-sign-for-becomes.kahn" .; kahn_explain a-sign-for-becomes.kahn --trace
   ! a-sign-for-becomes.kahn:8:9: error: expected `:=`, found `=`
   !  8 |       I = wait(U);
   !    |         ^

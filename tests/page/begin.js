@@ -1,4 +1,4 @@
-// What the sessions here, and checks/web.py, call in the page. `programs` has the texts of the programs here by their names.
+// What the sessions here, and tests/web.py, call in the page. `programs` has the texts of the programs here by their names.
 Object.assign(globalThis, {
   // Waits until a test holds.
   async until(test) {

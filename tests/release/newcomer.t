@@ -15,7 +15,7 @@ Its commands.
   all passed, 0 failed
 
 The page shows a report, if there is a browser. A start has a second try.
-  $ cd kahn; command -v chromium > /dev/null || exit 0; for try in 1 2; do python3 checks/web.py chromium release/kahn.html --opens > said && exit; done; cat said
+  $ cd kahn; command -v chromium > /dev/null || exit 0; for try in 1 2; do python3 tests/web.py chromium release/kahn.html --opens > said && exit; done; cat said
 
 What isn't of the repository isn't packed.
   $ cd kahn; command -v dpkg-deb > /dev/null || exit 0; echo secret > docs/secret.md; bare bash release/deb.sh "$PWD/../deb" > said; dpkg-deb -c ../deb/*.deb 2> /dev/null | grep secret || true

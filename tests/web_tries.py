@@ -15,7 +15,7 @@ EXAMPLES = sorted(os.path.basename(it)[:-5] for it in glob.glob(f"{TOP}/examples
 # Bytes of the page, milliseconds to the first picture, milliseconds from a key to what it shows in a text of 100 kB. The times are
 # twice what the page keeps on a machine with nothing else, since other tests go on beside this one.
 MOST_BYTES, MOST_TO_OPEN, MOST_FOR_A_KEY = 400000, 1000, 400
-TREE = f"{TOP}/checks/page-tree.txt"
+TREE = f"{TOP}/tests/page-tree.txt"
 
 
 def refused(page, word):
@@ -61,7 +61,7 @@ def try_examples(page, tried):
 
 def try_changes(page, tried):
     """Each change that is offered for a mistake takes its words away from there."""
-    paths = sorted(glob.glob(f"{TOP}/checks/mistakes/*.kahn"))
+    paths = sorted(glob.glob(f"{TOP}/tests/mistakes/*.kahn"))
     texts = [read(it).decode(errors="replace") for it in paths]
     offered = 0
     for path, (place, words, behind, said, is_offered) in zip(paths, page.value(f"changesOf({json.dumps(texts)})")):

@@ -6,7 +6,6 @@ import re
 import subprocess
 import sys
 
-sys.path.append(f"{os.path.dirname(os.path.abspath(__file__))}/../tests")
 from common import TOP, Tried, text_of
 
 COMPLETIONS = f"{TOP}/editors/completions"

@@ -1,7 +1,7 @@
 """The page, in a headless Chromium or Firefox: what the module in it answers compared byte for byte with the programs, and what the page makes of it.
 
     web.py                                            tries release/kahn.html, or the one that the variable PAGE names, in the browsers that are there
-    web.py BROWSER PAGE KAHN KAHN_DRAW KAHN_EXPLAIN   runs the rows of checks/rows, the examples and what is refused, and tries the page
+    web.py BROWSER PAGE KAHN KAHN_DRAW KAHN_EXPLAIN   runs the rows of tests/rows, the examples and what is refused, and tries the page
     web.py BROWSER PAGE --tries                       tries the page alone
     web.py BROWSER PAGE --opens                       opens the page, which shows a report at once
     web.py BROWSER PAGE --pictures                    takes the pictures of the page in docs/pictures"""
@@ -13,7 +13,6 @@ import subprocess
 import sys
 import tempfile
 
-sys.path.append(f"{os.path.dirname(os.path.abspath(__file__))}/../tests")
 import browser
 import common
 import rows

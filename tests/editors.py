@@ -15,7 +15,6 @@ import subprocess
 import sys
 import tempfile
 
-sys.path.append(f"{os.path.dirname(os.path.abspath(__file__))}/../tests")
 import texts
 from common import TOP, Tried, text_of, write
 import reference
@@ -24,7 +23,7 @@ EDITORS = f"{TOP}/editors"
 VIM = {"keyword": "kahnKeyword", "name": "kahnName", "number": "kahnNumber", "sign": "kahnSign", "comment": "kahnComment"}
 TEXTMATE = {"keyword": "keyword.control.kahn", "name": "variable.other.kahn", "number": "constant.numeric.kahn",
             "sign": "punctuation.kahn", "comment": "comment.block.kahn"}
-ODD = text_of(f"{TOP}/checks/grammars.txt")
+ODD = text_of(f"{TOP}/tests/grammars.txt")
 PAGE = " ".join(text_of(f"{TOP}/docs/language.md").split())
 KEYWORDS = re.search(r"any letter case is a keyword: `([a-z ]+)`", PAGE)[1].split()
 SIGNS = re.findall(r"`([^`]+)`", re.search(r"\*\*Signs\*\* are (.*?) and the character U\+00AC", PAGE)[1])
@@ -73,14 +72,14 @@ def vim(text):
     """The group of each character, by Vim."""
     with tempfile.TemporaryDirectory() as folder:
         write(f"{folder}/text.kahn", text)
-        write(f"{folder}/ask.vim", text_of(f"{TOP}/checks/grammars.vim").replace("SYNTAX", f"{EDITORS}/vim/syntax/kahn.vim"))
+        write(f"{folder}/ask.vim", text_of(f"{TOP}/tests/grammars.vim").replace("SYNTAX", f"{EDITORS}/vim/syntax/kahn.vim"))
         subprocess.run(["vim", "-es", "-u", "NONE", "-i", "NONE", "-S", "ask.vim"], cwd=folder, stdin=subprocess.DEVNULL, timeout=600)
         rows = [line.split(",") for line in text_of(f"{folder}/groups").split("\n")]
     return [name for row, line in zip(rows, text.splitlines()) for name in [*row[: len(line)], ""]]
 
 
 def try_grammars(tried):
-    rows = {path: re.sub("\r\n?", "\n", text_of(path)) for path in sorted(glob.glob(f"{TOP}/checks/rows/*/program.kahn"))}
+    rows = {path: re.sub("\r\n?", "\n", text_of(path)) for path in sorted(glob.glob(f"{TOP}/tests/rows/*/program.kahn"))}
     every = {"odd lexemes": ODD, **{path: text_of(path) for path in sorted(glob.glob(f"{TOP}/examples/*.kahn"))}}
     every.update({path: text for path, text in rows.items() if lexemes(text)})
     grammars = [("TextMate", textmate, TEXTMATE)] + [("Vim", vim, VIM)] * bool(shutil.which("vim"))
@@ -101,13 +100,13 @@ def ran(folder, *words):
 
 
 def try_vim(folder, name, places, marked, changed, tried):
-    write(f"{folder}/script.vim", text_of(f"{TOP}/checks/editors.vim").replace("EDITORS", EDITORS))
+    write(f"{folder}/script.vim", text_of(f"{TOP}/tests/editors.vim").replace("EDITORS", EDITORS))
     ran(folder, "vim", "-es", "-u", "NONE", "-i", "NONE", "-S", "script.vim")
     tried.same(f"Vim, {name}", text_of(f"{folder}/places").splitlines(), [*(f"{place} {kind}" for place, kind in places), f"{places[0][0]} comment %s;"])
 
 
 def try_extension(folder, name, places, marked, changed, tried):
-    told = json.loads(ran(folder, "node", f"{TOP}/checks/editors.js", f"{EDITORS}/vscode", f"{folder}/kahn_explain", f"{folder}/a program.kahn"))
+    told = json.loads(ran(folder, "node", f"{TOP}/tests/editors.js", f"{EDITORS}/vscode", f"{folder}/kahn_explain", f"{folder}/a program.kahn"))
     given = [it[0] for it in told["diagnostics"]], [it[0] for it in told["matched"]], [it[1] for it in told["changed"]]
     tried.same(f"Visual Studio Code, its problem matcher and its changes, {name}", given, (marked, [place for place, _ in places], changed))
 
@@ -117,7 +116,7 @@ def try_editors(explain, tried):
         if not shutil.which(editor):
             print(f"{editor} isn't there: what it shows of editors/ is not tried (Debian's package {package})")
             continue
-        for name, lines in texts.sections(f"{TOP}/checks/editors.txt"):
+        for name, lines in texts.sections(f"{TOP}/tests/editors.txt"):
             with tempfile.TemporaryDirectory() as folder:
                 os.symlink(explain, f"{folder}/kahn_explain")
                 program = text_of(write(f"{folder}/a program.kahn", lines[""] + "\n"))
