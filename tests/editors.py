@@ -23,6 +23,7 @@ EDITORS = f"{TOP}/editors"
 VIM = {"keyword": "kahnKeyword", "name": "kahnName", "number": "kahnNumber", "sign": "kahnSign", "comment": "kahnComment"}
 TEXTMATE = {"keyword": "keyword.control.kahn", "name": "variable.other.kahn", "number": "constant.numeric.kahn",
             "sign": "punctuation.kahn", "comment": "comment.block.kahn"}
+MISTAKE = "begin integer output channel X; process a(integer out W); begin integer I; comment 漢字; I = 1; send I on W end; a(X) end\n"
 ODD = text_of(f"{TOP}/tests/grammars.txt")
 PAGE = " ".join(text_of(f"{TOP}/docs/language.md").split())
 KEYWORDS = re.search(r"any letter case is a keyword: `([a-z ]+)`", PAGE)[1].split()
@@ -106,9 +107,13 @@ def try_vim(folder, name, places, marked, changed, tried):
 
 
 def try_extension(folder, name, places, marked, changed, tried):
-    told = json.loads(ran(folder, "node", f"{TOP}/tests/editors.js", f"{EDITORS}/vscode", f"{folder}/kahn_explain", f"{folder}/a program.kahn"))
-    given = [it[0] for it in told["diagnostics"]], [it[0] for it in told["matched"]], [it[1] for it in told["changed"]]
+    """The program is opened, and then a mistake is typed into it."""
+    write(f"{folder}/typed", MISTAKE)
+    told = json.loads(ran(folder, "node", f"{TOP}/tests/editors.js", f"{EDITORS}/vscode", f"{folder}/kahn_explain", f"{folder}/a program.kahn", f"{folder}/typed"))
+    given = [it[0] for it in told["diagnostics"]], [it[0] for it in told["matched"]], told["changed"]
     tried.same(f"Visual Studio Code, its problem matcher and its changes, {name}", given, (marked, [place for place, _ in places], changed))
+    given = [it[0] for it in told["typed"]["diagnostics"]], told["typed"]["changed"], told["typed"]["milliseconds"] < 1000
+    tried.same(f"Visual Studio Code, a mistake that is typed after {name}", given, (["="], [MISTAKE.replace("=", ":=")], True))
 
 
 def try_editors(explain, tried):

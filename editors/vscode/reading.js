@@ -1,15 +1,19 @@
-// Reads what kahn_explain says of a program: places with words, and the exact changes that it offers.
+// Reads what kahn_explain writes about a program: notes as data (--json), and lines with places.
 "use strict";
 
 const HEADING = /^(.+):(\d+):(\d+): (error|warning|note): (.*)$/;
 const HELP = /^ +\d* *= (.*)$/;
 const LEXEME = /comment(?![A-Za-z0-9_])[^;]*;?|\w+|:=|<>|<=|>=|\S/gi;
+const OF_STANDARD_INPUT = "<stdin>";
+
+// The index of byte `at` of a text.
+const indexOf = (text, at) => Buffer.from(text).subarray(0, at).toString().length;
 
 // The index of a place of a text: lines and columns are from 1, and columns count bytes.
 function indexAt(text, line, column) {
   const rows = text.split("\n"), row = rows[line - 1] ?? "";
   const before = rows.slice(0, line - 1).reduce((sum, it) => sum + it.length + 1, 0);
-  return before + Buffer.from(row).subarray(0, column - 1).toString().length;
+  return before + indexOf(row, column - 1);
 }
 
 // The lexemes of a text but for comments, as indices.
@@ -18,7 +22,12 @@ function lexemesOf(text) {
   return all.filter((it) => !/^comment(?![A-Za-z0-9_])/i.test(it.text));
 }
 
-// What is said of each place, in the order of the output. The words below a line belong to it.
+// The notes on a program from standard input.
+function notesOf(output) {
+  return output.split("\n").filter(Boolean).map((line) => JSON.parse(line)).filter((it) => it.path === OF_STANDARD_INPUT);
+}
+
+// The places in lines that kahn_explain writes, in their order. The words below a line belong to it.
 function read(output) {
   const found = [];
   for (const line of output.split("\n")) {
@@ -31,46 +40,16 @@ function read(output) {
   return found.map(({ words, ...it }) => ({ ...it, message: words.join("\n") }));
 }
 
-// Each form of words, and what stands where then: `at` is the place of the change.
-const FORMS = [
-  [/^fix: replace `([^`]+)` with `([^`]+)`(?: at (\d+):(\d+))?$/, ([, old, put], at) => ({ from: at, to: at + old.length, text: put })],
-  [/^fix: insert `([^`]+)` (?:after|before) `[^`]+`(?: at (\d+):(\d+))?$/, ([, put], at) => ({ from: at, to: at, text: put })],
-  [/^fix: remove `([^`]+)`(?: at (\d+):(\d+))?$/, ([, old], at) => ({ from: at, to: at + old.length, text: "" })],
-];
-const STANDS_CLOSE = [";", ",", ")", "("];
-
-// The change with blanks, where two words would stand side by side, and before what is put in.
-function apart(text, change) {
-  const isBetween = (one, other) => /^\w\w$/.test(`${one ?? ""}${other ?? ""}`), before = text[change.from - 1], after = text[change.to];
-  if (change.text === "") return { ...change, text: isBetween(before, after) ? " " : "" };
-  const [first, last] = [change.text[0], change.text[change.text.length - 1]];
-  const isLoose = change.from === change.to && !STANDS_CLOSE.includes(change.text) && /\S/.test(before ?? " ");
-  return { ...change, text: `${isBetween(before, first) || isLoose ? " " : ""}${change.text}${isBetween(last, after) ? " " : ""}` };
-}
-
-// The change that a line offers, at an index or at its own place.
-function changeOf(line, index, text) {
-  for (const [form, change] of FORMS) {
-    const found = form.exec(line);
-    if (!found) continue;
-    const [row, column] = found.slice(-2);
-    return change(found, column === undefined ? index : indexAt(text, Number(row), Number(column)));
+// The change that a note offers, as indices, and what it is called; or none.
+function changeOf(note, text) {
+  if (note.fix) {
+    const [from, to] = [note.fix.from, note.fix.to].map((it) => indexOf(text, it)), old = text.slice(from, to).trim(), put = note.fix.put.trim();
+    const words = !put ? `Remove \`${old}\`` : old ? `Replace \`${old}\` with \`${put}\`` : `Insert \`${put}\``;
+    return { words, from, to, text: note.fix.put };
   }
-  return null;
+  const meant = /did you mean `([^`]+)`\?/.exec(note.words), from = indexOf(text, note.from);
+  const here = meant && lexemesOf(text).find((it) => it.from >= from);
+  return here ? { words: `Replace \`${here.text}\` with \`${meant[1]}\``, from: here.from, to: here.to, text: meant[1] } : null;
 }
 
-// The lexeme that is told to be another one, if the heading alone says so.
-function meantChange(line, index, text) {
-  const meant = /did you mean `([^`]+)`\?/.exec(line), here = lexemesOf(text).find((it) => it.from >= index);
-  return meant && here ? { from: here.from, to: here.to, text: meant[1] } : null;
-}
-
-// The exact changes of a text that a message at an index offers: what they are called, and what stands where instead.
-function changesOf(message, index, text) {
-  const [heading, ...lines] = message.split("\n");
-  const told = lines.map((words) => ({ words, change: changeOf(words, index, text) })).filter((it) => it.change);
-  const all = told.length ? told : [{ words: heading, change: meantChange(heading, index, text) }].filter((it) => it.change);
-  return all.map(({ words, change }) => ({ words, ...apart(text, change) }));
-}
-
-module.exports = { changesOf, indexAt, lexemesOf, read };
+module.exports = { changeOf, indexAt, indexOf, lexemesOf, notesOf, read };
