@@ -50,7 +50,9 @@ grep -E '^editors/(vim|vscode)/' <<< "$known" | while read -r file; do put "shar
 doc="share/doc/kahn"
 put "$doc" "$top/README.md"
 pack 'docs/[^/]+\.md' "$doc/docs"
-for kind in compiler ftdetect ftplugin syntax; do put "share/vim/vimfiles/$kind" "$top/editors/vim/$kind/kahn.vim"; done
+grep -oP '^editors/vim/\K.*' <<< "$known" | while read -r file; do
+  for vim in vim/vimfiles nvim/site; do put "share/$vim/$(dirname "$file")" "$top/editors/vim/$file"; done
+done
 pack 'docs/pictures/[^/]+\.(svg|png)' "$doc/docs/pictures"
 pack 'examples/[^/]+' "$doc/examples"
 bash "$top/release/pages.sh" "$root/usr/$doc"

@@ -4,8 +4,8 @@
                                 lists of that page, and not by the program; the grammar in TextMate's form is played by its rules
     editors.py KAHN_EXPLAIN     a mistake, a warning, a fault and a deadlock each land on their place, and changes are exact
 
-Vim is asked itself, and the extension for Visual Studio Code is run by Node.js with a part that plays the editor; if one isn't there
-(Debian's packages `vim` and `nodejs`) this is said, and nothing of it is tested."""
+Vim and Neovim are asked themselves, and the extension for Visual Studio Code is run by Node.js with a part that plays the editor; if one isn't there
+(Debian's packages `vim`, `neovim` and `nodejs`) this is said, and nothing of it is tested."""
 import glob
 import json
 import os
@@ -116,8 +116,26 @@ def try_extension(folder, name, places, marked, changed, tried):
     tried.same(f"Visual Studio Code, a mistake that is typed after {name}", given, (["="], [MISTAKE.replace("=", ":=")], True))
 
 
+def try_ale(folder, name, places, marked, changed, tried):
+    if not glob.glob("/usr/share/vim*/**/ale", recursive=True):
+        return print("ALE isn't there (Debian's package vim-ale): marks in Vim as one types are not tried")
+    write(f"{folder}/typed", MISTAKE)
+    write(f"{folder}/script.vim", text_of(f"{TOP}/tests/ale.vim").replace("EDITORS", EDITORS))
+    ran(folder, "vim", "-es", "-u", "NONE", "-i", "NONE", "-S", "script.vim")
+    tried.same(f"Vim with ALE, a mistake that is typed after {name}", text_of(f"{folder}/shown"), f"{reference.spot(MISTAKE.encode(), MISTAKE.encode().index(b'='))} E\n")
+
+
+def try_nvim(folder, name, places, marked, changed, tried):
+    """The program is opened, and then a mistake is typed into it. What a run shows isn't marked here."""
+    write(f"{folder}/typed", MISTAKE)
+    write(f"{folder}/script.lua", text_of(f"{TOP}/tests/editors.lua").replace("EDITORS", EDITORS))
+    ran(folder, "nvim", "--headless", "-u", "NONE", "-i", "NONE", "-S", "script.lua")
+    shown = json.loads(text_of(f"{folder}/shown"))
+    tried.same(f"Neovim, a mistake that is typed after {name}", (shown["marked"], shown["fixed"], shown["milliseconds"] < 1000), (["="], MISTAKE.replace("=", ":="), True))
+
+
 def try_editors(explain, tried):
-    for editor, package, look in (("vim", "vim", try_vim), ("node", "nodejs", try_extension)):
+    for editor, package, look in (("vim", "vim", try_vim), ("vim", "vim", try_ale), ("nvim", "neovim", try_nvim), ("node", "nodejs", try_extension)):
         if not shutil.which(editor):
             print(f"{editor} isn't there: what it shows of editors/ is not tried (Debian's package {package})")
             continue
