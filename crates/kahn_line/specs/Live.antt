@@ -1,17 +1,13 @@
 -- Believed. What the words of the command line of the program that is fed line by line ask for.
 use Rattle.std.specs.Prelude.{◌≡◌, List, map, true, Some, codes, option_map, string_bytes}
 use Rattle.clap.specs.Words.{App, Rule, Text, matches_of, new_rule, with_rule}
-use Rattle.clap.specs.declared.builder.{ArgAction.TheVariants.Append, value_parser.ValueParser.TheVariants.NonEmptyString}
+use Rattle.clap.specs.declared.builder.ArgAction.TheVariants.{Append}
 use Rattle.kahn_streams.specs.Answers.{IsInRange}
 use Rattle.kahn_line.specs.{Line.bare_app, Line.file_of, Line.flag_rule, Line.is_flagged, Line.number_for, Line.number_rule, Line.text_of, Line.text_rule, Parts.columns_given, Parts.input_named, Parts.plain_parts, Parts.row_texts, Parts.set_line, declared.live.LiveOptions.LiveOptions}
 
 -- an option with a text that may be repeated
 abbrev pub at_end_rule : Rule
 at_end_rule = record (text_rule (codes "at-end")) { action = Some Append }
-
--- an option with names of channels, which may not be empty
-abbrev pub names_rule : Text → Rule
-names_rule name = record (text_rule name) { parser = Some NonEmptyString }
 
 -- the program text's path without a name, which is required, and the options
 abbrev pub live_app : App
@@ -24,9 +20,9 @@ live_app =
     (flag_rule (codes "keep-going")))
     (flag_rule (codes "strict")))
     at_end_rule)
-    (names_rule (codes "in")))
-    (names_rule (codes "out")))
-    (names_rule (codes "plain"))
+    (text_rule (codes "in")))
+    (text_rule (codes "out")))
+    (text_rule (codes "plain"))
 
 -- the options are those that the words name, and their numbers are within their limits; the events of a part are the bound
 pub record IsLive (words : List Text) (o : LiveOptions) : Type 0 where

@@ -45,17 +45,32 @@ input_named (Some p) = option_map string_bytes p.input
 abbrev pub lent : Option (Bor Text) → Option Text
 lent word = option_map (λ t. t.now) word
 
--- a name, which is never empty
-abbrev pub name_in : Text → Option Text
-name_in [] = None
-name_in (b ∷ bs) = Some (b ∷ bs)
+-- the names in a word; an empty word has none
+abbrev pub names_in : Text → Option Text
+names_in [] = None
+names_in (b ∷ bs) = Some (b ∷ bs)
 
--- the names of the channels whose values are alone: the words of `--in` and of `--out`, if one is there; `--plain` is their short form, with a
--- comma (44) between both
+-- the names that an option gives: an option with an empty word is as if it weren't there
+abbrev pub names_given : Option Text → Option Text
+names_given None = None
+names_given (Some word) = names_in word
+
+-- the same of `--plain`, which has a comma (44) between both
+abbrev pub short_given : Option Text → Option Text × Option Text
+short_given None = (None, None)
+short_given (Some word) = (names_in (parted 44 word).0, names_given (parted 44 word).1)
+
+-- the first names, if there are some, and else the others; or none
+abbrev pub first_named : Option Text × Option Text → Option Text × Option Text → Option (Option Text × Option Text)
+first_named (Some inputs, outputs) others = Some (Some inputs, outputs)
+first_named (None, Some outputs) others = Some (None, Some outputs)
+first_named (None, None) (Some inputs, outputs) = Some (Some inputs, outputs)
+first_named (None, None) (None, Some outputs) = Some (None, Some outputs)
+first_named (None, None) (None, None) = None
+
+-- the names of the channels whose values are alone: those of `--in` and of `--out`, and else those of `--plain`, their short form
 abbrev pub columns_given : Option Text → Option Text → Option Text → Option (Option Text × Option Text)
-columns_given None None plain = option_map (λ word. (name_in (parted 44 word).0, (parted 44 word).1)) plain
-columns_given (Some inputs) outputs plain = Some (name_in inputs, outputs)
-columns_given None (Some outputs) plain = Some (None, Some outputs)
+columns_given inputs outputs plain = first_named (names_given inputs, names_given outputs) (short_given plain)
 
 -- the names of the channels whose values are alone
 abbrev pub plain_parts : PlainNames → Option Text × Option Text

@@ -1,14 +1,13 @@
 //! The command line of the program that is fed line by line, and its words that have two parts.
 
-ghost use Rattle.std.specs.Prelude.{◌≡◌, IfOk, codes, false, map, string_bytes, ◌<◌, ◌≤◌, ◌∷◌, ◌++◌, Some, length, option_copied, option_map};
-ghost use Rattle.clap.specs.Words.{app_of, found_of, rule_of};
-ghost use Rattle.kahn_line.specs.{Line.IsRead, Live.IsLive, Live.live_app, Live.names_rule, Parts.found_texts, Parts.input_named, Parts.joined_words, Parts.set_line, Parts.IsJoinedBy, Parts.columns_given, Parts.lent, Parts.name_in, Parts.parted, Parts.plain_parts, Parts.takes_behind};
+ghost use Rattle.std.specs.Prelude.{◌≡◌, IfOk, codes, map, string_bytes, ◌<◌, ◌≤◌, ◌∷◌, ◌++◌, Some, length, option_copied, option_map};
+ghost use Rattle.clap.specs.Words.{app_of, found_of};
+ghost use Rattle.kahn_line.specs.{Line.IsRead, Live.IsLive, Live.live_app, Parts.found_texts, Parts.input_named, Parts.joined_words, Parts.set_line, Parts.IsJoinedBy, Parts.columns_given, Parts.lent, Parts.names_given, Parts.names_in, Parts.parted, Parts.plain_parts, Parts.short_given, Parts.takes_behind};
 
 use crate::line::{
     LineFault, QUANTUM, bare, config_of, copied, file_copied, flag_arg, number_arg, text_arg,
     was_given,
 };
-use clap::builder::ValueParser;
 use clap::{Arg, ArgAction, ArgMatches, Command};
 use kahn_streams::Config;
 use std::alloc::{AllocError, Global};
@@ -81,16 +80,8 @@ pub struct LiveOptions {
 pub struct PlainNames {
     /// The names of the channels whose values are taken, with commas between, never empty; or nothing if lines begin with names.
     pub input: Option<String>,
-    /// The names of the channels whose values are shown, with commas between, or nothing for the first stream of a report.
+    /// The names of the channels whose values are shown, with commas between, never empty; or nothing for the first stream of a report.
     pub output: Option<String>,
-}
-
-/// Makes an option with names of channels, which may not be empty.
-fn names_arg<'a>(alloc: Global, name: &'a str, value: &'a str, help: &'a str) -> Arg<'a>
-    ensures rule { rule_of result ≡ names_rule name.entry.now }
-    ensures local { result.global ≡ false }
-{
-    text_arg(alloc, name, value, help).value_parser(ValueParser::NonEmptyString)
 }
 
 fn live_command<'a>(alloc: Global) -> Result<Command<'a>, AllocError>
@@ -122,9 +113,9 @@ fn live_command<'a>(alloc: Global) -> Result<Command<'a>, AllocError>
         .arg(flag_arg(alloc, "keep-going", keep_going))?
         .arg(flag_arg(alloc, "strict", strict))?
         .arg(text_arg(alloc, "at-end", "NAME=VALUE", at_end).action(ArgAction::Append))?
-        .arg(names_arg(alloc, "in", "NAME[,NAME..]", inputs))?
-        .arg(names_arg(alloc, "out", "NAME[,NAME..]", outputs))?
-        .arg(names_arg(alloc, "plain", "INPUT[,OUTPUT]", plain))
+        .arg(text_arg(alloc, "in", "NAME[,NAME..]", inputs))?
+        .arg(text_arg(alloc, "out", "NAME[,NAME..]", outputs))?
+        .arg(text_arg(alloc, "plain", "INPUT[,OUTPUT]", plain))
 }
 
 fn lines_at_end(
@@ -246,14 +237,35 @@ pub fn input_named(plain: &Option<PlainNames>) -> Option<&str>
     }
 }
 
-/// Returns a name, unless it is empty.
-fn name_in(word: &str) -> Option<&str>
-    ensures { option_copied result ≡ name_in word.entry.now }
+/// Returns the names in a word, unless it is empty.
+fn names_in(word: &str) -> Option<&str>
+    ensures { option_copied result ≡ names_in word.entry.now }
 {
     if word.is_empty() { None } else { Some(word) }
 }
 
-/// Returns the channels that the words of `--in` and `--out` name, if one of them is there, and else those of the short form.
+/// Returns the names that an option gives, if it is there and its word isn't empty.
+fn names_given<'a>(word: Option<&'a str>) -> Option<&'a str>
+    ensures { option_copied result ≡ names_given (lent word.entry) }
+{
+    match word {
+        Some(word) => names_in(word),
+        None => None,
+    }
+}
+
+/// Returns the names of inputs and outputs that the short form gives, with a comma between both.
+fn short_given<'a>(word: Option<&'a str>) -> (Option<&'a str>, Option<&'a str>)
+    ensures { (option_copied result.0, option_copied result.1) ≡ short_given (lent word.entry) }
+{
+    let Some(word) = word else {
+        return (None, None);
+    };
+    let (inputs, outputs) = parted(word, ',');
+    (names_in(inputs), names_given(outputs))
+}
+
+/// Returns the channels that the words of `--in` and `--out` name, if one of them names some, and else those of the short form.
 fn plain_of<'a>(
     alloc: Global,
     inputs: Option<&'a str>,
@@ -262,15 +274,13 @@ fn plain_of<'a>(
 ) -> Result<Option<PlainNames>, AllocError>
     ensures { IfOk result (λ p. option_map plain_parts p ≡ columns_given (lent inputs.entry) (lent outputs.entry) (lent word.entry)) }
 {
-    let (input, output) = match (inputs, outputs, word) {
-        (Some(inputs), outputs, _) => (name_in(inputs), outputs),
-        (None, Some(outputs), _) => (None, Some(outputs)),
-        (None, None, Some(word)) => {
-            let (input, output) = parted(word, ',');
-            (name_in(input), output)
-        }
-        (None, None, None) => return Ok(None),
+    let (input, output) = match (names_given(inputs), names_given(outputs)) {
+        (None, None) => short_given(word),
+        named => named,
     };
+    if input.is_none() && output.is_none() {
+        return Ok(None);
+    }
     Ok(Some(PlainNames {
         input: copied(alloc, input)?,
         output: copied(alloc, output)?,

@@ -18,6 +18,6 @@ returns c =
     let five = c.in_ok-arg-5.ensures.shape c.flag_arg.ensures.local ∙ ap₂ with_rule four c.flag_arg.ensures.rule in
     let six = c.in_ok-arg-6.ensures.shape c.flag_arg-2.ensures.local ∙ ap₂ with_rule five c.flag_arg-2.ensures.rule in
     let seven = c.in_ok-arg-7.ensures.shape end_local ∙ ap₂ with_rule six end_rule in
-    let eight = c.in_ok-arg-8.ensures.shape c.names_arg.ensures.local ∙ ap₂ with_rule seven c.names_arg.ensures.rule in
-    let nine = c.in_ok-arg-9.ensures.shape c.names_arg-2.ensures.local ∙ ap₂ with_rule eight c.names_arg-2.ensures.rule in
-    IfOk-weaker c.arg-10.result _ _ (λ r h. h.shape c.names_arg-3.ensures.local ∙ ap₂ with_rule nine c.names_arg-3.ensures.rule) c.arg-10.ensures
+    let eight = c.in_ok-arg-8.ensures.shape c.text_arg-3.ensures.local ∙ ap₂ with_rule seven c.text_arg-3.ensures.rule in
+    let nine = c.in_ok-arg-9.ensures.shape c.text_arg-4.ensures.local ∙ ap₂ with_rule eight c.text_arg-4.ensures.rule in
+    IfOk-weaker c.arg-10.result _ _ (λ r h. h.shape c.text_arg-5.ensures.local ∙ ap₂ with_rule nine c.text_arg-5.ensures.rule) c.arg-10.ensures
