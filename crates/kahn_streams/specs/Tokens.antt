@@ -1,6 +1,6 @@
 -- Believed. What contracts say of tokens and of lists of them. A token is a value with its place on its line (this project's profile);
 -- that its value stands there in the least solution is what its type keeps.
-use Rattle.std.specs.Prelude.{ℕ, List, [], ◌≡◌, suc, ◌∷◌}
+use Rattle.std.specs.Prelude.{ℕ, List, [], ◌≡◌, suc, ◌∷◌, Some, slice_get}
 use Rattle.kahn_streams.specs.{Types.Program, Types.Value, Types.Line, Network.network_of, Network.Schema, Solution.Inputs, Solution.AreInputsExtended, declared.token.Token.Token, Inputs.Lists, Inputs.inputs_of}
 
 -- the value alone
@@ -14,6 +14,10 @@ IsOwn N I t = (network_of t.network.value ≡ N) × AreInputsExtended (inputs_of
 -- the token is of this network and this input
 abbrev pub IsOf : Program → Lists → Token → Type 0
 IsOf network input t = (t.network.value ≡ network) × (t.input.value ≡ input)
+
+-- the token at this place of the list is of the line and of this place
+abbrev pub StandsAt : Line → ℕ → List Token → Type 0
+StandsAt line place ts = (t : Token) × (slice_get ts place ≡ Some t) × (t.line ≡ line) × (t.place ≡ place)
 
 -- these are tokens of the line, at the places from this one on
 abbrev pub Follow : Line → ℕ → List Token → Type 0

@@ -3,13 +3,13 @@
 //! In a list that is kept a token is stored as its value alone: where it stands gives its line and its place. Contracts see the
 //! tokens, so each has the same fact as the one that was put there.
 
-ghost use Rattle.std.specs.Prelude.{◌≡◌, ◌+◌, ◌<◌, ◌≤◌, ◌++◌, ◌∷◌, ◌↔◌, ◌==◌, [], if◌then◌else◌, is_ok, length, map, vec_capacity, vec_len, List, IfOk, IsTrue, OnErr, OnOk};
-ghost use Rattle.kahn_streams.specs.{Tokens.token_value, declared.token.Token.Token};
+ghost use Rattle.std.specs.Prelude.{◌≡◌, ◌+◌, ◌<◌, ◌≤◌, ◌++◌, ◌∷◌, ◌↔◌, ◌==◌, [], if◌then◌else◌, is_ok, length, map, slice_get, vec_capacity, vec_len, List, Some, IfOk, IsTrue, OnErr, OnOk};
+ghost use Rattle.kahn_streams.specs.{Inputs.Holds, Inputs.Names, Tokens.StandsAt, Tokens.token_value, declared.token.Token.Token};
 
 use crate::about::About;
 use crate::memory::NoMemory;
 use crate::token::Token;
-use crate::value::Value;
+use crate::value::{Line, Value};
 use crate::values::Values;
 use crate::word::{Packed, Word};
 use std::alloc::{Allocator, Global};
@@ -124,7 +124,28 @@ impl<A: Allocator + Copy> Tokens<A> {
     }
 }
 
+// The token of a value that stands there. Its names are those of the token at that place of a list.
+fn token_in<A: Allocator>(_list: &Tokens<A>, line: Line, place: u64, value: Word) -> Token
+    ghost names: { Names }
+    requires { Holds names.network names.input line place value }
+    ensures here { (result.line ≡ line) × (result.place ≡ place) × (result.value ≡ value) }
+    ensures names { (result.network.value ≡ names.network) × (result.input.value ≡ names.input) }
+{
+    Token::of_word(line, place, value)
+}
+
 impl<A: Allocator> Tokens<A> {
+    /// Returns the token at a place of a list of the line, such as the list of a stream. Never allocates.
+    pub fn token(&self, line: Line, place: u64) -> Token
+        requires { StandsAt line place self.now.items }
+        ensures { slice_get self.now.items place ≡ Some result }
+    {
+        let Some(value) = self.values().get(place as usize) else {
+            unreachable!()
+        };
+        token_in(self, line, place, Word::of(value))
+    }
+
     /// Returns how many there are.
     pub fn len(&self) -> usize
         ensures { result ≡ length self.now.items }
