@@ -1,9 +1,10 @@
 //! The calls of a relay: items pass between two threads one by one, in order, and any number of them may be under
 //! way. A taker that finds nothing returns at once. No call ever blocks.
 
-ghost use Rattle.std.specs.Prelude.{◌≡◌, ◌+◌, ◌<◌, ◌≤◌, List, [], ◌∷◌, ◌++◌, length, IfOk, MatchResult, MatchOption};
-ghost use Rattle.kahn_lane.specs.RelayEnds.{giver_relay, taker_relay, given, got, known_given, ComesBack, SameRelay, WasEmpty};
-ghost use Rattle.crossbeam_deque.specs.Handles.{worker_capacity, worker_flavor, worker_index, worker_view};
+ghost use Rattle.std.specs.Prelude.{◌≡◌, ◌+◌, ◌<◌, ◌≤◌, List, [], ◌∷◌, ◌++◌, length, IfOk, MatchResult, MatchOption, OnErr, true};
+ghost use Rattle.kahn_lane.specs.RelayEnds.{giver_relay, taker_relay, relay_capacity, given, got, known_given, ComesBack, SameRelay, WasEmpty};
+ghost use Rattle.kahn_lane.specs.inner.RelayRule.{log};
+ghost use Rattle.crossbeam_deque.specs.Handles.{worker_capacity, worker_deque, worker_flavor, worker_index, worker_view};
 
 use crate::segments::{Bare, Giver, Got, InOrder, Log, Sent, Sides, Taker, Total};
 use crossbeam_deque::protocol::Protocol;
@@ -26,7 +27,7 @@ pub enum LaneFault {
     NoMemory,
 }
 
-/// Makes a relay. Its two ends may go to different threads. Nothing was given or taken yet.
+/// Makes a relay with memory for one item. Its two ends may go to different threads. Nothing was given or taken yet.
 #[tactic(auto, using(crate::proofs::RelayMoves::begins, crate::proofs::RelayMoves::forks))]
 pub fn relay<T: Drop, A: Allocator + Clone + Drop>(
     alloc: A,
@@ -34,17 +35,33 @@ pub fn relay<T: Drop, A: Allocator + Clone + Drop>(
     ensures one { IfOk result (λ r. giver_relay r.0 ≡ taker_relay r.1) }
     ensures start { IfOk result (λ r. (given r.0 ≡ []) × (got r.1 ≡ []) × (known_given r.1 ≡ 0)) }
 {
-    let mut worker = small_deque::<T, A, Log<T>, InOrder>(alloc)?;
+    parted(small_deque::<T, A, Log<T>, InOrder>(alloc)?)
+}
+
+// The two ends of a relay, whose deque was made with memory for one item.
+#[tactic(auto, using(crate::proofs::RelayMoves::begins, crate::proofs::RelayMoves::forks))]
+fn parted<T: Drop, A: Allocator + Clone + Drop>(
+    made: Worker<T, A, Log<T>, InOrder>,
+) -> Result<(Giver<T, A>, Taker<T, A>), LaneFault>
+    requires small { worker_capacity made ≡ 1 }
+    requires first { (worker_flavor made ≡ 0) × (worker_index made ≡ 0) × (worker_view made ≡ log true true 0 [] []) }
+    ensures made { IfOk result (λ r. giver_relay r.0 ≡ worker_deque made) }
+    ensures one { IfOk result (λ r. giver_relay r.0 ≡ taker_relay r.1) }
+    ensures start { IfOk result (λ r. (given r.0 ≡ []) × (got r.1 ≡ []) × (known_given r.1 ≡ 0)) }
+{
+    let mut worker = made;
     let stealer = worker.stealer()?;
     let pass = worker.another::<Sides>();
     Ok((Giver { worker }, Taker { stealer, pass }))
 }
 
 impl<T, A: Allocator> Giver<T, A> {
-    /// Gives an item. If memory is refused, the item comes back and nothing was given; the very first item is never refused.
+    /// Gives an item. If memory is refused, the item comes back and nothing was given. Fails only if as many items were given as the relay
+    /// has memory for, so never for the first.
     pub fn give(&mut self, item: T) -> Result<(), (NoMemory, T)>
         ensures same { giver_relay self.new ≡ giver_relay self.old }
         ensures rule { MatchResult result (λ _. given self.new ≡ given self.old ++ item ∷ []) (λ e. ComesBack self.old self.new item e.1) }
+        ensures full { OnErr result (relay_capacity self.old ≤ length (given self.old)) }
     {
         match self.worker.push_as::<Sent>(item) {
             Ok(()) => Ok(()),

@@ -4,8 +4,8 @@
 //! is to see it. The reader steals a segment when its own is used up, and takes its tokens one by one. No call ever blocks.
 
 ghost use Rattle.std.specs.Prelude.{◌≡◌, ◌+◌, ◌≤◌, ◌<◌, ◌^◌, ◌⊎◌, true, false, vec_len, IfOk, IsOk, OnErr, IsSome, MatchResult, MatchOption, Some, ◌-◌, [], IfErr, ℕ, length, vec_capacity};
-ghost use Rattle.crossbeam_deque.specs.Handles.{worker_view, worker_deque, worker_flavor, stealer_deque, stealer_flavor};
-ghost use Rattle.kahn_lane.specs.{Places.lane_name, Places.name_on_line, Places.token_name, Places.tag_name, Places.owner, LaneEnds.sender_lane, LaneEnds.receiver_lane, LaneEnds.sender_name, LaneEnds.filled, LaneEnds.flushed, LaneEnds.sent, LaneEnds.CanPut, LaneEnds.received, LaneEnds.waiting, LaneEnds.CanTake, LaneEnds.heard, LaneEnds.left, LaneEnds.SameSender, LaneEnds.SameReceiver, LaneEnds.AreEndsNamed, LaneEnds.HavePassed, LaneEnds.TakesNext, LaneEnds.WasDry, Places.StandFrom, Places.moved_to, inner.LaneRule.size, inner.LaneRule.tokens_of, inner.Settles.HasBothRights, inner.Settles.HasStolen, inner.Settles.IsGrown, inner.Settles.LiftsTo, inner.Settles.SameLifted, declared.name.LaneName.LaneName};
+ghost use Rattle.crossbeam_deque.specs.Handles.{worker_view, worker_deque, worker_capacity, worker_flavor, worker_index, stealer_deque, stealer_flavor};
+ghost use Rattle.kahn_lane.specs.{Places.lane_name, Places.name_on_line, Places.token_name, Places.tag_name, Places.opening_mark, Places.owner, LaneEnds.sender_lane, LaneEnds.receiver_lane, LaneEnds.sender_name, LaneEnds.filled, LaneEnds.flushed, LaneEnds.sent, LaneEnds.CanPut, LaneEnds.received, LaneEnds.waiting, LaneEnds.CanTake, LaneEnds.heard, LaneEnds.left, LaneEnds.SameSender, LaneEnds.SameReceiver, LaneEnds.AreEndsNamed, LaneEnds.HavePassed, LaneEnds.TakesNext, LaneEnds.WasDry, Places.StandFrom, Places.moved_to, inner.LaneRule.size, inner.LaneRule.tokens_of, inner.Settles.HasBothRights, inner.Settles.HasStolen, inner.Settles.IsGrown, inner.Settles.LiftsTo, inner.Settles.SameLifted, declared.name.LaneName.LaneName};
 ghost use Rattle.kahn_streams.specs.Inputs.{Names};
 
 use crate::handover::{LaneFault, TRIES, small_deque};
@@ -24,21 +24,25 @@ use std::sync::ledger::{Blank, Ledger};
 // How many tokens a segment has at most.
 const SEGMENT: usize = 64;
 
-// The deque of a new lane that begins at the tag's place, with its name known to both ends.
+// The deque of a new lane that begins at the tag's place, with its name known to both ends: one that was made with memory for one segment.
 #[tactic(auto, using(crate::proofs::LaneMoves::tells, crate::proofs::LaneMoves::starts))]
 fn opened<A: Allocator + Clone + Drop>(
     alloc: A,
     tag: Tag,
+    made: LaneWorker<A>,
 ) -> Result<(LaneWorker<A>, LaneStealer<A>), LaneFault>
+    requires small { worker_capacity made ≡ 1 }
+    requires first { (worker_flavor made ≡ 0) × (worker_index made ≡ 0) × (worker_view made ≡ opening_mark) }
+    ensures made { IfOk result (λ r. worker_deque r.0 ≡ worker_deque made) }
     ensures one { IfOk result (λ r. (worker_deque r.0 ≡ stealer_deque r.1) × (worker_flavor r.0 ≡ 0) × (stealer_flavor r.1 ≡ 0)) }
     ensures view { IfOk result (λ r. worker_view r.0 ≡ owner (Some (tag_name tag)) tag.from) }
 {
     let head = Segment {
         tag: Some(tag),
         alone: None,
-        tokens: Vec::new(alloc.clone()?),
+        tokens: Vec::new(alloc),
     };
-    let mut worker = small_deque::<Segment<A>, A, Mark, InPlaces>(alloc)?;
+    let mut worker = made;
     let Ok(()) = worker.push_as::<Telling>(head) else {
         return Err(LaneFault::NoMemory);
     };
@@ -69,7 +73,8 @@ fn lane_from<A: Allocator + Clone + Drop, X, Y>(
     let tag = tag_by(x, y, line, place);
     let left = Vec::new(alloc.clone()?);
     let right = Vec::with_capacity(alloc.clone()?, 1)?;
-    let (mut worker, stealer) = opened(alloc, head)?;
+    let made = small_deque::<Segment<A>, A, Mark, InPlaces>(alloc.clone()?)?;
+    let (mut worker, stealer) = opened(alloc, head, made)?;
     let pass = worker.another::<Sides>();
     let (line, from) = (tag.line, tag.from);
     let sender = Sender {
