@@ -1,7 +1,7 @@
 """Puts the page together: page.py MODULE OUT.html
 
-MODULE is the WebAssembly file, or a page that has it in it. page/page.html names the files of its folder that go into it, the module and
-the examples, each between two @. The modules of the page become one script: their imports go, and `export` before a name; so no two may
+MODULE is the WebAssembly file, or a page that has it in it. page/page.html names the files of its folder that go into it, the module, the
+examples and the version, each between two @. The modules of the page become one script: their imports go, and `export` before a name; so no two may
 give the same name at their top. The page's policy names its scripts and styles by their hashes.
 """
 
@@ -19,6 +19,7 @@ import zlib
 
 HERE = os.path.dirname(os.path.abspath(__file__))
 PARTS = f"{HERE}/page"
+CHANGES = os.path.join(os.path.dirname(HERE), "CHANGELOG.md")
 EXAMPLES = os.path.join(os.path.dirname(HERE), "examples")
 TOP = re.compile(r"^(?:async )?(?:function\*?|class) \w+|^(?:const|let) .*", flags=re.M)
 
@@ -75,7 +76,8 @@ def filled(page, parts):
 def main(module, out):
     page = text_of(f"{PARTS}/page.html")
     styles = re.sub(r"\s+(?={)|(?<=[{};,])\s+|/\*.*?\*/\s*", "", text_of(f"{PARTS}/page.css"), flags=re.S).strip()
-    page = filled(page, {"module": packed(module), "examples": examples(), "page.css": styles, **scripts(page)})
+    version = re.search(r"^## (\d+\.\d+\.\d+)", text_of(CHANGES), flags=re.M)[1]
+    page = filled(page, {"version": version, "module": packed(module), "examples": examples(), "page.css": styles, **scripts(page)})
     page = filled(page, {"scripts": hashes(page, "script"), "styles": hashes(page, "style")})
     pathlib.Path(out).write_text(page, encoding="utf-8")
 

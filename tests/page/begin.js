@@ -382,7 +382,7 @@ end
   },
   // What the page shows at each bound of a slider: how each process stands, and the values of each stream.
   async stepsOf(program, input) {
-    const about = await ran(checker, { program, input, bound: "1000000" }, () => {}), steps = [];
+    const about = await ran(checker, { program, input, bound: "1000000" }, QUANTUM, () => {}), steps = [];
     for (let k = 0; k <= about.last; k += 1) {
       const { processes, streams } = await about.momentAt(k);
       const states = processes.map((it) => [it.number, it.name, it.state, it.on, it.events]);
@@ -407,6 +407,36 @@ end
     at("program").focus();
     at("program").setSelectionRange(0, 0);
     document.execCommand("insertText", false, text);
+  },
+  // Types a text at the beginning of a word of the program.
+  typesAt(word, text) {
+    const at = program.text.indexOf(word);
+    program.field.focus();
+    program.field.setSelectionRange(at, at);
+    if (text) document.execCommand("insertText", false, text);
+  },
+  // What one can press of the window, and is smaller than 24 pixels either way.
+  small: () => [...document.querySelectorAll("button, select, input:not([type=range]), #slider, #table td, #picture .touch")].filter((it) => it.checkVisibility() && !it.closest(".unseen"))
+    .map((it) => [it.id || it.className.baseVal || it.className || it.textContent, it.getBoundingClientRect()])
+    .filter(([name, { width, height }]) => name !== "touch" && (width < 24 || height < 24)).map(([name]) => name),
+  async allSmall() {
+    const found = [];
+    await puts(programs.deadlock);
+    for (const it of ["texts", "network", "values"]) found.push((show(it), small()));
+    for (const it of ["plots", "waits", "report", "table"]) found.push((showTab(it), small()));
+    await puts(programs.endless.replace("I + 1;", "I + 1"));
+    found.push((show("texts"), small()));
+    await shows("alarm");
+    await go(10);
+    choose({ process: 0 });
+    for (const it of ["texts", "network", "values"]) found.push((show(it), small()));
+    for (const open of [gallery, () => at("sheet").showModal()]) {
+      open();
+      found.push(small());
+      document.querySelector("dialog[open]").close();
+    }
+    show("network");
+    return [...new Set(found.flat())];
   },
   // Milliseconds from a key to what it shows, the median of nine.
   async keyTime() {

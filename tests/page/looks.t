@@ -31,6 +31,37 @@ In a low window, as a large page or a phone on its side has, the picture keeps i
   $ at("picture").clientHeight >= 280
   true
 
+What can be pressed is 24 pixels wide and high, and a phone has all of it.
+  $ size 390 844
+  $ allSmall()
+  []
+  $ (shows("rates"), isShown("#inTurns"))
+  true
+  $ size 1400 900
+  $ allSmall()
+  []
+
+The signs have the shapes of the boxes, and the colours of the table are named.
+  $ shows("squares")
+  $ [document.querySelectorAll("#legend path[d^=M]").length, eachText("#colours span")]
+  [4, ["sent now", "taken now", "waits", "comes later"]]
+  $ (showTab("plots"), isShown("#colours"))
+  false
+
+A short program leaves its room to an input of some lines.
+  $ puts(programs.copy, { input: "A: 7 8 9\n10 11\n12\n13\n14\n15\n16" })
+  $ [at("inputPane").scrollHeight <= at("inputPane").clientHeight, at("programPane").scrollHeight <= at("programPane").clientHeight]
+  [true, true]
+  $ shows("squares")
+
+The numbers of the axis are whole, and so is a name beside its value.
+  $ puts(programs.endless, { bound: "4000" })
+  $ [...document.querySelectorAll("#plots .tick")].every((it) => it.getBoundingClientRect().right <= at("plots").getBoundingClientRect().right - 4)
+  true
+  $ shows("filter").then(() => plots.lanes.map((it) => it.value.getBBox().y >= it.group.querySelector(".name").getBBox().y + 14).includes(false))
+  false
+  $ showTab("table")
+
 A note covers nothing.
   $ (toast("Your texts were replaced, and kept.", "Undo", () => {}), covers("#toast"))
   []

@@ -98,6 +98,19 @@ Of an input the plot has what was taken, and so has the table.
   $ eachText("#table .took, #table .waiting, #picture .count, #picture .last")
   ["2", "9 8", "", "", "7", "8", "9"]
 
+At the end of a run nothing is blue but what waits.
+  $ shows("squares")
+  $ document.querySelectorAll("#picture .box.now, #picture .arrow.now, #programInk .now, #table .newest, #table .took").length
+  0
+  $ go(26)
+  $ document.querySelectorAll("#picture .box.now, #picture .arrow.now, #programInk .now, #table .newest, #table .took").length > 1
+  true
+
+A value below an arrow is whole, or dots.
+  $ shows("control").then(() => puts(program.text.replace("0", "123456789012"), { bound: "1000" }))
+  $ eachText("#picture .last").flatMap((it) => it.split(" ")).every((it) => it === "" || it === "…" || page.run.streams.some(({ values }) => values.includes({ T: "true", F: "false" }[it] ?? it)))
+  true
+
 The value of each step is in sight.
   $ size 1440 900
   $ shows("sieve").then(unseen)

@@ -1,9 +1,10 @@
 // What is chosen by a press: a process with its chain of waits, or a channel; and how all processes stand.
 
-import { at, made, numbered } from "./elements.js";
+import { at, made, numbered, svg } from "./elements.js";
 import { lexemesOf } from "./lexer.js";
 import { atEnd, eitherButtons, placesOf, waitsOf, withPlaces } from "./marking.js";
 import { chainOf, stateWords } from "./moment.js";
+import { ICONS } from "./picture.js";
 import { NOTHING, page, program } from "./state.js";
 import { asked, go, update } from "./steps.js";
 
@@ -97,7 +98,9 @@ export function showWaits() {
 
 export function showLegend() {
   const words = [["ready", "ready"], ["waits", "waits"], ["ended", "ended"], ["fault", "fault or deadlock"], ["now", "did this event"]];
+  const sign = (kind) => svg("svg", { viewBox: "0 0 17 15", class: kind, "aria-hidden": "true" },
+    svg("rect", { x: 1, y: 1, width: 15, height: 13, rx: 3 }), svg("path", { d: ICONS[kind] ?? "", transform: "translate(4 3)" }));
   const shown = (number, values, word) => made("span", { className: "values" }, made("b", {}, number), ` ${values}: ${word}`);
   const waiting = shown("3", "16 9 4", "values that wait, the next one at the arrow's end"), both = [waiting, shown("5", "… 16", "values of an output, and the last one")];
-  at("legend").replaceChildren(...words.map(([kind, word]) => made("span", { className: `mark-${kind}` }, word)), ...both);
+  at("legend").replaceChildren(...words.map(([kind, word]) => made("span", {}, sign(kind), word)), ...both);
 }

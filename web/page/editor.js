@@ -1,8 +1,9 @@
 // The field of a text: colours, line numbers and marks lie below a plain textarea, whose letters can't be seen. The text wraps, and the
-// coloured lines give the height; so nothing has to be scrolled along.
+// coloured lines give the height; so nothing has to be scrolled along. Signs that turn letters round are left out of the coloured lines, and
+// marked where they are.
 
 import { made } from "./elements.js";
-import { lexemesOf } from "./lexer.js";
+import { indentAfter, lexemesOf, partnerOf, turningSigns, TURNS } from "./lexer.js";
 import { placeAt } from "./places.js";
 
 // A longer text has no colours; a still longer one is shown by the field alone. A browser takes long to put in more by its own editing.
@@ -47,18 +48,24 @@ function differing(old, it) {
   return { first, last };
 }
 
+const withoutTurns = (text) => text.replace(TURNS, "");
+
 function lineElement({ parts, kinds }) {
-  const inner = parts.map(([text, kind]) => (kind ? made("span", { className: kind }, text) : text));
+  const inner = parts.map(([text, kind]) => (kind ? made("span", { className: kind }, withoutTurns(text)) : withoutTurns(text)));
   return made("div", { className: ["line", ...kinds.map((it) => `has-${it}`)].join(" ") }, ...inner);
 }
 
 export class Editor {
   constructor(field, ink, { isProgram }) {
-    Object.assign(this, { field, ink, isProgram, marks: [], keys: [], lexed: { text: "", lexemes: [] }, changed: () => {} });
+    Object.assign(this, { field, ink, isProgram, marks: [], pair: [], keys: [], lexed: { text: "", lexemes: [], signs: [] }, changed: () => {} });
     field.addEventListener("input", () => {
+      this.pair = [];
       this.mark([]);
       this.changed();
     });
+    if (!isProgram) return;
+    field.addEventListener("keydown", (event) => this.enter(event));
+    document.addEventListener("selectionchange", () => this.markPair());
   }
 
   get text() {
@@ -84,6 +91,28 @@ export class Editor {
     this.field.setSelectionRange(0, 0);
   }
 
+  // A new line begins below the one before, or deeper behind a word that opens.
+  enter(event) {
+    const { key, ctrlKey, metaKey, altKey, shiftKey, isComposing } = event;
+    if (key !== "Enter" || ctrlKey || metaKey || altKey || shiftKey || isComposing) return;
+    event.preventDefault();
+    document.execCommand("insertText", false, `\n${indentAfter(this.text, this.field.selectionStart)}`);
+  }
+
+  // The word or bracket at the caret, and the one that it opens or closes.
+  markPair() {
+    const { selectionStart, selectionEnd } = this.field, isHere = document.activeElement === this.field && selectionStart === selectionEnd;
+    const pair = isHere ? partnerOf(this.lexemes(), selectionStart) : [];
+    if (String(pair.map((it) => it.from)) === String(this.pair.map((it) => it.from))) return;
+    this.pair = pair;
+    this.paint();
+  }
+
+  // The line of the caret.
+  get line() {
+    return placeAt(this.text, this.field.selectionEnd).line;
+  }
+
   mark(marks) {
     this.marks = marks.filter((it) => it.from !== undefined);
     this.paint();
@@ -91,7 +120,7 @@ export class Editor {
 
   lexemes() {
     const { text } = this, isColoured = this.isProgram && text.length <= MOST_COLOURED;
-    if (this.lexed.text !== text) this.lexed = { text, lexemes: isColoured ? lexemesOf(text) : [] };
+    if (this.lexed.text !== text) this.lexed = { text, lexemes: isColoured ? lexemesOf(text) : [], signs: turningSigns(text) };
     return this.lexed.lexemes;
   }
 
@@ -99,7 +128,8 @@ export class Editor {
   paint(isWhole = false) {
     const { text } = this, isBare = text.length > MOST_PAINTED && !isWhole;
     this.field.parentElement.classList.toggle("bare", isBare);
-    const lines = isBare ? [] : linesOf(text, this.marks, this.lexemes()), keys = lines.map((it) => JSON.stringify(it)), old = this.keys;
+    const lexemes = isBare ? [] : this.lexemes(), pair = this.pair.map((it) => ({ ...it, kind: "pair" }));
+    const lines = isBare ? [] : linesOf(text, [...this.marks, ...pair, ...this.lexed.signs], lexemes), keys = lines.map((it) => JSON.stringify(it)), old = this.keys;
     const { first, last } = differing(old, keys);
     for (let i = old.length - last - 1; i >= first; i--) this.ink.children[i].remove();
     const before = this.ink.children[first] ?? null;

@@ -19,5 +19,12 @@ export function svg(name, values = {}, ...inner) {
   return it;
 }
 
+// Puts others in place of what stands in an element. If one of its buttons had the focus, the one at its place has it then.
+export function refill(element, ...inner) {
+  const buttons = () => [...element.querySelectorAll("button")], place = buttons().indexOf(document.activeElement);
+  element.replaceChildren(...inner);
+  if (place >= 0) buttons().at(Math.min(place, buttons().length - 1))?.focus({ preventScroll: true });
+}
+
 export const numbered = (it) => it.toLocaleString("en");
 export const clipped = (text, most) => (text.length > most ? `${text.slice(0, Math.max(1, most - 1))}…` : text);

@@ -56,5 +56,7 @@ export function groups() {
 const all = groups().flatMap((it) => it.list);
 
 export const example = (name) => all.find((it) => it.name === name);
-export const isExample = ({ program, input }) => all.some((it) => it.program === program && it.input === input);
+const exampleOf = ({ program, input }) => all.find((it) => it.program === program && it.input === input);
+export const isExample = (texts) => exampleOf(texts) !== undefined;
+export const nameOf = (texts) => exampleOf(texts)?.name ?? "";
 export const FIRST = example("squares") ?? all[0];

@@ -44,7 +44,8 @@ function meantEdit(words, from, text) {
 export function fixesOf(mark, text) {
   if (mark.severity !== "error" || mark.where !== "program" || mark.from === undefined) return [];
   const told = mark.helps.map((words) => ({ words, edit: editOf(words, mark.from, text) })).filter((it) => it.edit);
-  const all = told.length ? told : [{ words: mark.words, edit: meantEdit(mark.words, mark.from, text) }].filter((it) => it.edit);
+  const meant = meantEdit(mark.words, mark.from, text), inWords = meant && `replace \`${text.slice(meant.from, meant.to)}\` with \`${meant.text}\``;
+  const all = told.length || !meant ? told : [{ words: inWords, edit: meant }];
   return all.map(({ words, edit }) => ({ words, ...apart(text, edit) }));
 }
 

@@ -6,7 +6,7 @@ import { FIRST } from "./examples.js";
 import { divider } from "./panes.js";
 import { STOPPED } from "./run.js";
 import { lacking } from "./runner.js";
-import { edited, fail, runTexts, save, showBy, showName, takeTurns } from "./running.js";
+import { edited, fail, lineLeft, runTexts, save, showBy, showName, takeTurns } from "./running.js";
 import { fit, show, showSigns, showTab, TABS } from "./showing.js";
 import { BOUND, input, NOTHING, page, picture, plots, program, runner, store, table } from "./state.js";
 import { go, play, playIcon, showPlay, stopPlaying } from "./steps.js";
@@ -18,7 +18,10 @@ const RESIZED = 120;
 // In a window of so many pixels the meaning of the signs is shown below the picture at first.
 const LEAST_FOR_SIGNS = 640;
 
-program.changed = input.changed = at("bound").oninput = edited;
+program.changed = () => edited(program);
+input.changed = () => edited(input);
+at("bound").oninput = () => edited();
+for (const it of ["selectionchange", "focusin", "focusout"]) document.addEventListener(it, () => setTimeout(lineLeft));
 picture.choose = choose;
 table.choose = plots.choose = chooseStream;
 table.goTo = plots.goTo = goToValue;

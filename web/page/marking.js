@@ -1,12 +1,16 @@
 // What is marked in the texts, the list of mistakes and warnings, and buttons that go to a place.
 
-import { at, made } from "./elements.js";
+import { at, made, refill } from "./elements.js";
 import { applied, fixesOf, isOffer } from "./fixes.js";
 import { onlyPlace } from "./moment.js";
+import { turningSigns } from "./lexer.js";
 import { lexemeAt, lexemeEnd, placeAt, placeWords } from "./places.js";
 import { show } from "./showing.js";
 import { input, page, program } from "./state.js";
 import { verdictOf } from "./verdict.js";
+
+// So many signs that can't be seen are warned of.
+const MOST_SIGNS = 20;
 
 export const atEnd = () => Boolean(page.run && page.moment?.isEnd);
 export const isBad = () => atEnd() && ["fault", "deadlock"].includes(verdictOf(page.run).kind);
@@ -23,7 +27,7 @@ function marks() {
   if (!run || page.isOld) return list;
   if (atEnd()) list.push(...verdictOf(run).spots.flatMap(({ places }) => kinded(places, places.length > 1 ? "either" : "stuck")));
   const place = onlyPlace(moment?.event);
-  if (place && !isBad()) list.push({ from: place.from, to: lexemeEnd(program.text, place.from), kind: "now" });
+  if (place && !atEnd()) list.push({ from: place.from, to: lexemeEnd(program.text, place.from), kind: "now" });
   return [...list, ...kinded(placesOf(chosen), "chain")];
 }
 
@@ -64,9 +68,16 @@ export function withPlaces(words) {
   return words.split(/\b(\d+:\d+)\b/).flatMap((it, i) => (i % 2 ? [button(it)] : quoted(it)));
 }
 
-function problem(mark) {
-  const editor = mark.where === "input" ? input : program, fixes = fixesOf(mark, program.text);
-  const buttons = fixes.map((it) => made("button", { className: "apply", onclick: () => apply(it) }, ...quoted(`Apply: ${it.words}`)));
+// Signs that can't be seen are warned of, whatever the module says of the text.
+function signs(where) {
+  const { text } = where === "input" ? input : program;
+  const words = (name) => `\`${name}\` can't be seen, and shows letters in another order`;
+  return turningSigns(text).slice(0, MOST_SIGNS).map((it) => ({ ...it, where, severity: "warning", words: words(it.name), helps: [], notes: [] }));
+}
+
+function problem(mark, fixes) {
+  const editor = mark.where === "input" ? input : program;
+  const buttons = fixes.map((it) => made("button", { className: "apply", onclick: () => apply(it) }, ...quoted(`Apply: ${it.words.replace(/^fix: /, "")}`)));
   const notes = mark.notes.map((it) => made("p", { className: "help" }, placeButton(it), " ", ...quoted(it.words)));
   const helps = mark.helps.filter((it) => !isOffer(it) || !fixes.length).map((it) => made("p", { className: "help" }, ...withPlaces(it)));
   const heading = made("p", {}, made("b", {}, mark.severity === "error" ? "Mistake: " : "Warning: "), ...quoted(mark.words));
@@ -74,14 +85,21 @@ function problem(mark) {
   return made("li", { className: mark.severity }, ...place, made("div", {}, heading, ...helps, ...notes), ...buttons);
 }
 
+let shown = "";
+
+// A list that says the same as before is left as it is.
 export function showProblems() {
-  const list = found(), more = page.check?.why.more ?? [];
+  const list = [...found(), ...signs("program"), ...signs("input")], more = page.check?.why.more ?? [], fixes = list.map((it) => fixesOf(it, program.text));
+  const now = JSON.stringify([list, fixes, more]);
+  if (now === shown) return;
+  shown = now;
   at("problems").hidden = !list.length;
-  at("problems").replaceChildren(...list.map(problem), ...more.map((it) => made("li", { className: "more" }, it)));
+  refill(at("problems"), ...list.map((it, i) => problem(it, fixes[i])), ...more.map((it) => made("li", { className: "more" }, it)));
   for (const it of ["program", "input"]) at(it).setAttribute("aria-invalid", list.some((one) => one.severity === "error" && one.where === it));
 }
 
 function apply(fix) {
   program.replace(applied(program.text, fix));
+  page.typed = undefined;
   program.goTo(fix.from, fix.from + fix.text.length);
 }

@@ -8,7 +8,7 @@ import { View } from "./view.js";
 // The least scale at which names can be read.
 const NAMED = 0.5;
 
-const ICONS = {
+export const ICONS = {
   ready: "M1 0L8 4.5L1 9z",
   waits: "M1 0H3.4V9H1zM5.6 0H8V9H5.6z",
   ended: "M0.5 0.5H8.5V8.5H0.5z",
@@ -109,7 +109,7 @@ export class Picture {
     return { group, icon, state, tip, node };
   }
 
-  // isResult: the end of a run in which something is red, so that nothing is blue.
+  // isResult: the end of a run, at which nothing is blue.
   update(moment, chosen, isResult) {
     this.boxes.forEach((it, i) => this.updateBox(it, moment, chosen, !isResult && moment.mover === it.node.i, this.view.small?.marks[i]));
     const waits = new Map(moment.processes.map((it, i) => [it.state === "waits" ? it.on : "", moment.ring.has(i)]));

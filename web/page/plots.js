@@ -3,7 +3,7 @@
 import { clipped, numbered, svg } from "./elements.js";
 import { cameOf } from "./moment.js";
 
-const NAMES = 128, NUMBERS = 50, LEFT = NAMES + NUMBERS, RIGHT = 10, STRIP = 30, PLOT = 68, AXIS = 24, APART = 6, LEAST_WIDTH = 280;
+const NAMES = 128, NUMBERS = 50, LEFT = NAMES + NUMBERS, RIGHT = 10, STRIP = 36, PLOT = 68, AXIS = 24, APART = 6, LEAST_WIDTH = 280;
 // So many values have a point each, or a step each; of more, each step goes from the least to the greatest of some.
 const MOST_POINTS = 160, MOST_DRAWN = 2400;
 
@@ -59,7 +59,7 @@ export class Plots {
     const low = lane.numbers.reduce((least, it) => Math.min(least, it), 0);
     const high = lane.numbers.reduce((most, it) => Math.max(most, it), low + 1);
     lane.yOf = (it) => y + height - 5 - ((height - 10) * (it - low)) / (high - low);
-    lane.value = words("", 8, y + (stream.isLogical ? 26 : 46), "value");
+    lane.value = words("", 8, y + (stream.isLogical ? 30 : 46), "value");
     lane.veil = svg("rect", { class: "veil", y, height });
     lane.cursor = svg("line", { class: "cursor", y1: y, y2: y + height });
     const names = [words(clipped(stream.name, 15), 8, y + 14, "name")];
@@ -104,8 +104,14 @@ export class Plots {
   axis(y, width) {
     const rough = this.last / Math.max(2, (width - LEFT) / 70), power = 10 ** Math.floor(Math.log10(Math.max(1, rough)));
     const step = [1, 2, 5, 10].map((it) => it * power).find((it) => it >= rough) ?? 1, ticks = [];
-    for (let at = this.isByEvent ? 0 : step; at <= this.last; at += step) ticks.push(svg("text", { x: this.xOf(at), y: y + 15, class: "tick" }, numbered(at)));
+    for (let at = this.isByEvent ? 0 : step; at <= this.last; at += step) ticks.push(this.tick(at, y, width));
     return svg("g", {}, svg("text", { x: 8, y: y + 15, class: "role" }, this.isByEvent ? "event" : "place"), ...ticks);
+  }
+
+  // A number of the axis, whole within the width.
+  tick(at, y, width) {
+    const words = numbered(at), half = 3.5 * words.length;
+    return svg("text", { x: Math.min(this.xOf(at), width - half - 2), y: y + 15, class: "tick" }, words);
   }
 
   // What hasn't come yet is veiled in each lane.

@@ -24,11 +24,12 @@ function* parts(bound) {
 
 const isLong = (texts) => new TextEncoder().encode(texts.program).length > MOST_EXPLAINED;
 
+const explanation = async (runner, texts, bound) => (isLong(texts) ? "" : runner.ask("explain", { ...texts, bound }));
+
 // Why a text is refused, what it is warned of, or why a run of it with this bound and this report ended; and how its network is wired, also if
 // only its input is refused.
 async function explained(runner, texts, bound, report) {
-  const isRefused = !isReport(report);
-  const words = isLong(texts) ? "" : await runner.ask("explain", { ...texts, bound });
+  const isRefused = !isReport(report), words = await explanation(runner, texts, bound);
   const why = readWhy(words, texts);
   if (isRefused && !why.marks.some((it) => it.severity === "error")) why.marks.push(faultOf(report, texts));
   const wiring = wiringOf(texts.program, await runner.ask("draw", texts));
@@ -40,8 +41,8 @@ export async function checked(runner, texts) {
   return explained(runner, texts, "0", (await runner.ask("run", { ...texts, bound: "0" })).report);
 }
 
-// told: what is known so far. Gives the run, or what refuses it.
-export async function ran(runner, texts, told) {
+// quantum: the most events of a turn, if the run finishes; told: what is known so far. Gives the run, or what refuses it.
+export async function ran(runner, texts, quantum, told) {
   let last, most, isByHand = false;
   const start = performance.now();
   try {
@@ -55,10 +56,14 @@ export async function ran(runner, texts, told) {
     if (error.message !== STOPPED || !last) throw error;
     isByHand = true;
   }
-  const about = await explained(runner, texts, most, last.report);
+  // (a run that is stopped by hand isn't made a second time before it is shown)
+  const about = await explained(runner, texts, isByHand ? "0" : most, last.report);
+  if (isByHand) about.why.reasons = [];
   if (last.memory > MOST_MEMORY) runner.end(LET_GO);
   if (about.isRefused) return about;
-  return new Run(runner, { ...about, text: last.report, isByHand, milliseconds: last.milliseconds }).begun();
+  const run = new Run(runner, { ...about, text: last.report, isByHand, most, milliseconds: last.milliseconds });
+  if (run.canTurn) run.quantum = quantum;
+  return run.begun();
 }
 
 // What each stream is: the number of its channel, or of the process that prints it. The channels come first, in order.
@@ -97,6 +102,18 @@ class Run {
   takeTurns(quantum) {
     Object.assign(this, { quantum, reports: new Map() });
     return this.begun();
+  }
+
+  // Where a run has finished, other turns come to the same.
+  get canTurn() {
+    return this.report.verdict.kind === "finished";
+  }
+
+  // Why a run that was stopped by hand came as far as it did; says whether that wasn't known.
+  async learnWhy() {
+    if (!this.isByHand || this.isLong) return false;
+    this.why = readWhy(await explanation(this.runner, this.texts, this.most), this.texts);
+    return true;
   }
 
   // What the module tells of a run to a bound that keeps all channels.

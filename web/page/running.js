@@ -1,8 +1,8 @@
 // What is said first; checks while one types, and runs.
 
 import { showLegend } from "./choosing.js";
-import { at, made, numbered, svg } from "./elements.js";
-import { example } from "./examples.js";
+import { at, made, numbered, refill, svg } from "./elements.js";
+import { example, nameOf } from "./examples.js";
 import { eitherButtons, quoted, remark, showProblems } from "./marking.js";
 import { checked, QUANTUM, ran, STOPPED } from "./run.js";
 import { lacking } from "./runner.js";
@@ -16,6 +16,8 @@ import { wiringInWords } from "./wiring.js";
 
 // Milliseconds after the last key until the text is checked, and of a run until it is said that it goes on.
 const PAUSE = 180, PATIENCE = 250;
+// Milliseconds after which mistakes in a line that isn't left are listed.
+const THOUGHT = 1000;
 const MOST_SPOTLINES = 4, MOST_SHOWN = 20000;
 const CIRCLE = "M10 1a9 9 0 110 18 9 9 0 010-18z", OCTAGON = "M6.5 1h7L19 6.5v7L13.5 19h-7L1 13.5v-7z", PENCIL = "M3 17l1-4L14 3l3 3L7 16z";
 const SIGNS = {
@@ -35,7 +37,7 @@ function tell({ kind, title, text, spots = [], canGoOn }) {
   at("sign").replaceChildren(svg("path", { d: SIGNS[kind] }));
   at("status").textContent = title;
   const rest = spots.length > MOST_SPOTLINES ? [` The tab Waits has ${numbered(spots.length - MOST_SPOTLINES)} more.`] : [];
-  at("details").replaceChildren(...quoted(text), ...spots.slice(0, MOST_SPOTLINES).map(spotLine), ...rest);
+  refill(at("details"), ...quoted(text), ...spots.slice(0, MOST_SPOTLINES).map(spotLine), ...rest);
   at("details").classList.toggle("several", spots.length > 1);
   const actions = [];
   if (kind === "edited") actions.push(made("button", { className: "main", onclick: runTexts }, "Run"));
@@ -51,13 +53,39 @@ export function fail(message) {
 
 let pause;
 
-export function edited() {
+// editor: the text in which somebody typed.
+export function edited(editor) {
   clearAddress();
-  page.name = "";
+  page.name = nameOf(texts());
   showName();
   stale();
+  noteTyping(editor);
   clearTimeout(pause);
   pause = setTimeout(() => { save(); check(); }, PAUSE);
+}
+
+// What is said once the line in which somebody types is left, and once nothing is typed for a while.
+let late, listing;
+
+const isTyping = () => Boolean(page.typed) && document.activeElement === page.typed.editor.field && page.typed.editor.line === page.typed.line;
+
+// A line that is ended by a new one is left.
+function noteTyping(editor) {
+  const { typed } = page, lines = editor?.text.split("\n").length;
+  page.typed = editor && (!typed || typed.editor !== editor || typed.lines === lines) ? { editor, line: editor.line, lines } : undefined;
+  forgetLate();
+}
+
+function forgetLate() {
+  clearTimeout(listing);
+  late = undefined;
+}
+
+export function lineLeft() {
+  if (!late || isTyping()) return;
+  const say = late;
+  forgetLate();
+  say();
 }
 
 export function showName() {
@@ -89,6 +117,15 @@ function showCheck(about) {
   remark();
 }
 
+// Marks the mistakes of a line in which somebody types; they are told later.
+function showQuietly(about) {
+  page.check = about;
+  remark();
+  showChanged();
+  late = () => { showProblems(); showRefused(about); };
+  listing = setTimeout(showProblems, THOUGHT);
+}
+
 // The verdict of the run that is shown, whose texts are there.
 function showVerdict() {
   stale(false);
@@ -104,7 +141,7 @@ function showRefused({ why }) {
 function showChanged() {
   stale();
   if (page.run) tell({ kind: "edited", title: "Changed since the last run", text: "What is shown below is of the texts before." });
-  else tell({ kind: "edited", title: "Not run yet", text: "The texts have no mistake." });
+  else tell({ kind: "edited", title: "Not run yet", text: page.check.isRefused ? "" : "The texts have no mistake." });
 }
 
 async function check() {
@@ -116,6 +153,10 @@ async function check() {
     if (!isSame(given, texts())) return;
     showInput(about.wiring);
     if (!page.run) showNetwork(about.wiring);
+    if (about.isRefused && isTyping() && at("verdict").className !== "refused") {
+      showQuietly(about);
+      return;
+    }
     showCheck(about);
     if (about.isRefused) showRefused(about);
     else if (page.run && isSame(page.run.texts, given) && isBound) showVerdict();
@@ -137,21 +178,29 @@ export async function runTexts() {
   }
   const number = (page.number += 1), given = texts(), isNewest = () => number === page.number;
   clearTimeout(pause);
+  page.typed = undefined;
+  forgetLate();
   stopPlaying();
   if (document.body.classList.contains("busy")) runner.end(STOPPED);
   busy(true);
-  const late = setTimeout(() => { stale(); tell({ kind: "busy", title: "Running", text: "Stop gives the values so far." }); }, PATIENCE);
+  const patience = setTimeout(() => showBusy("Running"), PATIENCE);
   try {
-    const run = await ran(runner, given, (events, milliseconds) => {
-      const text = `${(milliseconds / 1000).toFixed(1)} s. Stop gives the values so far.`;
-      if (isNewest()) tell({ kind: "busy", title: `Running: ${numbered(events)} events so far`, text });
+    const run = await ran(runner, given, page.isOther ? QUANTUM : page.turns, (events, milliseconds) => {
+      if (isNewest()) showBusy(`Running: ${numbered(events)} events so far`, `${(milliseconds / 1000).toFixed(1)} s. `);
     });
-    clearTimeout(late);
+    clearTimeout(patience);
     if (isNewest()) showOutcome(run, number);
   } catch (error) {
-    clearTimeout(late);
+    clearTimeout(patience);
     if (isNewest()) showFailure(error.message);
   }
+}
+
+// A run that takes long: what was marked and listed was of texts before.
+function showBusy(title, time = "") {
+  stale();
+  tell({ kind: "busy", title, text: `${time}Stop gives the values so far.` });
+  if (page.check && !isSame(page.check.texts, texts())) showCheck(undefined);
 }
 
 function showFailure(message) {
@@ -207,9 +256,21 @@ function shownOf(text) {
   }).join("\n");
 }
 
+// The step and the choice of the run before, as far as this one has them: a process by its name and number, or a channel by its name.
+function keptFor({ wiring: { processes, channels }, last }) {
+  const { run, k, chosen, isOther } = page;
+  if (!run || isOther) return { k: last, chosen: NOTHING };
+  const old = run.wiring.processes[chosen.process], name = run.wiring.channels[chosen.channel]?.name;
+  const process = old ? processes.findIndex((it) => it.name === old.name && it.number === old.number) : -1, channel = channels.find((it) => it.name === name);
+  const ends = channel ? [channel.writer, channel.reader].filter((it) => it >= 0) : [];
+  const kept = channel ? { channel: channel.number, channels: [channel.number], processes: ends } : NOTHING;
+  return { k: k < run.last ? Math.min(k, last) : last, chosen: process < 0 ? kept : { ...NOTHING, process } };
+}
+
 async function showRun(run, number) {
-  const isOld = !isSame(run.texts, texts()), { wiring } = run;
-  Object.assign(page, { run, moment: undefined, chosen: NOTHING, isOther: false });
+  const isOld = !isSame(run.texts, texts()), { wiring } = run, { k, chosen } = keptFor(run);
+  if (page.isOther) page.turns = QUANTUM;
+  Object.assign(page, { run, moment: undefined, chosen, isOther: false });
   at("results").dataset.shows = "run";
   showVerdict();
   if (!isOld) showCheck(run);
@@ -223,13 +284,22 @@ async function showRun(run, number) {
     stale();
     check();
   }
-  at("turns").value = String(QUANTUM);
-  at("turns").disabled = run.report.verdict.kind !== "finished";
-  await go(run.last);
+  at("turns").value = String(run.quantum);
+  at("turns").disabled = !run.canTurn;
+  await go(k);
   if (number !== page.number || !page.moment) return;
   const red = page.moment.processes.flatMap((it, i) => (it.state === "fault" ? [i] : []));
-  if (page.width) picture.reveal([...page.moment.ring, ...red]);
+  if (page.width && page.moment.isEnd) picture.reveal([...page.moment.ring, ...red]);
   showOrder(run);
+  if (await asked(run.learnWhy()) && page.run === run) showReasons();
+}
+
+// Why a run that was stopped by hand came as far as it did.
+function showReasons() {
+  if (page.isOld) return;
+  showVerdict();
+  showCheck(page.run);
+  update();
 }
 
 // Who did each event, as far as it is known by then.
@@ -246,7 +316,8 @@ async function showOrder(run) {
 export async function takeTurns() {
   const { run } = page;
   stopPlaying();
-  if (!(await asked(run.takeTurns(Number(at("turns").value)))) || page.run !== run) return;
+  page.turns = Number(at("turns").value);
+  if (!(await asked(run.takeTurns(page.turns))) || page.run !== run) return;
   showStreams();
   showSteps();
   await go(run.last);

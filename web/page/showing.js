@@ -1,9 +1,11 @@
 // Panes, tabs, and the field of the input.
 
 import { at } from "./elements.js";
-import { input, page, plots, store } from "./state.js";
+import { input, page, plots, program, store } from "./state.js";
 import { drawPicture, showScore, update } from "./steps.js";
 
+// The height of a text's heading and of the room below it; how many hundredths of the room a program takes at first.
+const HEAD = 50, LEAST_PROGRAM = 30, MOST_PROGRAM = 83;
 export const TABS = ["table", "plots", "waits", "report"];
 
 export function show(pane) {
@@ -21,6 +23,7 @@ export function showTab(name) {
     at(`tab-${it}`).tabIndex = it === name ? 0 : -1;
   }
   at("axis").hidden = name !== "plots";
+  at("colours").hidden = name !== "table";
   if (name === "plots" && page.run) plots.draw();
   if (page.moment) update();
 }
@@ -49,4 +52,11 @@ export function showInput(wiring) {
   at("noInput").hidden = isThere || !isKnown;
   at("inputs").textContent = names.length ? `values of ${names.join(", ")}` : isKnown ? "this program has no input channel" : "";
   at("input").placeholder = `${names[0] ?? "A"}: 1 2 3`;
+  if (isThere && store.state.panes?.["--program"] === undefined) shareRoom();
+}
+
+// A short program leaves its room to the input.
+function shareRoom() {
+  const room = at("texts").clientHeight, wanted = (100 * (program.ink.clientHeight + HEAD)) / Math.max(1, room);
+  at("main").style.setProperty("--program", `${Math.max(LEAST_PROGRAM, Math.min(MOST_PROGRAM, wanted))}%`);
 }

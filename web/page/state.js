@@ -4,6 +4,7 @@ import { at } from "./elements.js";
 import { Editor } from "./editor.js";
 import { Picture } from "./picture.js";
 import { Plots } from "./plots.js";
+import { QUANTUM } from "./run.js";
 import { Runner } from "./runner.js";
 import { Store } from "./store.js";
 import { Table } from "./table.js";
@@ -17,10 +18,11 @@ export const input = new Editor(at("input"), at("inputInk"), { isProgram: false 
 export const picture = new Picture(at("picture")), table = new Table(at("table")), plots = new Plots(at("plots"));
 
 // run: what is shown, isOld: of texts before; moment: at event k; chosen: by a press; check: what is marked; number: of the newest run;
+// typed: the line in which somebody types, and in which text; turns: the most events of a turn that were chosen;
 // width: for which the picture was drawn; name: of the example that the texts are; wiring: of the network that is drawn; isOrdered: whether it
 // is known who did the events; isOther: whether the texts were put in place of others since the run.
 export const page = {
-  run: undefined, isOld: false, moment: undefined, k: 0, chosen: NOTHING, check: undefined, number: 0, width: undefined,
+  run: undefined, isOld: false, moment: undefined, k: 0, chosen: NOTHING, typed: undefined, turns: QUANTUM, check: undefined, number: 0, width: undefined,
   wiring: undefined, isOrdered: false, isOther: false, tab: store.state.tab ?? "table", name: "",
 };
 

@@ -1,8 +1,8 @@
 // The slider over events, and what the page shows at each.
 
 import { chosenOf, showChain, showWaits } from "./choosing.js";
-import { at, made, numbered, svg } from "./elements.js";
-import { eitherButtons, isBad, remark } from "./marking.js";
+import { at, made, numbered, refill, svg } from "./elements.js";
+import { atEnd, eitherButtons, isBad, remark } from "./marking.js";
 import { onlyPlace } from "./moment.js";
 import { LET_GO, STOPPED } from "./run.js";
 import { fail } from "./running.js";
@@ -79,7 +79,7 @@ function showEvent() {
   at("slider").value = page.k;
   at("slider").setAttribute("aria-valuetext", `event ${numbered(moment.k)}: ${words}`);
   const parts = [made("b", {}, `Event ${numbered(moment.k)}`), made("span", { className: "hint" }, whole), " ", made("span", { className: "words" }, words)];
-  at("event").replaceChildren(...parts, ...places);
+  refill(at("event"), ...parts, ...places);
   at("toStart").disabled = at("back").disabled = page.k === 0;
   at("on").disabled = at("toEnd").disabled = page.k === run.last;
 }
@@ -88,14 +88,14 @@ function showEvent() {
 function revealPlace() {
   if (document.activeElement === at("program")) return;
   const place = isBad() ? verdictOf(page.run).spots[0]?.places[0] : onlyPlace(page.moment.event);
-  if (place) program.reveal(place.from);
+  if (place && (isBad() || !atEnd())) program.reveal(place.from);
 }
 
 export function update() {
   const { run, moment, chosen } = page;
   drawPicture();
-  if (page.width) picture.update(moment, chosen, isBad());
-  if (page.width && moment.mover >= 0 && !isBad()) picture.reveal([moment.mover]);
+  if (page.width) picture.update(moment, chosen, atEnd());
+  if (page.width && moment.mover >= 0 && !atEnd()) picture.reveal([moment.mover]);
   showEvent();
   if (page.tab === "table") table.update(moment, chosen);
   if (page.tab === "plots") plots.update(moment, chosen);

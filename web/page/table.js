@@ -41,7 +41,7 @@ export class Table {
   update(moment, chosen) {
     const isFirst = !this.moment, isOther = moment !== this.moment;
     Object.assign(this, { moment, chosen });
-    if (isFirst) this.place.scrollTo(0, 0);
+    if (isFirst && moment.isEnd) this.place.scrollTo(0, 0);
     else if (isOther) this.follow();
     this.fill();
     this.colour();
@@ -96,9 +96,9 @@ export class Table {
   }
 
   kindOf({ i, stream: { role, values } }, row) {
-    const { streams, event } = this.moment, { count, taken } = streams[i];
+    const { streams, event, isEnd } = this.moment, { count, taken } = streams[i];
     if (row >= values.length) return "none";
-    if (event?.stream === i && event.row === row) return event.kind === "take" ? "took" : "newest";
+    if (!isEnd && event?.stream === i && event.row === row) return event.kind === "take" ? "took" : "newest";
     return row >= count ? "later" : ROLES_INSIDE.includes(role) && row >= taken ? "waiting" : "past";
   }
 
