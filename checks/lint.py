@@ -142,6 +142,21 @@ def not_laid_out():
         yield from (line.replace(f"{TOP}/", "") for line in said.splitlines() if line.endswith(" is not in the layout"))
 
 
+def page_cycles():
+    """The modules of the page that import each other in a circle, and those that page.html puts before one that they import."""
+    named = re.findall(r"^@(\w+\.js)@$", read(f"{TOP}/web/page/page.html"), re.M)
+    imports = {it: re.findall(r'^import .* from "\./(\w+\.js)";$', read(f"{TOP}/web/page/{it}"), re.M) for it in named}
+    for it in named:
+        reached, following = set(), [it]
+        while following:
+            more = set(imports[following.pop()]) - reached
+            reached |= more
+            following += more
+        if it in reached:
+            yield f"web/page/{it}"
+        yield from (f"web/page/page.html: {it} comes before {other}" for other in imports[it] if named.index(other) > named.index(it) and it not in reached)
+
+
 PARTS = {
     "clauses over 160 characters": long_clauses,
     "names of specs that are defined more than once": names_twice,
@@ -153,6 +168,7 @@ PARTS = {
     "public items without words": without_words,
     "must-fail edits that can't be applied": unfit_edits,
     "files in another layout than rt fmt's": not_laid_out,
+    "modules of the page in import cycles": page_cycles,
 }
 
 

@@ -1,53 +1,11 @@
-// What is chosen by a press: a process with its chain of waits, or a channel; and how all processes stand.
+// What is chosen, in words; and how all processes stand.
 
 import { at, made, numbered, svg } from "./elements.js";
-import { lexemesOf } from "./lexer.js";
-import { atEnd, eitherButtons, placesOf, waitsOf, withPlaces } from "./marking.js";
-import { chainOf, stateWords } from "./moment.js";
+import { atEnd, eitherButtons, waitsOf, withPlaces } from "./marking.js";
+import { stateWords } from "./moment.js";
+import { choose, chooseNothing } from "./moves.js";
 import { ICONS } from "./picture.js";
-import { NOTHING, page, program } from "./state.js";
-import { asked, go, update } from "./steps.js";
-
-export function chosenOf({ process, channel }) {
-  const { channels } = page.run.wiring;
-  if (process !== undefined) return { process, ...chainOf(process, page.moment.processes, channels) };
-  const ends = channel === undefined ? [] : [channels[channel].writer, channels[channel].reader].filter((it) => it >= 0);
-  if (channel !== undefined) return { channel, channels: [channel], processes: ends };
-  return NOTHING;
-}
-
-export function choose({ process, channel }) {
-  if (!page.moment || page.isOld) return;
-  const isSameAgain = page.chosen !== NOTHING && page.chosen.process === process && page.chosen.channel === channel;
-  page.chosen = isSameAgain ? NOTHING : chosenOf({ process, channel });
-  update();
-  const [first] = placesOf(page.chosen);
-  if (first) program.reveal(first.from);
-}
-
-export function chooseNothing() {
-  page.chosen = NOTHING;
-  update();
-}
-
-export const chooseStream = ({ channel, print }) => choose(print === undefined ? { channel } : { process: print });
-
-// To the event by which a value came.
-export async function goToValue(stream, row) {
-  const k = page.run && !page.isOld ? await asked(page.run.eventOf(stream, row)) : undefined;
-  if (k !== undefined) await go(k);
-}
-
-// A press in the program on a channel or an instance chooses it.
-export function chooseAt(index) {
-  if (!page.moment || page.isOld) return;
-  const { channels, processes } = page.run.wiring;
-  const name = lexemesOf(program.text).find((it) => it.from <= index && index <= it.to && it.kind === "name");
-  const process = processes.findIndex((it) => it.from === name?.from), isInstances = index >= Math.min(...processes.map((it) => it.from));
-  const channel = channels.find((it) => it.name === name?.text && (isInstances || it.place?.from === name?.from));
-  page.chosen = chosenOf(process >= 0 ? { process } : { channel: channel?.number });
-  update();
-}
+import { follow, NOTHING, page } from "./state.js";
 
 function channelWords(number) {
   const { wiring } = page.run, it = wiring.channels[number], { count, taken } = page.moment.streams[number];
@@ -104,3 +62,8 @@ export function showLegend() {
   const waiting = shown("3", "16 9 4", "values that wait, the next one at the arrow's end"), both = [waiting, shown("5", "… 16", "values of an output, and the last one")];
   at("legend").replaceChildren(...words.map(([kind, word]) => made("span", {}, sign(kind), word)), ...both);
 }
+
+follow("moment", () => {
+  if (page.tab === "waits") showWaits();
+  showChain();
+});

@@ -1,17 +1,19 @@
 // The page begins: what its buttons and keys do, and which texts it opens with.
 
-import { choose, chooseAt, chooseNothing, chooseStream, goToValue } from "./choosing.js";
 import { at } from "./elements.js";
 import { FIRST } from "./examples.js";
+import { choose, chooseAt, chooseNothing, chooseStream, go, goToValue } from "./moves.js";
 import { divider } from "./panes.js";
 import { STOPPED } from "./run.js";
 import { lacking } from "./runner.js";
-import { edited, fail, lineLeft, runTexts, save, showBy, showName, takeTurns } from "./running.js";
-import { fit, show, showSigns, showTab, TABS } from "./showing.js";
-import { BOUND, input, NOTHING, page, picture, plots, program, runner, store, table } from "./state.js";
-import { go, play, playIcon, showPlay, stopPlaying } from "./steps.js";
+import { runTexts, showBy, takeTurns } from "./running.js";
+import { show, showSigns, showTab, TABS } from "./showing.js";
+import { BOUND, changed, input, NOTHING, page, picture, plots, program, runner, store, table } from "./state.js";
+import { play, playIcon, showPlay, stopPlaying } from "./steps.js";
 import { carried } from "./store.js";
-import { copyLink, downloadTexts, gallery, opened, put } from "./texts.js";
+import { fail } from "./telling.js";
+import { copyLink, downloadTexts, gallery, opened, put, save, showName } from "./texts.js";
+import { edited, lineLeft } from "./typing.js";
 
 // Milliseconds after the last change of the window's size until it is drawn again.
 const RESIZED = 120;
@@ -67,7 +69,7 @@ document.querySelectorAll("#panes button").forEach((it) => (it.onclick = () => s
 
 function paneMoved(name, to) {
   store.put({ panes: { ...store.state.panes, [name]: to } });
-  requestAnimationFrame(fit);
+  requestAnimationFrame(() => changed("room"));
 }
 
 const LINES = {
@@ -134,10 +136,10 @@ onresize = () => {
   clearTimeout(resizing);
   resizing = setTimeout(() => {
     showSigns(areSignsShown());
-    fit();
+    changed("room");
   }, RESIZED);
 };
-matchMedia("(prefers-color-scheme: dark)").addEventListener("change", fit);
+matchMedia("(prefers-color-scheme: dark)").addEventListener("change", () => changed("room"));
 
 // The texts of the link, or the last ones, or the first example.
 function begin() {

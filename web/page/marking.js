@@ -6,7 +6,7 @@ import { onlyPlace } from "./moment.js";
 import { turningSigns } from "./lexer.js";
 import { lexemeAt, lexemeEnd, placeAt, placeWords } from "./places.js";
 import { show } from "./showing.js";
-import { input, page, program } from "./state.js";
+import { follow, input, page, program } from "./state.js";
 import { verdictOf } from "./verdict.js";
 
 // So many signs that can't be seen are warned of.
@@ -103,3 +103,5 @@ function apply(fix) {
   page.typed = undefined;
   program.goTo(fix.from, fix.from + fix.text.length);
 }
+
+follow("moment", () => { if (!page.isOld) remark(); });

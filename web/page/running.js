@@ -1,109 +1,28 @@
-// What is said first; checks while one types, and runs.
+// Runs the texts, and shows what came of it.
 
 import { showLegend } from "./choosing.js";
-import { at, made, numbered, refill, svg } from "./elements.js";
-import { example, nameOf } from "./examples.js";
-import { eitherButtons, quoted, remark, showProblems } from "./marking.js";
-import { checked, QUANTUM, ran, STOPPED } from "./run.js";
-import { lacking } from "./runner.js";
-import { showInput } from "./showing.js";
-import { boundOf, checker, input, isSame, MOST_BOUND, NOTHING, page, picture, plots, program, runner, store, table, texts } from "./state.js";
-import { asked, drawPicture, go, showScore, showSteps, stopPlaying, update } from "./steps.js";
-import { clearAddress } from "./store.js";
-import { toast } from "./texts.js";
+import { at, made, numbered } from "./elements.js";
+import { remark, showProblems } from "./marking.js";
+import { go } from "./moves.js";
+import { QUANTUM, ran, STOPPED } from "./run.js";
+import { showInput, toast } from "./showing.js";
+import { boundOf, changed, isSame, MOST_BOUND, NOTHING, page, picture, plots, program, runner, table, texts } from "./state.js";
+import { drawPicture, showScore, showSteps, stopPlaying } from "./steps.js";
+import { asked, fail, tell } from "./telling.js";
 import { refusedVerdict, verdictOf } from "./verdict.js";
 import { wiringInWords } from "./wiring.js";
 
-// Milliseconds after the last key until the text is checked, and of a run until it is said that it goes on.
-const PAUSE = 180, PATIENCE = 250;
-// Milliseconds after which mistakes in a line that isn't left are listed.
-const THOUGHT = 1000;
-const MOST_SPOTLINES = 4, MOST_SHOWN = 20000;
-const CIRCLE = "M10 1a9 9 0 110 18 9 9 0 010-18z", OCTAGON = "M6.5 1h7L19 6.5v7L13.5 19h-7L1 13.5v-7z", PENCIL = "M3 17l1-4L14 3l3 3L7 16z";
-const SIGNS = {
-  finished: `${CIRCLE}M5.6 10.4l3 3 6-6.4`, deadlock: `${OCTAGON}M6 10h8`, fault: `${OCTAGON}M10 5v6M10 13.5v1.5`, refused: `${OCTAGON}M10 5v6M10 13.5v1.5`,
-  stopped: `${CIRCLE}M7.5 6.5v7M12.5 6.5v7`, busy: `${CIRCLE}M10 5v5.5l3.5 2`, edited: PENCIL,
-};
+// Milliseconds of a run until it is said that it goes on.
+const PATIENCE = 250;
+const MOST_SHOWN = 20000;
 
 function goOn() {
   at("bound").value = String(boundOf() * 10n);
   runTexts();
 }
 
-const spotLine = ({ lead, places }) => made("span", { className: "spot" }, ` ${lead}`, ...eitherButtons(places));
-
-function tell({ kind, title, text, spots = [], canGoOn }) {
-  at("verdict").className = kind;
-  at("sign").replaceChildren(svg("path", { d: SIGNS[kind] }));
-  at("status").textContent = title;
-  const rest = spots.length > MOST_SPOTLINES ? [` The tab Waits has ${numbered(spots.length - MOST_SPOTLINES)} more.`] : [];
-  refill(at("details"), ...quoted(text), ...spots.slice(0, MOST_SPOTLINES).map(spotLine), ...rest);
-  at("details").classList.toggle("several", spots.length > 1);
-  const actions = [];
-  if (kind === "edited") actions.push(made("button", { className: "main", onclick: runTexts }, "Run"));
-  if (canGoOn && boundOf() <= MOST_BOUND / 10n) actions.push(made("button", { onclick: goOn }, "Ten times the bound"));
-  at("actions").replaceChildren(...actions);
-}
-
-export function fail(message) {
-  const lacks = lacking(), lack = `This browser has no ${lacks.join(" and no ")}. A newer one has it.`;
-  const text = lacks.length ? lack : `${message}. Reload the page; if it stays so, another browser may run it.`;
-  tell({ kind: "refused", title: "The interpreter did not start", text });
-}
-
-let pause;
-
-// editor: the text in which somebody typed.
-export function edited(editor) {
-  clearAddress();
-  page.name = nameOf(texts());
-  showName();
-  stale();
-  noteTyping(editor);
-  clearTimeout(pause);
-  pause = setTimeout(() => { save(); check(); }, PAUSE);
-}
-
-// What is said once the line in which somebody types is left, and once nothing is typed for a while.
-let late, listing;
-
-const isTyping = () => Boolean(page.typed) && document.activeElement === page.typed.editor.field && page.typed.editor.line === page.typed.line;
-
-// A line that is ended by a new one is left.
-function noteTyping(editor) {
-  const { typed } = page, lines = editor?.text.split("\n").length;
-  page.typed = editor && (!typed || typed.editor !== editor || typed.lines === lines) ? { editor, line: editor.line, lines } : undefined;
-  forgetLate();
-}
-
-function forgetLate() {
-  clearTimeout(listing);
-  late = undefined;
-}
-
-export function lineLeft() {
-  if (!late || isTyping()) return;
-  const say = late;
-  forgetLate();
-  say();
-}
-
-export function showName() {
-  at("caption").textContent = page.name ? "Example" : "Program";
-  at("title").textContent = example(page.name)?.heading ?? "your own";
-}
-
-let isWarned = false;
-
-export function save() {
-  const isKept = store.putTexts({ program: program.text, input: input.text, bound: at("bound").value }, page.name);
-  onbeforeunload = isKept || page.name ? null : (event) => event.preventDefault();
-  if (!isKept && !isWarned) toast("This browser keeps no texts: download yours.");
-  isWarned = !isKept;
-}
-
 // The run that is shown is of texts before.
-function stale(isOld = true) {
+export function stale(isOld = true) {
   if (isOld) stopPlaying();
   if (!page.run) return;
   page.isOld = isOld;
@@ -111,59 +30,23 @@ function stale(isOld = true) {
 }
 
 // Shows what is marked in texts that were checked or run.
-function showCheck(about) {
+export function showCheck(about) {
   page.check = about;
   showProblems();
   remark();
 }
 
-// Marks the mistakes of a line in which somebody types; they are told later.
-function showQuietly(about) {
-  page.check = about;
-  remark();
-  showChanged();
-  late = () => { showProblems(); showRefused(about); };
-  listing = setTimeout(showProblems, THOUGHT);
-}
-
 // The verdict of the run that is shown, whose texts are there.
-function showVerdict() {
+export function showVerdict() {
+  const verdict = verdictOf(page.run), isMore = verdict.canGoOn && boundOf() <= MOST_BOUND / 10n;
   stale(false);
-  tell(verdictOf(page.run));
+  tell({ ...verdict, actions: isMore ? [made("button", { onclick: goOn }, "Ten times the bound")] : [] });
   if (page.run.isLong) at("details").append(" The program is over 32,768 bytes, so it is not explained.");
 }
 
-function showRefused({ why }) {
+export function showRefused({ why }) {
   stale();
   tell(refusedVerdict(why));
-}
-
-function showChanged() {
-  stale();
-  if (page.run) tell({ kind: "edited", title: "Changed since the last run", text: "What is shown below is of the texts before." });
-  else tell({ kind: "edited", title: "Not run yet", text: page.check.isRefused ? "" : "The texts have no mistake." });
-}
-
-async function check() {
-  const given = texts(), isBound = boundOf() !== undefined;
-  at("boundHelp").textContent = isBound ? "" : "a number from 0 to 281,474,976,710,655";
-  at("bound").setAttribute("aria-invalid", !isBound);
-  try {
-    const about = await checked(checker, given);
-    if (!isSame(given, texts())) return;
-    showInput(about.wiring);
-    if (!page.run) showNetwork(about.wiring);
-    if (about.isRefused && isTyping() && at("verdict").className !== "refused") {
-      showQuietly(about);
-      return;
-    }
-    showCheck(about);
-    if (about.isRefused) showRefused(about);
-    else if (page.run && isSame(page.run.texts, given) && isBound) showVerdict();
-    else showChanged();
-  } catch (error) {
-    if (error.message !== STOPPED) fail(error.message);
-  }
 }
 
 function busy(isBusy) {
@@ -177,9 +60,7 @@ export async function runTexts() {
     return;
   }
   const number = (page.number += 1), given = texts(), isNewest = () => number === page.number;
-  clearTimeout(pause);
-  page.typed = undefined;
-  forgetLate();
+  changed("run");
   stopPlaying();
   if (document.body.classList.contains("busy")) runner.end(STOPPED);
   busy(true);
@@ -217,7 +98,7 @@ function forget() {
 }
 
 // Shows the network of texts that weren't run, or that there is none yet.
-function showNetwork(wiring) {
+export function showNetwork(wiring) {
   at("results").dataset.shows = wiring ? "network" : "nothing";
   showWiring(wiring);
   if (wiring) drawPicture();
@@ -282,7 +163,7 @@ async function showRun(run, number) {
   showSteps();
   if (isOld) {
     stale();
-    check();
+    changed("texts");
   }
   at("turns").value = String(run.quantum);
   at("turns").disabled = !run.canTurn;
@@ -299,7 +180,7 @@ function showReasons() {
   if (page.isOld) return;
   showVerdict();
   showCheck(page.run);
-  update();
+  changed("moment");
 }
 
 // Who did each event, as far as it is known by then.
@@ -309,7 +190,7 @@ async function showOrder(run) {
   if (!isWanted()) return;
   page.isOrdered = true;
   showScore();
-  if (page.moment) update();
+  if (page.moment) changed("moment");
 }
 
 // The same run, with its processes more or less side by side.

@@ -1,17 +1,18 @@
-// Panes, tabs, and the field of the input.
+// Panes, tabs, notes, and the field of the input.
 
-import { at } from "./elements.js";
-import { input, page, plots, program, store } from "./state.js";
-import { drawPicture, showScore, update } from "./steps.js";
+import { at, made } from "./elements.js";
+import { changed, input, page, program, store } from "./state.js";
 
 // The height of a text's heading and of the room below it; how many hundredths of the room a program takes at first.
 const HEAD = 50, LEAST_PROGRAM = 30, MOST_PROGRAM = 83;
+// Milliseconds that a note stays, and one with a button.
+const NOTED = 4000, OFFERED = 12000;
 export const TABS = ["table", "plots", "waits", "report"];
 
 export function show(pane) {
   document.body.dataset.pane = pane;
   document.querySelectorAll("#panes button").forEach((it) => it.setAttribute("aria-current", it.dataset.to === pane));
-  if (page.wiring && pane !== "texts") requestAnimationFrame(fit);
+  if (page.wiring && pane !== "texts") requestAnimationFrame(() => changed("room"));
 }
 
 export function showTab(name) {
@@ -24,23 +25,13 @@ export function showTab(name) {
   }
   at("axis").hidden = name !== "plots";
   at("colours").hidden = name !== "table";
-  if (name === "plots" && page.run) plots.draw();
-  if (page.moment) update();
+  changed("tab");
 }
 
 // What the signs of the picture mean, below it.
 export function showSigns(isShown) {
   at("legend").hidden = !isShown;
   at("signs").setAttribute("aria-expanded", isShown);
-}
-
-// What depends on the size of the window is drawn again.
-export function fit() {
-  if (!page.run) drawPicture();
-  if (!page.moment) return;
-  showScore();
-  if (page.tab === "plots") plots.draw();
-  update();
 }
 
 // The field of the input is there if the program has an input, or the field a text. Of a program with a mistake it isn't known whether it has
@@ -59,4 +50,14 @@ export function showInput(wiring) {
 function shareRoom() {
   const room = at("texts").clientHeight, wanted = (100 * (program.ink.clientHeight + HEAD)) / Math.max(1, room);
   at("main").style.setProperty("--program", `${Math.max(LEAST_PROGRAM, Math.min(MOST_PROGRAM, wanted))}%`);
+}
+
+let toasting;
+
+export function toast(words, action, act) {
+  clearTimeout(toasting);
+  const close = () => at("toast").replaceChildren();
+  const buttons = action ? [made("button", { onclick: () => { close(); act(); } }, action)] : [];
+  at("toast").replaceChildren(made("p", {}, words), ...buttons);
+  toasting = setTimeout(close, action ? OFFERED : NOTED);
 }

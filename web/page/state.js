@@ -1,4 +1,5 @@
-// What the modules of the page share: its fields, its texts, and what is shown of which run.
+// What the modules of the page share: its fields, its texts, and what is shown of which run. Whoever changes that says so, and whoever shows
+// it follows; so no module that changes something has to know who shows it.
 
 import { at } from "./elements.js";
 import { Editor } from "./editor.js";
@@ -25,6 +26,17 @@ export const page = {
   run: undefined, isOld: false, moment: undefined, k: 0, chosen: NOTHING, typed: undefined, turns: QUANTUM, check: undefined, number: 0, width: undefined,
   wiring: undefined, isOrdered: false, isOther: false, tab: store.state.tab ?? "table", name: "",
 };
+
+// Who is called when something has changed: `moment`, the step and what is chosen; `room`, the sizes of what is shown; `tab`; `marks`.
+const followers = {};
+
+export function follow(what, act) {
+  (followers[what] ??= []).push(act);
+}
+
+export function changed(what) {
+  followers[what]?.forEach((act) => act());
+}
 
 // The bound, which may be written like 1e6; none if the field has no such number.
 export function boundOf() {

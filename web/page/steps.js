@@ -1,12 +1,10 @@
 // The slider over events, and what the page shows at each.
 
-import { chosenOf, showChain, showWaits } from "./choosing.js";
 import { at, made, numbered, refill, svg } from "./elements.js";
-import { atEnd, eitherButtons, isBad, remark } from "./marking.js";
+import { atEnd, eitherButtons, isBad } from "./marking.js";
 import { onlyPlace } from "./moment.js";
-import { LET_GO, STOPPED } from "./run.js";
-import { fail } from "./running.js";
-import { page, picture, plots, program, store, table } from "./state.js";
+import { go } from "./moves.js";
+import { changed, follow, page, picture, plots, program, store, table } from "./state.js";
 import { verdictOf } from "./verdict.js";
 
 // Seconds that a run plays for, and the milliseconds from one step to the next.
@@ -49,28 +47,6 @@ export function showScore() {
   }
 }
 
-// What a run is asked for, or nothing if its worker was ended meanwhile.
-export async function asked(answer) {
-  try {
-    return await answer;
-  } catch (error) {
-    if (error.message !== STOPPED && error.message !== LET_GO) fail(error.message);
-    return undefined;
-  }
-}
-
-export async function go(k) {
-  const { run } = page;
-  if (!run) return;
-  const to = Math.max(0, Math.min(run.last, k));
-  page.k = to;
-  const moment = await asked(run.momentAt(to));
-  if (!moment || page.k !== to || page.run !== run) return;
-  page.moment = moment;
-  if (page.chosen.process !== undefined) page.chosen = chosenOf({ process: page.chosen.process });
-  update();
-}
-
 function showEvent() {
   const { run, moment } = page, { event } = moment, isPast = page.k > run.steps;
   const words = event ? `${event.who} ${event.words}` : moment.k === 0 ? "nothing has happened yet" : "the end of the run";
@@ -91,19 +67,18 @@ function revealPlace() {
   if (place && (isBad() || !atEnd())) program.reveal(place.from);
 }
 
-export function update() {
-  const { run, moment, chosen } = page;
+function showPicture() {
+  const { moment, chosen } = page;
   drawPicture();
-  if (page.width) picture.update(moment, chosen, atEnd());
-  if (page.width && moment.mover >= 0 && !atEnd()) picture.reveal([moment.mover]);
-  showEvent();
+  if (!page.width) return;
+  picture.update(moment, chosen, atEnd());
+  if (moment.mover >= 0 && !atEnd()) picture.reveal([moment.mover]);
+}
+
+function showValues() {
+  const { moment, chosen } = page;
   if (page.tab === "table") table.update(moment, chosen);
   if (page.tab === "plots") plots.update(moment, chosen);
-  if (page.tab === "waits") showWaits();
-  showChain();
-  if (page.isOld) return;
-  remark();
-  revealPlace();
 }
 
 // Draws the network if the room has another width than before. Unless its height was chosen, the pane is as high as the picture.
@@ -145,3 +120,19 @@ export function showPlay() {
   at("play").setAttribute("aria-label", playing ? "Pause" : "Play");
   at("play").replaceChildren(playIcon(playing ? "pause" : "play"));
 }
+
+follow("moment", showPicture);
+follow("moment", showEvent);
+follow("moment", showValues);
+follow("moment", () => { if (!page.isOld) revealPlace(); });
+follow("tab", () => {
+  if (page.tab === "plots" && page.run) plots.draw();
+  if (page.moment) changed("moment");
+});
+follow("room", () => {
+  if (!page.run) drawPicture();
+  if (!page.moment) return;
+  showScore();
+  if (page.tab === "plots") plots.draw();
+  changed("moment");
+});

@@ -1,13 +1,25 @@
 // Texts in and out: examples, what was replaced, links and files.
 
 import { at, made } from "./elements.js";
-import { groups, isExample } from "./examples.js";
-import { runTexts, save, showName } from "./running.js";
+import { example, groups, isExample } from "./examples.js";
+import { runTexts } from "./running.js";
+import { toast } from "./showing.js";
 import { BOUND, input, page, program, store, texts } from "./state.js";
 import { clearAddress, download, linkOf, textsOf } from "./store.js";
 
-// Milliseconds that a note stays, and one with a button.
-const NOTED = 4000, OFFERED = 12000;
+export function showName() {
+  at("caption").textContent = page.name ? "Example" : "Program";
+  at("title").textContent = example(page.name)?.heading ?? "your own";
+}
+
+let isWarned = false;
+
+export function save() {
+  const isKept = store.putTexts({ program: program.text, input: input.text, bound: at("bound").value }, page.name);
+  onbeforeunload = isKept || page.name ? null : (event) => event.preventDefault();
+  if (!isKept && !isWarned) toast("This browser keeps no texts: download yours.");
+  isWarned = !isKept;
+}
 
 export function put({ program: text, input: given, bound }, name) {
   const old = { program: program.text, input: input.text, bound: at("bound").value, name: page.name }, isOwn = old.program.trim() !== "" && !isExample(old);
@@ -26,16 +38,6 @@ export function put({ program: text, input: given, bound }, name) {
   (activeElement === document.body ? at("examples") : activeElement).focus({ preventScroll: true });
   if (isOwn) toast(store.isKept ? "Your texts were replaced, and kept." : "Your texts were replaced.", "Undo", () => put(old, old.name));
   runTexts();
-}
-
-let toasting;
-
-export function toast(words, action, act) {
-  clearTimeout(toasting);
-  const close = () => at("toast").replaceChildren();
-  const buttons = action ? [made("button", { onclick: () => { close(); act(); } }, action)] : [];
-  at("toast").replaceChildren(made("p", {}, words), ...buttons);
-  toasting = setTimeout(close, action ? OFFERED : NOTED);
 }
 
 // In three columns, and of those that are kept the newest first.

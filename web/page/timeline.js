@@ -6,14 +6,14 @@
 const MOST_PARTS = 1000;
 
 const total = (numbers) => numbers.reduce((sum, it) => sum + it, 0);
-const changed = (from, to) => from.flatMap((it, i) => (it === to[i] ? [] : [i]));
+const grownOf = (from, to) => from.flatMap((it, i) => (it === to[i] ? [] : [i]));
 
 // What the ends of a gap leave open: who moved, or by which events the streams grew.
-const isOrderOpen = (from, to) => changed(from.events, to.events).length > 1;
+const isOrderOpen = (from, to) => grownOf(from.events, to.events).length > 1;
 
 function areTimesOpen(from, to) {
   const grown = total(to.counts) - total(from.counts);
-  return grown > 0 && (grown < total(to.events) - total(from.events) || changed(from.counts, to.counts).length > 1);
+  return grown > 0 && (grown < total(to.events) - total(from.events) || grownOf(from.counts, to.counts).length > 1);
 }
 
 export class Timeline {
@@ -60,12 +60,12 @@ export class Timeline {
 
   // The parts of the run as far as they are known: from which event to which, and the processes that did these.
   parts() {
-    return this.gaps().map(({ low, high, from, to }) => ({ low, high, movers: changed(from.events, to.events) }));
+    return this.gaps().map(({ low, high, from, to }) => ({ low, high, movers: grownOf(from.events, to.events) }));
   }
 
   ordered() {
     const order = new Uint8Array(this.steps);
-    for (const { low, high, from, to } of this.gaps()) order.fill(changed(from.events, to.events)[0], low, high);
+    for (const { low, high, from, to } of this.gaps()) order.fill(grownOf(from.events, to.events)[0], low, high);
     return order;
   }
 
@@ -78,7 +78,7 @@ export class Timeline {
   timed() {
     const times = this.known.get(0).counts.map(() => []);
     for (const { low, high, from, to } of this.gaps()) {
-      const grown = changed(from.counts, to.counts)[0];
+      const grown = grownOf(from.counts, to.counts)[0];
       if (grown !== undefined) for (let k = low + 1; k <= high; k++) times[grown].push(k);
     }
     return times;
