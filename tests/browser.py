@@ -16,8 +16,10 @@ import time
 SECONDS_TO_ANSWER, SECONDS_TO_OPEN = 90, 20
 # A key's number in Chromium, and its sign in WebDriver.
 KEYS = {"Enter": (13, "\ue007"), "Escape": (27, "\ue00c"), "Space": (32, " "), "PageDown": (34, "\ue00f"), "End": (35, "\ue010"), "Home": (36, "\ue011"),
-        "ArrowLeft": (37, "\ue012"), "ArrowRight": (39, "\ue014"), "ArrowDown": (40, "\ue015")}
-CONTROL = "\ue009"
+        "ArrowLeft": (37, "\ue012"), "ArrowUp": (38, "\ue013"), "ArrowRight": (39, "\ue014"), "ArrowDown": (40, "\ue015"), "Tab": (9, "\ue004"),
+        "N": (78, "n"), "P": (80, "p")}
+# Keys that are held, by their names in a session: the bit in Chromium, and the sign in WebDriver.
+HELD = {"": (0, ""), "alt": (1, "\ue00a"), "control": (2, "\ue009")}
 
 
 class Browser:
@@ -121,8 +123,8 @@ class Browser:
         self.resize(*self.shape)
         self.pause(300)
 
-    def key(self, name, control=False):
-        self.press(name, *KEYS[name], control)
+    def key(self, name, held=""):
+        self.press(name, *KEYS[name], *HELD[held])
         self.pause(60)
 
     def click(self, selector):
@@ -170,10 +172,10 @@ class Chromium(Browser):
         self.call("Emulation.setDeviceMetricsOverride", width=width, height=height, deviceScaleFactor=1, mobile=width < 500)
         self.call("Emulation.setEmulatedMedia", features=[{"name": "prefers-color-scheme", "value": scheme}])
 
-    def press(self, name, code, sign, control):
-        name = sign if name == "Space" else name
+    def press(self, name, code, sign, bit, _):
+        name = sign if name == "Space" or len(name) == 1 else name
         for kind in ("rawKeyDown", "keyUp"):
-            self.call("Input.dispatchKeyEvent", type=kind, key=name, code=name, windowsVirtualKeyCode=code, modifiers=2 * control)
+            self.call("Input.dispatchKeyEvent", type=kind, key=name, code=name, windowsVirtualKeyCode=code, modifiers=bit)
 
     def push(self, x, y):
         for kind in ("mousePressed", "mouseReleased"):
@@ -230,8 +232,8 @@ class Firefox(Browser):
     def act(self, kind, actions, **more):
         self.call("input.performActions", context=self.target, actions=[{"type": kind, "id": kind, "actions": actions, **more}])
 
-    def press(self, name, code, sign, control):
-        keys = [CONTROL] * control + [sign]
+    def press(self, name, code, sign, bit, held):
+        keys = [held] * bool(bit) + [sign]
         self.act("key", [{"type": "keyDown", "value": it} for it in keys] + [{"type": "keyUp", "value": it} for it in reversed(keys)])
 
     def push(self, x, y):

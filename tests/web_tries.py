@@ -31,7 +31,7 @@ def lacks(page, *words):
     page.open()
 
 
-DRIVEN = {"key": lambda page, name, *control: page.key(name, bool(control)), "click": lambda page, *words: page.click(" ".join(words)),
+DRIVEN = {"key": lambda page, *words: page.key(*words), "click": lambda page, *words: page.click(" ".join(words)),
           "open": lambda page, *words: page.open(*words), "size": lambda page, width, height, *scheme: page.size(int(width), int(height), *scheme),
           "refused": refused, "lacks": lacks, "shot": lambda page, name: page.shot(f"{TOP}/docs/pictures/{name}")}
 

@@ -57,6 +57,35 @@ end
     return found;
   },
 
+  // What is done by each event of what is chosen, and by whom: from the start on, or from the end back.
+  async ownEvents(isNext) {
+    const found = [];
+    await go(isNext ? 0 : Infinity);
+    for (let k = -1; k !== page.k; ) {
+      k = page.k;
+      await goToOwn(isNext);
+      if (k !== page.k) found.push([page.moment.event.words, page.moment.mover]);
+    }
+    at("toast").replaceChildren();
+    return found;
+  },
+  // The lines whose events, by runs to them, aren't those that the steps name.
+  async linesOfEvents() {
+    const { run } = page, byLine = new Map(), wrong = [], { text } = program;
+    for (let k = 1; k <= run.steps; k++) {
+      const { event } = await run.momentAt(k);
+      for (const it of new Set(event.places.map(({ from }) => placeAt(text, from).line))) byLine.set(it, [...(byLine.get(it) ?? []), k]);
+    }
+    for (const [line, events] of byLine) {
+      const from = indexAt(text, line, 1), gauge = ofPlaces(run, from, text.indexOf("\n", from)), found = [];
+      for (let k = await run.timeline.nextOf(gauge, 0); k !== undefined; k = await run.timeline.nextOf(gauge, k)) found.push(k);
+      const back = [];
+      for (let k = await run.timeline.previousOf(gauge, run.last + 1); k !== undefined; k = await run.timeline.previousOf(gauge, k)) back.unshift(k);
+      if (String(found) !== String(events) || String(back) !== String(events)) wrong.push([line, String(events), String(found), String(back)]);
+    }
+    return wrong;
+  },
+
   // A network of so many boxes by chance: to each leads one of the six before it, and to each second one of the three before it; some lead back.
   byChance(count, seed) {
     let at = seed * 7919 + 13;

@@ -98,6 +98,60 @@ Of an input the plot has what was taken, and so has the table.
   $ eachText("#table .took, #table .waiting, #picture .count, #picture .last")
   ["2", "9 8", "", "", "7", "8", "9"]
 
+From event to event of what is chosen.
+  $ shows("squares")
+  $ (document.activeElement.blur(), choose({ process: 1 }))
+  $ go(0)
+  $ key N
+  $ until(() => page.moment.step === page.k && page.k > 0)
+  $ [page.k, page.moment.event.words, page.chosen.process]
+  [12, "begins a turn of a loop", 1]
+  $ ownEvents(true).then((it) => [it.length, it.every(([, who]) => who === 1)])
+  [16, true]
+  $ key P
+  $ until(() => page.moment.step === page.k && page.k < page.run.last)
+  $ page.k
+  26
+  $ (choose({ channel: 0 }), ownEvents(true)).then((it) => it.map(([words]) => words).join())
+  "sends 0 on NUMBERS,sends 1 on NUMBERS,sends 2 on NUMBERS,sends 3 on NUMBERS,sends 4 on NUMBERS,takes 0 from NUMBERS,takes 1 from NUMBERS,takes 2 from NUMBERS,takes 3 from NUMBERS,takes 4 from NUMBERS"
+  $ ownEvents(false).then((it) => it.map(([words]) => words.split(" ")[0]).join())
+  "takes,takes,takes,takes,takes,sends,sends,sends,sends,sends"
+  $ goToValue(0, 2).then(() => at("chain").firstChild.textContent)
+  "NUMBERS value 3: 2 · waits"
+  $ ownEvents(true).then((it) => [it.map(([words]) => words), at("chain").firstChild.textContent])
+  [["sends 2 on NUMBERS", "takes 2 from NUMBERS"], "NUMBERS value 3: 2 · taken by 2 square"]
+  $ (chooseNothing(), goToOwn(true)).then(() => at("toast").textContent)
+  "Choose a process, a channel or a value first."
+
+Run to a line: of a process, of a declaration, of an instance.
+  $ go(0).then(() => runToLine(5)).then(() => [page.k, page.moment.event.words])
+  [12, "begins a turn of a loop"]
+  $ runToLine(5).then(() => [page.k, page.moment.event.words])
+  [13, "takes 0 from NUMBERS"]
+  $ go(0).then(() => runToLine(1)).then(() => page.moment.event.words)
+  "sends 0 on NUMBERS"
+  $ runToLine(6).then(() => page.k)
+  3
+  $ runToLine(7).then(() => at("toast").textContent)
+  "Line 7 has no event: no wait, send, print or loop."
+  $ go(Infinity)
+  $ (at("program").focus(), at("program").setSelectionRange(program.text.indexOf("wait"), program.text.indexOf("wait")))
+  $ key Enter alt
+  $ until(() => page.moment.step === page.k && page.k < page.run.last)
+  $ page.k
+  12
+  $ document.activeElement.blur()
+  $ (({ left, top }) => document.elementFromPoint(left + 12, top + 8).className)(document.querySelector("#programInk .line:nth-child(5)").getBoundingClientRect())
+  "line has-now"
+  $ void document.querySelector("#programInk .line:nth-child(5)").click()
+  $ until(() => page.moment.step === page.k && page.k !== 12)
+  $ page.k
+  13
+
+Each event of a line, in all lines of an example, is one at which it can have been.
+  $ shows("rates").then(linesOfEvents)
+  []
+
 At the end of a run nothing is blue but what waits.
   $ shows("squares")
   $ document.querySelectorAll("#picture .box.now, #picture .arrow.now, #programInk .now, #table .newest, #table .took").length

@@ -42,8 +42,8 @@ What becomes of a text by the words of a change.
   "a b"
 
 A change turns the old run grey at once, until it is taken back.
-  $ puts(programs.endless, { bound: "1000" })
-  $ (types(" "), at("results").classList.contains("old"))
+  $ puts(programs.endless)
+  $ (page.run.milliseconds = 1000, types(" "), at("results").classList.contains("old"))
   true
   $ until(() => at("verdict").className === "edited")
   $ told()[1]
@@ -54,7 +54,7 @@ A change turns the old run grey at once, until it is taken back.
   false
 
 Control and Enter run it, and so does Run, which keeps the focus.
-  $ key Enter 2
+  $ key Enter control
   $ until(settled)
   $ [document.activeElement.id, page.number > 1]
   ["program", true]

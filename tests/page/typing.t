@@ -1,7 +1,19 @@
 What the page does while somebody types, and what stays from one run to the next.
 
-A mistake is marked at once, and said once its line is left: nothing red before.
+A short run is made again while one types, at the same step and with the same picture.
   $ size 1400 900
+  $ shows("squares")
+  $ go(9)
+  $ (globalThis.before = picture.svg, typesAt("5)", "1"))
+  $ until(() => settled() && page.run.texts.program === program.text && page.moment.step === page.k)
+  $ [page.k, told()[1], eachText("#picture .values"), document.activeElement.id, picture.svg === before]
+  [9, "Finished after 77 events", ["N=15"], "program", false]
+  $ (globalThis.before = picture.svg, typesAt("W;", " "))
+  $ until(() => settled() && page.run.texts.program === program.text && page.moment.step === page.k)
+  $ [page.k, picture.svg === before]
+  [9, true]
+
+A mistake is marked at once, and said once its line is left: nothing red before.
   $ puts(programs.endless, { bound: "1000" })
   $ typesAt("send I", "sned ")
   $ until(() => eachText("#programInk .error").length > 0)

@@ -1,9 +1,9 @@
 // What is chosen, in words; and how all processes stand.
 
-import { at, made, numbered, svg } from "./elements.js";
+import { at, made, numbered, refill, svg } from "./elements.js";
 import { atEnd, eitherButtons, waitsOf, withPlaces } from "./marking.js";
 import { stateWords } from "./moment.js";
-import { choose, chooseNothing } from "./moves.js";
+import { choose, chooseNothing, goToOwn } from "./moves.js";
 import { ICONS } from "./picture.js";
 import { follow, NOTHING, page } from "./state.js";
 
@@ -13,6 +13,14 @@ function channelWords(number) {
   const read = it.role === "output" ? "" : `, ${numbered(taken ?? 0)} taken, ${numbered(count - taken)} wait`, kind = it.isLogical ? "logical" : "integer";
   const sent = it.role === "output" || taken !== undefined ? ` · ${numbered(count)} sent${read}` : "";
   return [made("span", {}, made("b", {}, it.name), ` ${kind} · from ${name(it.writer, "the input")} to ${name(it.reader, "the output")}${sent}`)];
+}
+
+// A value, its place, and whether it waits.
+function valueWords({ value: { stream, row } }) {
+  const { streams, wiring } = page.run, { name, role, channel, values } = streams[stream], { count, taken } = page.moment.streams[stream];
+  const reader = wiring.processes[wiring.channels[channel]?.reader], isThere = role === "input" || row < count;
+  const now = !isThere ? "comes later" : taken === undefined || !reader ? "has come" : row < taken ? `taken by ${reader.number} ${reader.name}` : "waits";
+  return [made("span", {}, made("b", {}, name), ` value ${numbered(row + 1)}: ${values[row]} · ${now}`)];
 }
 
 function chainWords({ processes, channels, ring }) {
@@ -31,7 +39,9 @@ export function showChain() {
   at("chain").hidden = chosen === NOTHING;
   if (chosen === NOTHING) return;
   const close = made("button", { className: "close", "aria-label": "Nothing chosen", title: "Esc", onclick: chooseNothing }, "×");
-  at("chain").replaceChildren(...(chosen.process === undefined ? channelWords(chosen.channel) : chainWords(chosen)), close);
+  const words = chosen.value ? valueWords(chosen) : chosen.process === undefined ? channelWords(chosen.channel) : chainWords(chosen);
+  const own = (isNext, label, title, sign) => made("button", { className: "own", "aria-label": label, title, onclick: () => goToOwn(isNext) }, sign);
+  refill(at("chain"), ...words, own(false, "Its event before", "P", "‹"), own(true, "Its next event", "N", "›"), close);
 }
 
 function whyOf(number) {

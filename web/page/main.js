@@ -2,7 +2,7 @@
 
 import { at } from "./elements.js";
 import { FIRST } from "./examples.js";
-import { choose, chooseAt, chooseNothing, chooseStream, go, goToValue } from "./moves.js";
+import { choose, chooseAt, chooseNothing, chooseStream, go, goToOwn, goToValue, runToLine } from "./moves.js";
 import { divider } from "./panes.js";
 import { STOPPED } from "./run.js";
 import { lacking } from "./runner.js";
@@ -38,6 +38,10 @@ at("copy").onclick = copyLink;
 at("by").onchange = showBy;
 at("turns").onchange = takeTurns;
 at("program").onclick = () => chooseAt(at("program").selectionStart);
+at("programInk").onclick = ({ target }) => {
+  stopPlaying();
+  runToLine([...at("programInk").children].indexOf(target.closest(".line")) + 1);
+};
 
 function goByHand(k) {
   stopPlaying();
@@ -108,6 +112,12 @@ onkeydown = (event) => {
     runTexts();
   } else if (event.key === "Escape" && page.chosen !== NOTHING && !document.querySelector("dialog[open]")) {
     chooseNothing();
+  } else if (event.key === "Enter" && event.altKey && event.target === at("program")) {
+    event.preventDefault();
+    runToLine(program.line);
+  } else if (page.run && /^[np]$/i.test(event.key) && !isTaken(event)) {
+    stopPlaying();
+    goToOwn(/n/i.test(event.key));
   } else if (page.wiring && SIZES[event.key] && !isTaken(event)) {
     SIZES[event.key]();
   } else if (page.run && !isTaken(event)) {

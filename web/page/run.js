@@ -93,7 +93,9 @@ class Run {
     const told = new Map(this.report.streams.map((it) => [it.name, it]));
     this.final = this.end ?? { ...this.report, streams: first.streams.map((it) => told.get(it.name) ?? new Stream({ ...it, taken: undefined })) };
     this.streams = streamsOf(this.final.streams, this.wiring);
-    const numbers = ({ ends, streams }) => ({ events: ends.map((it) => it.events), counts: streams.map((it, i) => cameOf(this.streams[i], it)) });
+    const numbers = ({ ends, streams }) => ({
+      events: ends.map((it) => it.events), counts: streams.map((it, i) => cameOf(this.streams[i], it)), taken: streams.map((it) => it.taken ?? 0),
+    });
     this.timeline = new Timeline(numbers(first), async (k) => numbers(await this.reportAt(k)));
     return this;
   }
@@ -150,6 +152,6 @@ class Run {
 
   // The event by which a value of a stream came: one of the steps, or the end.
   async eventOf(stream, row) {
-    return (await this.timeline.firstWith(stream, row + 1)) ?? this.last;
+    return (await this.timeline.firstWith(({ counts }) => counts[stream], row + 1)) ?? this.last;
   }
 }

@@ -104,10 +104,16 @@ export function showNetwork(wiring) {
   if (wiring) drawPicture();
 }
 
+// What the picture of a network shows before it runs. One that looks the same isn't drawn again, and stays as large as it is.
+function looksOf({ processes, channels }) {
+  return JSON.stringify([processes.map(({ number, name, values, prints }) => [number, name, values, prints]), channels.map(({ name, isLogical, writer, reader }) => [name, isLogical, writer, reader])]);
+}
+
 // The network in words, and the one that is drawn next.
 function showWiring(wiring) {
-  const { processes, channels } = wiring ?? NOTHING;
-  Object.assign(page, { wiring, width: undefined });
+  const { processes, channels } = wiring ?? NOTHING, isDrawn = wiring && page.width && looksOf(wiring) === looksOf(page.wiring);
+  if (isDrawn) picture.wiring = wiring;
+  Object.assign(page, { wiring, width: isDrawn ? page.width : undefined });
   at("wiring").replaceChildren(...(wiring ? wiringInWords(wiring) : []).map((it) => made("li", {}, it)));
   at("picture").setAttribute("aria-label", `Picture of the network: ${processes.length} processes and ${channels.length} channels`);
 }

@@ -1,4 +1,4 @@
-// How many events each process has done, and how many values each stream has, at each bound. The proved run at a bound says it. These
+// How many events each process has done, and how many values each stream has and has given, at each bound. The proved run at a bound says it. These
 // numbers only grow, and the events add up to the bound; so between two bounds of which only one process moved the events are known
 // without a run. Any other gap is halved until time is up.
 
@@ -19,7 +19,7 @@ function areTimesOpen(from, to) {
 export class Timeline {
   // end: the numbers at the last step; ask: those at a bound, from the module.
   constructor(end, ask) {
-    const start = { events: end.events.map(() => 0), counts: end.counts.map(() => 0) }, steps = total(end.events);
+    const zeros = (list) => list.map(() => 0), start = { events: zeros(end.events), counts: zeros(end.counts), taken: zeros(end.taken) }, steps = total(end.events);
     Object.assign(this, { steps, ask, bounds: [...new Set([0, steps])], known: new Map([[0, start], [steps, end]]), order: undefined, times: undefined });
   }
 
@@ -84,15 +84,25 @@ export class Timeline {
     return times;
   }
 
-  // The first event behind which a stream has so many values, or none.
-  async firstWith(stream, count) {
-    if (this.known.get(this.steps).counts[stream] < count) return undefined;
+  // The first event after which a gauge, a number that only grows, is so much, or none.
+  async firstWith(gauge, least) {
+    if (gauge(this.known.get(this.steps)) < least) return undefined;
     let low = 0, high = this.steps;
     while (high - low > 1) {
-      const middle = (low + high) >> 1, { counts } = await this.learn(middle);
-      if (counts[stream] < count) low = middle;
+      const middle = (low + high) >> 1;
+      if (gauge(await this.learn(middle)) < least) low = middle;
       else high = middle;
     }
     return high;
+  }
+
+  // The next event past k by which a gauge grows, or the last one before k; or none.
+  async nextOf(gauge, k) {
+    return k < this.steps ? this.firstWith(gauge, gauge(await this.learn(k)) + 1) : undefined;
+  }
+
+  async previousOf(gauge, k) {
+    const least = k > 0 ? gauge(await this.learn(Math.min(k, this.steps + 1) - 1)) : 0;
+    return least > 0 ? this.firstWith(gauge, least) : undefined;
   }
 }

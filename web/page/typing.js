@@ -13,6 +13,8 @@ import { save, showName } from "./texts.js";
 
 // Milliseconds after the last key until the text is checked, and until the mistakes of a line that isn't left are listed.
 const PAUSE = 180, THOUGHT = 1000;
+// So many milliseconds a run may take, and so many processes have, that is made again while somebody types.
+const QUICK = 50, MOST_DRAWN_AT_ONCE = 60;
 
 let pause;
 
@@ -67,6 +69,9 @@ function showChanged() {
   else tell({ kind: "edited", title: "Not run yet", text: page.check.isRefused ? "" : "The texts have no mistake.", actions });
 }
 
+// Whether the last run took so little time that each other text can be run while somebody types.
+const isQuick = (run) => run !== undefined && run.milliseconds < QUICK && !run.isByHand && !run.isLong && run.wiring.processes.length <= MOST_DRAWN_AT_ONCE;
+
 async function check() {
   const given = texts(), isBound = boundOf() !== undefined;
   at("boundHelp").textContent = isBound ? "" : "a number from 0 to 281,474,976,710,655";
@@ -83,6 +88,7 @@ async function check() {
     showCheck(about);
     if (about.isRefused) showRefused(about);
     else if (page.run && isSame(page.run.texts, given) && isBound) showVerdict();
+    else if (isBound && isQuick(page.run)) runTexts();
     else showChanged();
   } catch (error) {
     if (error.message !== STOPPED) fail(error.message);
