@@ -233,3 +233,49 @@ Space plays and pauses.
   $ key Space
   $ at("play").getAttribute("aria-label")
   "Play"
+
+By keys in the picture: Tab leads to a box, arrows to what is beside, Enter chooses it; with a mouse the arrows are those of the steps.
+  $ shows("squares")
+  $ go(14)
+  $ (picture.stops[0].element.focus(), globalThis.before = page.k)
+  $ key ArrowRight
+  $ document.activeElement.querySelector("title").textContent
+  "NUMBERS: 5 sent, 1 taken, 4 wait"
+  $ key ArrowRight
+  $ document.activeElement.querySelector("title").textContent
+  "2 square: ready to go on, after 3 events"
+  $ key Enter
+  $ [page.chosen.process, page.k === before, document.querySelectorAll("#picture [tabindex='0']").length]
+  [1, true, 1]
+  $ click #picture .box
+  $ [document.activeElement.id, page.chosen.process]
+  ["picture", 0]
+  $ key ArrowRight
+  $ until(() => page.moment.step === 15)
+  $ chooseNothing()
+
+By keys in the table: one stop for Tab, arrows to what is beside, Enter to the event of a value.
+  $ shows("sieve")
+  $ document.querySelectorAll("#table [tabindex='0']").length
+  1
+  $ document.querySelector("#table [tabindex='0']").focus()
+  $ key ArrowRight
+  $ document.activeElement.firstChild.textContent === page.run.streams[table.columns[1].i].name
+  true
+  $ (async () => { while (document.activeElement.firstChild.textContent !== "NUMBERS") document.activeElement.dispatchEvent(new KeyboardEvent("keydown", { key: "ArrowRight", bubbles: true })); })()
+  $ (async () => { for (let i = 0; i < 40; i++) document.activeElement.dispatchEvent(new KeyboardEvent("keydown", { key: "ArrowDown", bubbles: true })); })()
+  $ [table.here.row, document.activeElement === table.cells[39 - table.first].each[table.here.column], isInSight(document.activeElement), document.querySelectorAll("#table [tabindex='0']").length]
+  [39, true, true, 1]
+  $ key Enter
+  $ until(() => page.moment.step === page.k && page.k < page.run.last)
+  $ [page.moment.event.row, document.activeElement.tagName]
+  [39, "TD"]
+  $ at("table").scrollTo(0, 0)
+  $ until(() => table.first === 0)
+  $ document.activeElement.id
+  "table"
+  $ click #table .stream
+  $ [document.activeElement.id, page.chosen.channel !== undefined]
+  ["table", true]
+  $ key ArrowRight
+  $ (chooseNothing(), document.activeElement.blur())

@@ -16,6 +16,10 @@ export const ICONS = {
   unknown: "",
 };
 
+// What keys lead to; how much farther something aside is; and where each arrow key leads.
+const STOP = { role: "button", tabindex: -1 }, ASIDE = 2;
+const WAYS = { ArrowLeft: [-1, 0], ArrowRight: [1, 0], ArrowUp: [0, -1], ArrowDown: [0, 1] };
+
 const shortly = (it) => (it < 10000 ? numbered(it) : it.toLocaleString("en", { notation: "compact", maximumFractionDigits: 1 }));
 const classesOf = (...classes) => classes.filter(Boolean).join(" ");
 
@@ -56,6 +60,12 @@ export class Picture {
   constructor(place) {
     Object.assign(this, { place, scale: 1, choose: () => {} });
     this.view = new View(place, MOST_SCALE, (scale) => this.scaled(scale));
+    place.addEventListener("keydown", (event) => this.key(event));
+    // (with a mouse the arrow keys stay those of the steps)
+    place.addEventListener("mousedown", (event) => {
+      event.preventDefault();
+      place.focus({ preventScroll: true });
+    });
   }
 
   draw(wiring) {
@@ -65,8 +75,11 @@ export class Picture {
     const heads = ["", "now", "ring", "chain"].map((it) => svg("marker", { id: `head${it}`, class: it, ...size }, svg("path", { d: "M0 0L9 4L0 8z" })));
     this.arrows = laid.edges.map((it) => this.arrow(it));
     this.boxes = laid.boxes.map((it) => this.box(it));
-    const words = laid.edges.filter((it) => it.word).map(({ word, wordAt: [x, y] }) => svg("text", { x, y, class: "end" }, word));
-    this.svg = svg("svg", { class: "whole", "aria-hidden": "true" }, svg("defs", {}, ...heads),
+    const words = laid.edges.filter((it) => it.word).map(({ word, wordAt: [x, y] }) => svg("text", { x, y, class: "end", "aria-hidden": "true" }, word));
+    this.stops = [...this.boxes.map(({ group, node }) => ({ ...node, element: group })),
+      ...this.arrows.map(({ label }, i) => ({ x: laid.edges[i].nameAt[0], y: laid.edges[i].nameAt[1], width: 0, height: 0, element: label }))];
+    this.stops[0]?.element.setAttribute("tabindex", 0);
+    this.svg = svg("svg", { class: "whole", role: "presentation" }, svg("defs", {}, ...heads),
       ...this.arrows.map((it) => it.line), ...words, ...this.boxes.map((it) => it.group), ...this.arrows.map((it) => it.label));
     this.view.open(this.svg, laid, laid.boxes, laid.isDown ? READABLE : 0);
     this.place.replaceChildren(this.svg, ...(this.view.small ? [this.view.small.element] : []));
@@ -81,9 +94,9 @@ export class Picture {
   arrow({ number, path, nameAt, valuesAt: [x, y], isBack }) {
     const channel = this.wiring.channels[number], kind = channel.isLogical ? "line dashed" : "line";
     const shown = svg("path", { d: path, class: kind, "marker-end": "url(#head)" });
-    const line = svg("g", { class: "arrow" }, svg("path", { d: path, class: "touch" }), shown);
+    const line = svg("g", { class: "arrow", "aria-hidden": "true" }, svg("path", { d: path, class: "touch" }), shown);
     const count = svg("text", { class: "count", y, x }), last = svg("text", { class: "last", y }), tip = svg("title");
-    const label = svg("g", { class: "label" }, svg("text", { x: nameAt[0], y: nameAt[1], class: "name" }, channel.name), count, last, tip);
+    const label = svg("g", { class: "label", ...STOP }, svg("text", { x: nameAt[0], y: nameAt[1], class: "name" }, channel.name), count, last, tip);
     for (const it of [line, label]) it.addEventListener("click", () => this.choose({ channel: number }));
     return { line, shown, label, count, last, tip, labelX: x, isBack };
   }
@@ -104,7 +117,7 @@ export class Picture {
     const parts = [frame(5, "halo"), frame(0, "frame"), title, icon, state, far, tip];
     if (node.prints) parts.push(svg("path", { class: "prints", d: slip }));
     if (node.values) parts.push(svg("text", { class: "values", x: left + 10, y: middle + 10 }, node.values));
-    const group = svg("g", { class: "box" }, ...parts);
+    const group = svg("g", { class: "box", ...STOP }, ...parts);
     group.addEventListener("click", () => this.choose({ process: node.i }));
     return { group, icon, state, tip, node };
   }
@@ -147,6 +160,26 @@ export class Picture {
     const newest = stream.count ? `, the last is ${stream.last}` : "";
     const more = isOutput ? newest : `, ${numbered(stream.taken ?? 0)} taken, ${numbered(waiting)} wait`;
     say(tip, isKnown ? `${name}: ${numbered(stream.count)} sent${more}` : name);
+  }
+
+  // An arrow key leads to the nearest box or name that way, Enter chooses it.
+  key(event) {
+    const here = this.stops?.find((it) => it.element === event.target), [dx, dy] = WAYS[event.key] ?? [], { ctrlKey, metaKey, altKey } = event;
+    if (!here || ctrlKey || metaKey || altKey || (dx === undefined && event.key !== "Enter")) return;
+    event.preventDefault();
+    event.stopPropagation();
+    if (dx === undefined) {
+      here.element.dispatchEvent(new MouseEvent("click", { bubbles: true }));
+      return;
+    }
+    const away = (it) => ({ it, along: dx * (it.x - here.x) + dy * (it.y - here.y), across: Math.abs(dy * (it.x - here.x) + dx * (it.y - here.y)) });
+    const found = this.stops.filter((it) => it.element.checkVisibility()).map(away).filter(({ along, across }) => along > 1 && across <= 2 * along);
+    const next = found.sort((a, b) => a.along + ASIDE * a.across - b.along - ASIDE * b.across)[0]?.it;
+    if (!next) return;
+    here.element.setAttribute("tabindex", -1);
+    next.element.setAttribute("tabindex", 0);
+    next.element.focus({ preventScroll: true });
+    this.view.reveal(next);
   }
 
   // Moves the picture so far that the first of these boxes is seen.

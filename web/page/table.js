@@ -12,8 +12,9 @@ const columnsOf = (streams) => streams.map((stream, i) => ({ stream, i })).sort(
 
 export class Table {
   constructor(place) {
-    Object.assign(this, { place, columns: [], cells: [], first: -1, choose: () => {}, goTo: () => {} });
+    Object.assign(this, { place, columns: [], cells: [], first: -1, here: { row: -1, column: 0 }, choose: () => {}, goTo: () => {} });
     place.addEventListener("scroll", () => this.fill());
+    place.addEventListener("keydown", (event) => this.key(event));
     place.addEventListener("click", ({ target }) => this.click(target.closest("td")));
   }
 
@@ -25,15 +26,21 @@ export class Table {
     this.body = made("tbody", {}, this.space(this.rows));
     const corner = made("th", { scope: "col", className: "place" }, "place");
     this.top = made("thead", {}, made("tr", {}, corner, ...this.columns.map((it) => it.head)));
+    // (with a mouse the arrow keys stay those of the steps)
+    this.top.addEventListener("mousedown", (event) => {
+      event.preventDefault();
+      this.place.focus({ preventScroll: true });
+    });
     const isCut = streams.some((it) => it.count > it.values.length), isPart = !isWhole && streams.some((it) => ROLES_INSIDE.includes(it.role));
     const words = [isCut && `The first ${numbered(this.rows)} values of each are shown.`, isPart && `Of channels that are no outputs, those of the first ${numbered(steps)} events.`];
     this.hint = isCut || isPart ? made("p", { className: "hint" }, words.filter(Boolean).join(" ")) : undefined;
-    this.place.replaceChildren(...(this.hint ? [this.hint] : []), made("table", { "aria-rowcount": this.rows + 1 }, this.top, this.body));
-    Object.assign(this, { moment: undefined, cells: [], first: -1 });
+    this.place.replaceChildren(...(this.hint ? [this.hint] : []), made("table", { role: "grid", "aria-rowcount": this.rows + 1 }, this.top, this.body));
+    Object.assign(this, { moment: undefined, cells: [], first: -1, here: { row: -1, column: 0 } });
+    this.stop();
   }
 
   head(stream) {
-    const act = { className: "stream", title: "Its process and places", onclick: () => this.choose(stream) };
+    const act = { className: "stream", title: "Its process and places", tabIndex: -1, onclick: () => this.choose(stream) };
     return made("th", { scope: "col" }, made("button", act, stream.name, made("small", {}, stream.role)));
   }
 
@@ -50,12 +57,14 @@ export class Table {
   // Scrolls to the value that came or went.
   follow() {
     const { event, k } = this.moment, column = this.columns.find((it) => it.i === event?.stream);
-    if (!column) {
-      if (k === 0) this.place.scrollTop = 0;
-      return;
-    }
+    if (column) this.reveal(column, event.row);
+    else if (k === 0) this.place.scrollTop = 0;
+  }
+
+  // Scrolls so far that a row of a column is in sight.
+  reveal(column, row) {
     const { scrollTop, scrollLeft, clientHeight, clientWidth } = this.place, { offsetLeft, offsetWidth } = column.head, room = clientHeight - this.top.offsetHeight;
-    const corner = this.top.rows[0].cells[0].offsetWidth, y = (this.hint?.offsetHeight ?? 0) + event.row * ROW;
+    const corner = this.top.rows[0].cells[0].offsetWidth, y = (this.hint?.offsetHeight ?? 0) + row * ROW;
     const isAbove = y < scrollTop + ABOVE * ROW, isBelow = y + (1 + BELOW) * ROW > scrollTop + room;
     if (isAbove || isBelow) this.place.scrollTop = y - Math.max(0, Math.min(ABOVE * ROW, room - 2 * ROW));
     if (offsetLeft < scrollLeft + corner || offsetLeft + offsetWidth > scrollLeft + clientWidth) this.place.scrollLeft = offsetLeft - corner - ROW;
@@ -69,8 +78,38 @@ export class Table {
     if (first === this.first && this.cells.length === last - first) return;
     this.first = first;
     this.cells = Array.from({ length: Math.max(0, last - first) }, (_, i) => this.row(first + i));
+    const isHere = this.body.contains(document.activeElement);
     this.body.replaceChildren(this.space(first), ...this.cells.map((it) => it.line), this.space(this.rows - last));
     this.colour();
+    this.stop(isHere);
+  }
+
+  // The head or the cell to which Tab leads, if it is in the document; and whether it has the focus.
+  stop(isFocused = false) {
+    const { row, column } = this.here, cell = row < 0 ? this.columns[column]?.head.firstChild : this.cells[row - this.first]?.each[column];
+    const next = cell ?? this.columns[column]?.head.firstChild;
+    if (this.stopped !== next && this.stopped) this.stopped.tabIndex = -1;
+    this.stopped = next;
+    if (next) next.tabIndex = 0;
+    if (isFocused) (cell ?? this.place).focus({ preventScroll: true });
+  }
+
+  // An arrow key leads to what is beside, Enter to the event of the value.
+  key(event) {
+    const [down, right] = { ArrowUp: [-1, 0], ArrowDown: [1, 0], ArrowLeft: [0, -1], ArrowRight: [0, 1] }[event.key] ?? [], { row, column } = this.here;
+    const isCell = event.target.matches("td"), isOurs = isCell || event.target.matches(".stream");
+    if (!isOurs || event.ctrlKey || event.metaKey || event.altKey || (down === undefined && !(isCell && event.key === "Enter"))) return;
+    event.preventDefault();
+    event.stopPropagation();
+    if (down === undefined) {
+      this.click(event.target);
+      return;
+    }
+    const within = (it, most) => Math.max(0, Math.min(most, it));
+    this.here = { row: Math.max(-1, Math.min(this.rows - 1, row + down)), column: within(column + right, this.columns.length - 1) };
+    this.reveal(this.columns[this.here.column], this.here.row);
+    this.fill();
+    this.stop(true);
   }
 
   // The room of rows that aren't in the document.
