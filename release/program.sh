@@ -26,8 +26,8 @@ is_program() {
   return 1
 }
 
-# pages: the manual pages, the completions, and the page with what tells its place, one a line: its file here, and where it stands below a
-# prefix.
+# pages: the manual pages, the completions, the scripts, and the page with what tells its place, one a line: its file here, and where it stands
+# below a prefix.
 pages() {
   local name
   for name in "${programs[@]}"; do
@@ -36,8 +36,12 @@ pages() {
     echo "editors/completions/$name.fish share/fish/vendor_completions.d/$name.fish"
   done
   echo "docs/man/kahn.7 share/man/man7/kahn.7"
-  echo "docs/man/kahn_page.1 share/man/man1/kahn_page.1"
-  echo "kahn_page bin/kahn_page"
+  for name in kahn_page kahn_test; do
+    echo "docs/man/$name.1 share/man/man1/$name.1"
+    echo "$name bin/$name"
+  done
+  echo "editors/completions/kahn.bash share/bash-completion/completions/kahn_test"
+  echo "editors/completions/kahn_test.fish share/fish/vendor_completions.d/kahn_test.fish"
   echo "release/kahn.html share/kahn/kahn.html"
   echo "editors/completions/_kahn share/zsh/site-functions/_kahn"
 }

@@ -79,6 +79,8 @@ def try_part(part, work, words, tried):
     os.mkdir(programs)
     for name in common.NAMES:
         os.symlink(common.program(name), f"{programs}/{name}")
+    for name in common.SCRIPTS:
+        os.symlink(f"{common.TOP}/{name}", f"{programs}/{name}")
     if part in TESTS:
         try_module(part, words.only, tried)
     elif part in ("rows", "crowd"):

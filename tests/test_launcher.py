@@ -6,7 +6,7 @@ import shutil
 import subprocess
 
 import sessions
-from common import TOP, Room, Tried, text_of
+from common import SCRIPTS, TOP, Room, Tried, text_of
 
 HERE = f"{TOP}/tests/launcher"
 
@@ -28,7 +28,7 @@ class Launcher(Room):
         """The same by the launcher of this tree with a fault, if it has a place in the file."""
         launcher = f"{self.folder}/{number}.faulty"
         shutil.copytree(f"{TOP}/release", f"{launcher}/release", ignore=shutil.ignore_patterns("out"))
-        subprocess.run(["cp", "-P", *(f"{TOP}/{it}" for it in ("kahn", "kahn_draw", "kahn_explain", "kahn_live", "kahn_page", "install.sh")), launcher], check=True)
+        subprocess.run(["cp", "-P", *(f"{TOP}/{it}" for it in ("kahn", "kahn_draw", "kahn_explain", "kahn_live", "kahn_page", *SCRIPTS, "install.sh")), launcher], check=True)
         subprocess.run(["sed", "-i", edit, f"{launcher}/{file}"], check=True)
         return text_of(f"{launcher}/{file}") != text_of(f"{TOP}/{file}") and self.failed(attack, launcher, number)
 

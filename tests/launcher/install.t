@@ -42,6 +42,7 @@ A file that can't be written: none is installed, and what was there stays.
   kahn_draw
   kahn_explain
   kahn_page
+  kahn_test
 
 An empty prefix.
   $ given bash install.sh ""
