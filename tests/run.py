@@ -6,13 +6,14 @@ run.py [-k WORD] [--write] [--here] [PART ..]
     rows        kahn on the programs of tests/rows and examples/ (rows.py)
     crowd       the same by workers that all begin at once, if that program was built
     sessions    commands and what they print, tests/*/*.t (sessions.py)
+    examples    the values of examples/, by kahn_test (examples.py)
     pages       the commands of the README and of docs/; with --here in this tree, by its own programs
     notes       kahn_explain on tests/mistakes and tests/warnings (notes.py)
     growth      whether work grows no faster than texts and inputs (growth.py)
     worst       texts of the most bytes, against limits on time and memory (worst.py)
     NAME        the tests of tests/test_NAME.py, or sessions or a page by the path from the top (tests/release)
 
-Without a part it tries rows, sessions, pages, notes and every test_NAME.py. -k takes only what has the word in its name; --write puts
+Without a part it tries rows, sessions, examples, pages, notes and every test_NAME.py. -k takes only what has the word in its name; --write puts
 what the commands of sessions, and kahn_explain, give in place of what is wanted. The last line says how much passed and failed."""
 import argparse
 import concurrent.futures
@@ -24,6 +25,7 @@ import tempfile
 import unittest
 
 import common
+import examples
 import growth
 import notes
 import rows
@@ -85,6 +87,8 @@ def try_part(part, work, words, tried):
         try_module(part, words.only, tried)
     elif part in ("rows", "crowd"):
         rows.try_rows(common.CROWD if part == "crowd" else f"{programs}/kahn", work, words.only, tried)
+    elif part == "examples":
+        examples.try_examples(programs, words.only, tried)
     elif part == "notes":
         notes.try_notes(f"{programs}/kahn_explain", words, tried)
     elif part == "worst":
@@ -107,7 +111,7 @@ def main():
     words.add_argument("parts", nargs="*")
     words = words.parse_args()
     tried = common.Tried()
-    for part in words.parts or ["rows", "sessions", "pages", "notes", *TESTS]:
+    for part in words.parts or ["rows", "sessions", "examples", "pages", "notes", *TESTS]:
         with tempfile.TemporaryDirectory() as work:
             os.chmod(work, 0o755)
             try_part(part, work, words, tried)
