@@ -4,7 +4,7 @@ ghost use Rattle.std.specs.Prelude.{◌≡◌, ◌⊎◌, [], map, option_copied
 ghost use Rattle.kahn_streams.specs.Network.{network_of};
 ghost use Rattle.kahn_fault.specs.Work.{IsChecked};
 ghost use Rattle.kahn_chain.specs.Chain.{AreStandings, stands};
-ghost use Rattle.kahn_draw.specs.{Drawing.IsDrawn, Drawing.IsDrawnFor, Drawing.IsPictured, Drawing.IsEndedPicture, Running.HasDrawnAs, Running.IsPointed, Running.drawing_text, Running.drawn_answer};
+ghost use Rattle.kahn_draw.specs.{Drawing.IsDrawn, Drawing.IsDrawnFor, Drawing.IsPictured, Drawing.IsEndedPicture, Running.HasDrawnAs, Running.drawing_text, Running.drawn_answer, Running.pointed_text};
 ghost use Rattle.kahn_fault.specs.Status.{status_of};
 ghost use Rattle.kahn_streams.specs.Written.{Writes};
 
@@ -12,7 +12,7 @@ use kahn_fault::{Fault, Texts, Told, WorkFault, checked, tell, tell_explain, tel
 use kahn_graph::picture_text;
 use kahn_sequential::run_one;
 use kahn_streams::{End, Network, RunFault, Stream, Verdict};
-use kahn_texts::{read_input, write_line};
+use kahn_texts::{WriteFault, read_input, write_line};
 use std::alloc::Global;
 use std::hash::RandomState;
 use std::io::Write;
@@ -31,6 +31,15 @@ pub(crate) enum Drawn {
 pub(crate) struct DrawnPicture {
     pub(crate) text: String,
     pub(crate) verdict: Verdict,
+}
+
+/// What was reported after the picture.
+#[derive(Drop)]
+pub(crate) struct DrawingTold {
+    /// The status that the program ends with, and whether the line of a fault, or that memory stopped the run, went out.
+    pub(crate) fault: Told,
+    /// Whether the line went out that says which program says more.
+    pub(crate) pointer: Result<(), WriteFault>,
 }
 
 /// The picture of a network, with the streams and the ends of a run, or none.
@@ -137,20 +146,22 @@ fn drawing_told<E: Write>(answer: &Result<Verdict, Fault>, program: &str, errors
     }
 }
 
-/// Tells which program says more of a fault, if the program text has a path.
-fn point<E: Write>(path: Option<&str>, answer: &Result<Verdict, Fault>, errors: &mut E)
-    ensures { IsPointed (option_copied path.entry) answer.now (E.contents errors.old) (E.contents errors.new) }
+/// Reports which program says more of a fault, if the program text has a path.
+fn point<E: Write>(
+    path: Option<&str>,
+    answer: &Result<Verdict, Fault>,
+    errors: &mut E,
+) -> Result<(), WriteFault>
+    ensures { Writes (E.contents errors.old) (E.contents errors.new) result (pointed_text (option_copied path.entry) answer.now) }
 {
     match path {
-        Some(path) => {
-            let _told = tell_explain(answer, path, errors);
-        }
-        None => {}
+        Some(path) => tell_explain(answer, path, errors),
+        None => Ok(()),
     }
 }
 
-/// Draws the program of the texts, or a run of it, to `out`. A fault is told to `log`. It gives the exit status, and whether the line
-/// of the fault, or that memory stopped the run, went out.
+/// Draws the program of the texts, or a run of it, to `out`. Then reports a fault to `log`, and which program says more of it. Returns the
+/// exit status, and whether these lines went out.
 pub(crate) fn ran<W: Write, E: Write>(
     alloc: Global,
     texts: &Texts,
@@ -158,12 +169,12 @@ pub(crate) fn ran<W: Write, E: Write>(
     drawn: Drawn,
     out: &mut W,
     log: &mut E,
-) -> Told
+) -> DrawingTold
     ensures { HasDrawnAs texts.now (option_copied path.entry) drawn (W.contents out.old) (W.contents out.new) (E.contents log.old) (E.contents log.new) result }
 {
     let (program, input) = (texts.program.as_str(), texts.input.as_str());
     let answer = drawn_answer(draw(alloc, texts.seed, program, input, drawn, out));
-    let told = drawing_told(&answer, program, log);
-    point(path, &answer, log);
-    told
+    let fault = drawing_told(&answer, program, log);
+    let pointer = point(path, &answer, log);
+    DrawingTold { fault, pointer }
 }

@@ -36,9 +36,11 @@ fn answered<R: Runtime + AllocGlobal + RandomSource, W: Write>(
         Ok(texts) => {
             let (stream, clock) = (io::writer(rt), rt);
             let (path, out) = (path.as_deref(), &mut Patient { stream, clock });
-            ran(rt.alloc(), &texts, path, drawn, out, writer).status
+            ran(rt.alloc(), &texts, path, drawn, out, writer)
+                .fault
+                .status
         }
-        Err(fault) => tell_shown(rt.alloc(), fault, writer),
+        Err(fault) => tell_shown(rt.alloc(), &fault, writer).status,
     }
 }
 

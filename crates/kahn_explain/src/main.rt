@@ -51,7 +51,7 @@ fn answered<R: Runtime + AllocGlobal + RandomSource, W: Write>(
     let (config, strict, all) = (options.config, options.strict, options.all);
     let texts = match read_texts(rt, options.program, options.input) {
         Ok(texts) => texts,
-        Err(fault) => return tell_unread(rt, "kahn_explain", fault, writer),
+        Err(fault) => return tell_unread(rt, "kahn_explain", &fault, writer).status,
     };
     let needs = options.needs.as_deref();
     let request = Request {

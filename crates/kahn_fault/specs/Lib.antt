@@ -1,6 +1,7 @@
 pub mod Message
 pub mod Places
 pub mod Reasons
+pub mod Shown
 pub mod Status
 pub mod Telling
 pub mod Texts

@@ -2,11 +2,12 @@
 
 ghost use Rattle.std.specs.Prelude.{◌≡◌, ◌≤◌, IfErr, IfOk, MatchResult, None, [], length, string_bytes, Err};
 ghost use Rattle.kahn_texts.specs.{Reading.GivesAll, Formats.most_input_bytes};
-ghost use Rattle.kahn_fault.specs.{Texts.most_program_bytes, Texts.AreWithin, Texts.IsOfProgram, Texts.IsOfInput, Texts.IsOfTexts, Texts.StandsForProgram, Texts.StandsForInput, Reasons.reason_line, Status.status_of};
+ghost use Rattle.kahn_fault.specs.{Texts.most_program_bytes, Texts.AreWithin, Texts.IsOfProgram, Texts.IsOfInput, Texts.IsOfTexts, Texts.StandsForProgram, Texts.StandsForInput};
+ghost use Rattle.kahn_fault.specs.{Reasons.reason_line, Shown.IsShownFault, Shown.IsShownIf, Shown.IsShownLine, Shown.IsShownPath, Shown.IsUnreadLine, Status.status_of};
 ghost use Rattle.kahn_texts.specs.Shown.{shown_text};
 ghost use Rattle.kahn_streams.specs.Written.{Writes};
 
-use crate::fault::{Fault, tell};
+use crate::fault::{Fault, Told, tell};
 use kahn_texts::{ReadFault, WriteFault, add_shown_text, read_text, write_line};
 use std::alloc::{AllocError, Global};
 use std::fs;
@@ -157,45 +158,61 @@ pub fn shown_path(alloc: Global, path: &str) -> Result<String, AllocError>
     Ok(shown)
 }
 
-/// Returns that, or the path itself if memory is refused for it.
-fn shown_or(alloc: Global, path: String) -> String {
-    shown_path(alloc, path.as_str()).unwrap_or(path)
-}
-
-fn shown_fault(alloc: Global, fault: Fault) -> Fault
-    ensures { status_of (Err result) ≡ status_of (Err fault) }
+/// Returns that, or an empty path if memory is refused for it.
+fn shown_or_empty(alloc: Global, path: &String) -> String
+    ensures { IsShownPath path.now result }
 {
-    match fault {
-        Fault::Open(path) => Fault::Open(shown_or(alloc, path)),
-        Fault::Program(path, fault) => {
-            Fault::Program(path.map(|path| shown_or(alloc, path)), fault)
-        }
-        Fault::InputText(path, fault) => Fault::InputText(shown_or(alloc, path), fault),
-        Fault::Work(fault) => Fault::Work(fault),
+    match shown_path(alloc, path.as_str()) {
+        Ok(shown) => shown,
+        Err(_) => String::new(alloc),
     }
 }
 
-/// Reports why the texts of a run can't be read, with a path as it is shown, and returns the status.
-pub fn tell_shown<W: Write>(alloc: Global, fault: Fault, writer: &mut W) -> u8
-    ensures { result ≡ status_of (Err fault) }
+fn shown_if(alloc: Global, path: &Option<String>) -> Option<String>
+    ensures { IsShownIf path.now result }
 {
-    tell(&Err(shown_fault(alloc, fault)), "", writer).status
+    match path {
+        Some(path) => Some(shown_or_empty(alloc, path)),
+        None => None,
+    }
+}
+
+/// Returns a fault with its path as it is shown, or with an empty path if memory is refused for it.
+fn shown_fault(alloc: Global, fault: &Fault) -> Fault
+    ensures shown { IsShownFault fault.now result }
+    ensures status { status_of (Err result) ≡ status_of (Err fault.now) }
+{
+    match fault {
+        Fault::Open(path) => Fault::Open(shown_or_empty(alloc, path)),
+        Fault::Program(path, fault) => Fault::Program(shown_if(alloc, path), *fault),
+        Fault::InputText(path, fault) => Fault::InputText(shown_or_empty(alloc, path), *fault),
+        Fault::Work(fault) => Fault::Work(*fault),
+    }
+}
+
+/// Reports why the texts of a run can't be read, in one line with a path as it is shown, and returns the status.
+pub fn tell_shown<W: Write>(alloc: Global, fault: &Fault, writer: &mut W) -> Told
+    ensures status { result.status ≡ status_of (Err fault.now) }
+    ensures line { IsShownLine fault.now (W.contents writer.old) (W.contents writer.new) result.line }
+{
+    tell(&Err(shown_fault(alloc, fault)), "", writer)
 }
 
 /// Reports what `tell_shown` does, and then the reason, if there is one, after the name of the program. Returns the status.
 pub fn tell_unread<R: Runtime + AllocGlobal, W: Write>(
     rt: &R,
     name: &str,
-    fault: Fault,
+    fault: &Fault,
     writer: &mut W,
-) -> u8
-    ensures { result ≡ status_of (Err fault) }
+) -> Told
+    ensures status { result.status ≡ status_of (Err fault.now) }
+    ensures line { IsUnreadLine name.now fault.now (W.contents writer.old) (W.contents writer.new) result.line }
 {
-    let reason = unread_words(rt, &fault);
-    let status = tell_shown(rt.alloc(), fault, writer);
+    let reason = unread_words(rt, fault);
+    let told = tell_shown(rt.alloc(), fault, writer);
     if !reason.is_empty() {
         // A failure to write this doesn't change the status.
         let _told = tell_reason(name, reason, writer);
     }
-    status
+    told
 }

@@ -32,7 +32,7 @@ fn answered<R: Runtime + AllocGlobal + RandomSource, W: Write>(
     }
     let texts = match read_texts(rt, options.program.take(), None) {
         Ok(texts) => texts,
-        Err(fault) => return tell_unread(rt, "kahn_live", fault, writer),
+        Err(fault) => return tell_unread(rt, "kahn_live", &fault, writer).status,
     };
     let (stream, clock) = (rt.reader(), rt);
     let input = Patient { stream, clock };
