@@ -16,8 +16,8 @@ abbrev pub IsOf : Program → Lists → Token → Type 0
 IsOf network input t = (t.network.value ≡ network) × (t.input.value ≡ input)
 
 -- the token at this place of the list is of the line and of this place
-abbrev pub StandsAt : Line → ℕ → List Token → Type 0
-StandsAt line place ts = (t : Token) × (slice_get ts place ≡ Some t) × (t.line ≡ line) × (t.place ≡ place)
+abbrev pub IsTokenAt : Line → ℕ → List Token → Type 0
+IsTokenAt line place ts = (t : Token) × (slice_get ts place ≡ Some t) × (t.line ≡ line) × (t.place ≡ place)
 
 -- these are tokens of the line, at the places from this one on
 abbrev pub Follow : Line → ℕ → List Token → Type 0

@@ -4,7 +4,7 @@
 //! tokens, so each has the same fact as the one that was put there.
 
 ghost use Rattle.std.specs.Prelude.{◌≡◌, ◌+◌, ◌<◌, ◌≤◌, ◌++◌, ◌∷◌, ◌↔◌, ◌==◌, [], if◌then◌else◌, is_ok, length, map, slice_get, vec_capacity, vec_len, List, Some, IfOk, IsTrue, OnErr, OnOk};
-ghost use Rattle.kahn_streams.specs.{Inputs.Holds, Inputs.Names, Tokens.StandsAt, Tokens.token_value, declared.token.Token.Token};
+ghost use Rattle.kahn_streams.specs.{Inputs.Holds, Inputs.Names, Tokens.IsTokenAt, Tokens.token_value, declared.token.Token.Token};
 
 use crate::about::About;
 use crate::memory::NoMemory;
@@ -137,7 +137,7 @@ fn token_in<A: Allocator>(_list: &Tokens<A>, line: Line, place: u64, value: Word
 impl<A: Allocator> Tokens<A> {
     /// Returns the token at a place of a list of the line, such as the list of a stream. Never allocates.
     pub fn token(&self, line: Line, place: u64) -> Token
-        requires { StandsAt line place self.now.items }
+        requires { IsTokenAt line place self.now.items }
         ensures { slice_get self.now.items place ≡ Some result }
     {
         let Some(value) = self.values().get(place as usize) else {
