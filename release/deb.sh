@@ -54,7 +54,7 @@ grep -oP '^editors/vim/\K.*' <<< "$known" | while read -r file; do
   for vim in vim/vimfiles nvim/site; do put "share/$vim/$(dirname "$file")" "$top/editors/vim/$file"; done
 done
 pack 'docs/pictures/[^/]+\.(svg|png)' "$doc/docs/pictures"
-pack 'examples/[^/]+' "$doc/examples"
+for folder in examples examples/library examples/library/tests; do pack "$folder/[^/]+" "$doc/$folder"; done
 bash "$top/release/pages.sh" "$root/usr/$doc"
 gzip -9n < "$top/CHANGELOG.md" > "$root/usr/$doc/NEWS.gz"
 install -m 644 "$top/LICENSE" "$root/usr/$doc/copyright"

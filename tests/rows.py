@@ -29,7 +29,7 @@ ROWS = f"{TOP}/tests/rows"
 
 
 def files_of(folder):
-    return {name: read(f"{folder}/{name}") for name in os.listdir(folder)}
+    return {name: read(f"{folder}/{name}") for name in os.listdir(folder) if os.path.isfile(f"{folder}/{name}")}
 
 
 def kept_rows():
