@@ -36,12 +36,14 @@ pages() {
     echo "editors/completions/$name.fish share/fish/vendor_completions.d/$name.fish"
   done
   echo "docs/man/kahn.7 share/man/man7/kahn.7"
-  for name in kahn_page kahn_test; do
+  for name in kahn_page kahn_test kahn_build; do
     echo "docs/man/$name.1 share/man/man1/$name.1"
     echo "$name bin/$name"
   done
-  echo "editors/completions/kahn.bash share/bash-completion/completions/kahn_test"
-  echo "editors/completions/kahn_test.fish share/fish/vendor_completions.d/kahn_test.fish"
+  for name in kahn_test kahn_build; do
+    echo "editors/completions/kahn.bash share/bash-completion/completions/$name"
+    echo "editors/completions/$name.fish share/fish/vendor_completions.d/$name.fish"
+  done
   echo "release/kahn.html share/kahn/kahn.html"
   echo "editors/completions/_kahn share/zsh/site-functions/_kahn"
 }

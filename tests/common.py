@@ -13,7 +13,7 @@ sys.path.append(f"{TOP}/fuzz")
 YARDSTICK = [sys.executable, "-c", "x = list(range(2_000_000)); x.sort(key=lambda it: -it)"]
 NAMES = ("kahn", "kahn_live", "kahn_draw", "kahn_explain")
 # What runs these, from the top of this tree.
-SCRIPTS = ("kahn_test",)
+SCRIPTS = ("kahn_test", "kahn_build")
 FIND = 'top=$1; source "$top/release/program.sh"; find_built "$2" && echo "$program"'
 # The program whose workers all begin at once, which isn't released.
 CROWD = os.path.realpath(os.environ.get("KAHN_CROWD", f"{TOP}/crates/kahn_crowd/out/kahn_crowd"))

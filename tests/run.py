@@ -6,7 +6,7 @@ run.py [-k WORD] [--write] [--here] [PART ..]
     rows        kahn on the programs of tests/rows and examples/ (rows.py)
     crowd       the same by workers that all begin at once, if that program was built
     sessions    commands and what they print, tests/*/*.t (sessions.py)
-    examples    the values of examples/, by kahn_test (examples.py)
+    examples    the values of examples/ and of its library, by kahn_test (examples.py)
     pages       the commands of the README and of docs/; with --here in this tree, by its own programs
     notes       kahn_explain on tests/mistakes and tests/warnings (notes.py)
     growth      whether work grows no faster than texts and inputs (growth.py)
@@ -88,7 +88,7 @@ def try_part(part, work, words, tried):
     elif part in ("rows", "crowd"):
         rows.try_rows(common.CROWD if part == "crowd" else f"{programs}/kahn", work, words.only, tried)
     elif part == "examples":
-        examples.try_examples(programs, words.only, tried)
+        examples.try_examples(programs, work, words.only, tried)
     elif part == "notes":
         notes.try_notes(f"{programs}/kahn_explain", words, tried)
     elif part == "worst":

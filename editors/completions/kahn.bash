@@ -10,7 +10,8 @@ _kahn() {
     kahn_draw) options="--input --bound --help --version" ;;
     kahn_explain) options="--input --workers --quantum --bound --all --strict --trace --channels --check --needs --wakes --json --help --version" ;;
     kahn_test) options="--update --values --lax --bound --junit --help --version" ;;
+    kahn_build) options="--set --help --version" ;;
   esac
   mapfile -t COMPREPLY < <(compgen -W "$options" -- "$word")
 }
-complete -o default -F _kahn kahn kahn_live kahn_draw kahn_explain kahn_test
+complete -o default -F _kahn kahn kahn_live kahn_draw kahn_explain kahn_test kahn_build

@@ -39,6 +39,7 @@ A file that can't be written: none is installed, and what was there stays.
   > given bash -c "ulimit -f 20; trap '' XFSZ; bash install.sh $PWD/full" > /dev/null; find full/bin -name '.*' -type f; given "$PWD/full/bin/kahn"; ls full/bin
   OLD kahn WORK/full/bin/kahn
   kahn
+  kahn_build
   kahn_draw
   kahn_explain
   kahn_page

@@ -14,7 +14,8 @@ The programs have its version.
   kahn is kahn_live is kahn_draw is kahn_explain is
 
 Manual pages.
-  $ for name in "${programs[@]}"; do manual $name 1 OPTIONS; done; manual kahn 7 STATEMENTS; for name in kahn_page kahn_test; do manual $name 1 DESCRIPTION; done
+  $ for name in "${programs[@]}"; do manual $name 1 OPTIONS; done; manual kahn 7 STATEMENTS; for name in kahn_page kahn_test kahn_build; do manual $name 1 DESCRIPTION; done
+  3
   3
   3
   3
@@ -26,11 +27,12 @@ Manual pages.
 An example, the page, completions.
   $ PATH="$PWD/root/usr/bin" kahn root/usr/share/doc/kahn/examples/count.kahn | diff - "$TOP/examples/count.report"
   $ cmp "$(root/usr/bin/kahn_page)" "$TOP/release/kahn.html"
-  $ completed kahn --wor; completed kahn_live --plai; completed kahn_draw --inp; completed kahn_test --ju
+  $ completed kahn --wor; completed kahn_live --plai; completed kahn_draw --inp; completed kahn_test --ju; completed kahn_build --se
   --workers
   --plain
   --input
   --junit
+  --set
 
 Lintian has nothing against it, if that is there; no file is anybody's to write.
   $ ! command -v lintian > /dev/null || lintian --allow-root --fail-on none -E first/*.deb 2> /dev/null | grep '^[EW]:' || true
