@@ -20,8 +20,8 @@ fn run_answer(worked: Result<Verdict, WorkFault>) -> Result<Verdict, Fault>
     }
 }
 
-/// Runs the program text on the input text, writes the report to `writer`, and reports a fault to `errors`, in one line. Returns the
-/// exit status, and whether that line went out; if it didn't, the status stays.
+/// Runs the program text on the input text, writes the report to `writer`, and reports a fault to `errors`, in one line.
+/// Returns the exit status, and whether that line was written; if it wasn't, the status stays.
 pub(crate) fn ran<R: Runtime + AllocGlobal + Threads + Wait + Sync, W: Write, E: Write>(
     rt: &R,
     texts: &Texts,

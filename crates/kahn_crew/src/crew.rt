@@ -1,4 +1,5 @@
-//! A crew: all workers of a run, the first in the caller's thread and each other in one of its own; how many come, and for how long.
+//! A crew: all workers of a run, the first in the caller's thread and each other in one of its own; how many start, and for how
+//! long.
 
 ghost use Rattle.std.specs.Prelude.{◌≡◌, ◌↔◌, ◌+◌, ◌<◌, ◌≤◌, ◌^◌, ◌⊎◌, max, min};
 ghost use Rattle.kahn_crew.specs.{inner.Words.[], inner.Words.true, inner.Words.false, inner.Words.Err, inner.Words.length, inner.Words.map, inner.Words.All, inner.Words.IfErr, inner.Words.OnOk, inner.Words.vec_capacity, inner.Words.events_told, inner.Words.IsLoneSeat, inner.Words.parts_of, inner.Words.raised_of, inner.Turns.HasCause, inner.Turns.HasGone, inner.Turns.HasSeat, inner.Turns.WantsNone, inner.Turns.seat_of, inner.Turns.table_id_of, inner.Planned.IsCrew, inner.Left.AreUntouched, inner.Left.IsLack, inner.Left.IsLeftOf, inner.Left.IsOver, inner.Tasks.AreReadyTasks, inner.Tasks.told_tale, inner.Planned.crew_of, inner.Planned.plan_of_crew, inner.Turns.AllWent, inner.Turns.HaveWorked, inner.Turns.OneWent};
@@ -25,8 +26,8 @@ struct Shared<'b, 'c, R, G> {
     gate: &'b G,
 }
 
-/// The workers of a run and their quantum, as a configuration has them: nothing else makes one. At an open gate, where nobody can tell
-/// who works, fewer workers may come than are asked for, and turns may have another length.
+/// The workers of a run and their quantum, as a configuration has them: nothing else makes one.
+/// At an open gate, where nobody can see who works, fewer workers may start than are asked for, and turns may have another length.
 #[derive(Clone, Copy)]
 pub struct Crewing {
     /// The number of the channel that is watched, if any.
@@ -170,14 +171,17 @@ fn run_workers<R: Threads + Wait + Sync, G: Gate + Sync>(
     }
 }
 
-/// Runs tasks that may go on by as many workers as come, with turns of that length, until every worker has left: the run was halted
-/// since memory was refused to a worker, or so many events are done as `bound`, or every instance has ended or waits on a channel of which
-/// it took all. One worker has the caller's thread, each other one a thread of its own.
+/// Runs tasks that can run by as many workers as start, with turns of this length, until every worker has left:
+/// - the run was halted, since memory was refused to a worker;
+/// - or `bound` events are done;
+/// - or every instance has ended or waits on a channel whose tokens it has all taken.
+/// One worker has the caller's thread, each other one a thread of its own.
 ///
-/// Fails with `NoMemory` only if memory was refused before the first event: each process is then as it was, and nothing of
-/// the bound is used. If a thread can't be started, which one worker never needs, the run is left to the threads that came
-/// where the gate is open. Else it refuses with `NoThread`: those that were started are halted, and it returns once they
-/// have left. The tasks come back with either, as they were left.
+/// Fails with `NoMemory` only if memory is refused before the first event: each process is then as it was, and nothing of the bound
+/// is used.
+/// If a thread can't be started, which one worker never needs, and the gate is open, the run is left to the threads that were
+/// started. Else it fails with `NoThread`: the threads that were started are halted, and it returns once they have left. The tasks
+/// come back in both cases, as they were left.
 pub fn run_tasks<R: Threads + Wait + Sync, G: Gate + Sync>(
     rt: &R,
     alloc: Global,
@@ -234,7 +238,7 @@ pub fn run_tasks<R: Threads + Wait + Sync, G: Gate + Sync>(
 }
 
 impl Crewing {
-    /// As the configuration has it. Of the channel that it watches the number is given.
+    /// Returns the crewing of a configuration. `watch` is the number of the channel that it watches.
     pub fn of(config: &Config, watch: Option<usize>) -> Crewing
         ensures { result ≡ crew_of config.now watch }
     {
@@ -279,13 +283,13 @@ impl Crewing {
 
 /// One of several workers, with what they share.
 pub(crate) trait Parallel<C> {
-    /// What is wanted of what they share, and of one before its work.
+    /// What must hold of what they share, and of one before its work.
     ghost may: { C → Self → Type 0 };
 
     /// What is true of one before and after its work.
     ghost did: { C → Self → Self → Type 0 };
 
-    /// What is true of one before and after, if it told all to leave before its work.
+    /// What is true of one before and after, if it made all leave before its work.
     ghost quit: { C → Self → Self → Type 0 };
 
     /// Whether the work of one may be done in another's thread, after the other's, if no thread can be started for it.
@@ -369,10 +373,10 @@ fn run_from<'s, E, R: Threads, C: Sync + 's, T: Parallel<C> + Send + Drop + 's>(
     }
 }
 
-/// All work at the same time, one of them in this thread and each other in a thread of its own. If a thread can't be
-/// started for one that may wait, it works in this thread after the others. For one that may not, all are told to leave,
-/// and what is left of the work is done in this thread. It takes no memory of an allocator. Returns all after their work,
-/// and whether a thread was missed, which only several take.
+/// All work at the same time, one of them in this thread and each other in a thread of its own. If a thread can't be started:
+/// - for one that may wait, it works in this thread after the others;
+/// - for one that may not, all are asked to leave, and what is left of the work is done in this thread.
+/// It takes no memory of an allocator. Returns all after their work, and whether a thread was missed, which only several need.
 pub(crate) fn run_all<R: Threads + Wait + Sync, C: Sync, T: Parallel<C> + Send + Drop>(
     rt: &R,
     shared: &C,

@@ -1,5 +1,5 @@
-//! How a run begins and ends: its tasks, the board on which they are, in boxes, what its workers are lent and leave; and hints, the numbers
-//! of instances that may be ready.
+//! How a run begins and ends: its tasks, the board on which they are, in boxes, what its workers are lent and leave. Also hints:
+//! the numbers of instances that may be ready.
 
 ghost use Rattle.std.specs.Prelude.{◌≡◌, ◌+◌, ◌<◌, ◌≤◌, ◌^◌, ◌++◌, [], length, reverse, IfOk, IfErr, vec_capacity, false, true};
 ghost use Rattle.kahn_crew.specs.{inner.Words.ℕ, inner.Words.Option, inner.Words.All, inner.Words.map, inner.Words.network_of, inner.Words.events_told, inner.Words.opening_view, inner.Words.AreIdle, inner.Words.HaveSettled, inner.Words.IsJob, inner.Words.rows_of, inner.Words.woken_task, inner.Left.run_fault, inner.Tasks.AreReadyTasks, inner.Tasks.HasBegun, inner.Tasks.IsNumber, inner.Tasks.told_tale, inner.Tasks.work_of, inner.Tasks.FitTogether, declared.opening.Order.TheVariants.Last};
@@ -16,8 +16,8 @@ use kahn_streams::{Input, Network, NoMemory, Role, RunFault};
 use std::alloc::Global;
 use std::marker::Model;
 
-/// The tasks of all instances in order, once all workers have left; how many events of the bound are left; whether the run
-/// was halted, since memory or a thread was refused; and whether memory was refused to a worker.
+/// What is left once all workers have left: the tasks of all instances in order; how many events of the bound; whether the run was
+/// halted, since memory or a thread was refused; and whether memory was refused to a worker.
 #[derive(Drop)]
 pub struct Left {
     pub tasks: Vec<Task>,
@@ -41,8 +41,8 @@ pub struct Boxed {
     pub(crate) task: Box<Task>,
 }
 
-/// The board on which the tasks are, their network, its input and its code, and how many events a task may do before another one is
-/// looked for, at least 1.
+/// The board on which the tasks are, their network, its input and its code, and how many events a task may do before the worker
+/// looks for another one, at least 1.
 #[derive(Drop)]
 pub struct Run<'b> {
     pub board: &'b Board<Boxed>,
@@ -64,8 +64,8 @@ pub(crate) enum Order {
     Last,
 }
 
-/// The hints of one worker: its own, and those of the others, which it may steal. A hint that is out of date does no harm.
-/// The newest reader of what the worker sent stands beside the deque: it comes next, while its tokens are in this processor's
+/// The hints of one worker: its own, and the others' hints, which it may steal. A hint that is out of date does no harm.
+/// The newest reader of what the worker sent is kept next to the deque. It comes next, while its tokens are in this processor's
 /// cache, and needs no step on a word that others see. Others steal the oldest hint.
 #[derive(Drop)]
 pub struct Hints {
@@ -88,7 +88,8 @@ impl From<CrewFault> for RunFault {
     }
 }
 
-/// The tasks of idle jobs that go on with an input for which their ends have settled. The list that is given has room for all. Never allocates.
+/// Returns the tasks of idle jobs that continue with an input for which their ends have settled. The list `tasks` has room for all.
+/// Never allocates.
 pub fn wake_all(
     network: &Network,
     input: &Input,
@@ -137,8 +138,8 @@ fn number(network: &Network, input: &Input, tasks: &[Task], channel: usize) -> u
     task.sent(writer.parameter)
 }
 
-/// The board of a run, its first seat, the hints of all workers, and a list with room for the tasks that are left. All that was
-/// sent on a channel is published, and all instances are ready. If memory is refused, it gives the tasks back.
+/// Returns the board of a run, its first seat, the hints of all workers, and a list with room for the tasks that are left. All that
+/// was sent on a channel is published, and all instances are ready. If memory is refused, it returns the tasks.
 pub(crate) fn open_board(
     alloc: Global,
     network: &Network,
@@ -194,7 +195,7 @@ impl Reports for Boxed {
     ghost after = { IsLater };
 }
 
-/// Each task in a box, and the room of their list. If memory is refused, it gives them back as they were.
+/// Returns each task in a box, and the room of their list. If memory is refused, it returns them as they were.
 pub(crate) fn box_all(
     alloc: Global,
     mut tasks: Vec<Task>,
@@ -219,7 +220,7 @@ pub(crate) fn box_all(
     Ok((boxes, tasks))
 }
 
-/// The tasks out of their boxes, and after them those of a list that is the other way round and has room for all.
+/// Returns the tasks out of their boxes, and after them the tasks of a list that is the other way round and has room for all.
 pub(crate) fn unbox_all(mut boxes: Vec<Boxed>, mut tasks: Vec<Task>) -> Vec<Task>
     requires { length boxes.items + length tasks.items ≤ vec_capacity tasks }
     ensures { result.items ≡ boxes.items ++ reverse tasks.items }

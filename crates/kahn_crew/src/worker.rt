@@ -1,6 +1,6 @@
-//! A worker: it takes one instance after another, until there is a reason to leave, and rests while none is ready. In a turn instances are
-//! run for a draw of events, and each is set down where it stands then; the board is told what each flushed, so that the readers that wait
-//! for it go on.
+//! A worker: it takes one instance after another, until there is a reason to leave, and rests while none is ready.
+//! In a turn instances are run for a draw of events, and each is set down where it is then. The board is told what each flushed, so
+//! that the readers that wait for it can run.
 
 ghost use Rattle.std.specs.Prelude.{◌≡◌, ◌<◌, ◌⊎◌, ◌+◌, ◌-◌, ◌≤◌, ◌≢◌};
 ghost use Rattle.kahn_crew.specs.{inner.Words.ℕ, inner.Words.false, inner.Words.true, inner.Words.IfSome, inner.Words.IfNone, inner.Words.IsBetweenTurns, inner.Words.IsSeatOf, inner.Turns.HasPicked, inner.Turns.HasTask, inner.Turns.Heeds, inner.Turns.IsSameWorker, inner.Turns.SitsWith, inner.Turns.WasNotReady, inner.Words.OnErr, inner.Words.OnOk, inner.Words.wired, inner.Words.IsDelivered, inner.Tasks.IsPublished, inner.Turns.CanRest, inner.Turns.IsDue, inner.Turns.IsLeftHinted, inner.Turns.IsSetDown, inner.Turns.IsShare, inner.Turns.MayBegin, inner.Turns.IsAtWork, inner.Turns.IsTaskIn, inner.Turns.SitsIn, inner.Turns.StandsStill, inner.Words.length, inner.Words.network_of, inner.Words.instance_at, inner.Words.actual_at, inner.Words.count, inner.Words.SeesMore, inner.Words.width_of, inner.Tasks.written_by, inner.Turns.IsHinted, declared.opening.Order.TheVariants.Last};
@@ -41,7 +41,7 @@ const LONGEST: u64 = 4000;
 
 const PARTS: u64 = 8;
 
-/// How long a worker has rested since it found an instance last: first it pauses, and then it sleeps, for longer the longer it has slept.
+/// How long a worker has rested since it last found an instance. First it pauses, and then it sleeps: longer each time.
 #[derive(Drop)]
 pub(crate) struct Idling {
     backoff: Backoff,
@@ -54,7 +54,7 @@ pub(crate) struct Idling {
 pub(crate) enum Due {
     Ready,
     Over,
-    /// It waits on the channel, of which it took that number of tokens.
+    /// It waits on the channel, from which it took this many tokens.
     Waits(usize, u64),
 }
 
@@ -152,7 +152,7 @@ fn pick_next(run: &Run<'_>, worker: &mut Worker, rest: &Idling) -> Option<usize>
     look_round(run, worker, true)
 }
 
-/// Turn after turn, until the run is halted, or no instance can go on, or the budget is empty.
+/// Does turn after turn, until the run is halted, or no instance can run, or the budget is empty.
 pub(crate) fn turns<R: Wait, G: Gate, L: Ledger>(
     rt: &R,
     run: &Run<'_>,
@@ -331,9 +331,9 @@ fn spend_all<G: Gate, L: Ledger>(
     }
 }
 
-/// A turn of an instance that was picked: it is run for a part of the budget, if some is left that other workers don't
-/// take first, and set down, and so are those that it woke while the part lasts. One that lost each of its draws is set down ready with a
-/// hint, so that it isn't left aside.
+/// Does the turn of an instance that was picked. It is run for a part of the budget, if some is left that other workers don't take
+/// first, and set down. So are the instances that it woke, while the part lasts.
+/// An instance that lost each of its draws is set down ready with a hint, so that it isn't forgotten.
 pub(crate) fn turn<G: Gate, L: Ledger>(
     run: &Run<'_>,
     gate: &G,
@@ -425,8 +425,8 @@ pub(crate) fn hint(run: &Run<'_>, worker: &mut Worker, instance: Option<usize>, 
     worker.seat.halt(run.board);
 }
 
-/// Publishes all that was flushed on each parameter, and hints at the readers of it, which come next: what they
-/// read is in this processor's cache.
+/// Publishes all that was flushed on each parameter, and hints at its readers. They come next, since what they read is in this
+/// processor's cache.
 pub(crate) fn publish_all(run: &Run<'_>, worker: &mut Worker, task: &mut Task, p: usize)
     requires works { (n : ℕ) × (k : ℕ) × IsAtWork run.now p n k task.old worker.old.seat }
     ensures same { Heeds worker.old worker.new }

@@ -1,6 +1,7 @@
 //! The program `kahn` with a gate that doesn't say that it is open: as many workers as are asked for begin at once, over lanes and
-//! the board, however little there is to do. With `held` before its other words the run is held between parts, and goes on after a
-//! refusal: after refused memory or a refused thread a further call goes on. It is for checks alone, and isn't released.
+//! the board, however little there is to do.
+//! With `held` before its other words the run is held between parts, and continues after a refusal of memory or of a thread, by a
+//! further call. It is only for checks, and isn't released.
 #![tactic(auto)]
 
 ghost use Rattle.std.specs.Prelude.{IsTrue};
@@ -48,7 +49,7 @@ fn has_its_lines(network: &Network, answer: &Answer) -> bool
         .all(|stream| is_line(network, stream.line))
 }
 
-/// Runs the program on the input in a part, and writes the report. After a refusal, which is told, it goes on once.
+/// Runs the program on the input in a part, and writes the report. After a refusal, which is reported, it continues once.
 fn work_in_parts<R: Runtime + AllocGlobal + Threads + Wait + Sync, W: Write, E: Write>(
     rt: &R,
     seed: RandomState,

@@ -22,7 +22,7 @@ use std::io::Write;
 pub(crate) enum Drawn {
     /// A network.
     Network,
-    /// A run of it on the input text, for so many events at most.
+    /// A run of it on the input text, for at most this many events.
     Run(u64),
 }
 
@@ -36,9 +36,9 @@ pub(crate) struct DrawnPicture {
 /// What was reported after the picture.
 #[derive(Drop)]
 pub(crate) struct DrawingTold {
-    /// The status that the program ends with, and whether the line of a fault, or that memory stopped the run, went out.
+    /// The exit status, and whether the line was written that reports a fault, or that memory stopped the run.
     pub(crate) fault: Told,
-    /// Whether the line went out that says which program says more.
+    /// Whether the line was written that names the program which says more.
     pub(crate) pointer: Result<(), WriteFault>,
 }
 
@@ -96,9 +96,9 @@ fn picture(
     }
 }
 
-/// Writes the picture of the network of a program text, or of a run of it on an input text, and returns how that ended. Faults are found in this
-/// order: of the program text, of the network, of the input text, want of memory, of the writer; before a fault of the writer nothing is
-/// written.
+/// Writes the picture of a program's network, or of a run of it on an input text, and returns how that ended.
+/// Faults are found in this order: of the program text, of the network, of the input text, refused memory, of the writer. Before a
+/// fault of the writer nothing is written.
 fn draw<W: Write>(
     alloc: Global,
     seed: RandomState,
@@ -117,7 +117,7 @@ fn draw<W: Write>(
     }
 }
 
-/// What drawing came to, in the words of a run: one that its bound stopped was drawn as far as it was asked for.
+/// Returns the outcome of drawing in the words of a run: a run that its bound stopped was drawn as far as it was asked for.
 fn drawn_answer(drawn: Result<Verdict, WorkFault>) -> Result<Verdict, Fault>
     ensures { result ≡ drawn_answer drawn }
 {
@@ -160,8 +160,8 @@ fn point<E: Write>(
     }
 }
 
-/// Draws the program of the texts, or a run of it, to `out`. Then reports a fault to `log`, and which program says more of it. Returns the
-/// exit status, and whether these lines went out.
+/// Draws the program of the texts, or a run of it, to `out`. Then reports a fault to `log`, and which program says more of it.
+/// Returns the exit status, and whether these lines were written.
 pub(crate) fn ran<W: Write, E: Write>(
     alloc: Global,
     texts: &Texts,

@@ -13,7 +13,7 @@ use std::random::RandomSource;
 use std::rt::Runtime;
 use std::{env, io};
 
-/// The path of the program text, where there is one, as it is shown.
+/// Returns the path of the program text, if there is one, as it is shown.
 fn path_of(alloc: Global, program: &Option<String>) -> Result<Option<String>, AllocError> {
     match program {
         Some(path) => Ok(Some(shown_path(alloc, path.as_str())?)),
@@ -21,7 +21,7 @@ fn path_of(alloc: Global, program: &Option<String>) -> Result<Option<String>, Al
     }
 }
 
-/// Draws what the command line asks for, and gives the status. Faults are told to the writer.
+/// Draws what the command line asks for, and returns the exit status. Faults are reported to the writer.
 fn answered<R: Runtime + AllocGlobal + RandomSource, W: Write>(
     rt: &R,
     options: DrawOptions,

@@ -1,4 +1,4 @@
-//! The nodes of a picture, and what came of a run, as it shows it, with the rings of waits.
+//! The nodes of a picture, and the outcome of a run as it shows it, with the cycles of waits.
 
 ghost use Rattle.std.specs.Prelude.{◌≡◌, ◌<◌, ◌++◌, IfOk, Some, codes, if◌then◌else◌, length, map, option_map, slice_get, string_bytes, ◌⊎◌, []};
 ghost use Rattle.kahn_streams.specs.{Network.network_of, Prints.declaration_prints, Prints.process_prints, Wires.process_at};
@@ -209,7 +209,7 @@ pub(crate) fn add_nodes(
     Ok(())
 }
 
-/// Which instances are on rings, where they stand so; or none, where nothing was run.
+/// Returns which instances are on cycles of waits; none if nothing was run.
 pub(crate) fn rings_of(
     alloc: Global,
     network: &Network,
@@ -247,7 +247,7 @@ fn is_wait_at(
     waits_on(ends[instance].outcome, channel)
 }
 
-/// Whether some instance of a ring waits on a channel.
+/// Whether some instance of a cycle waits on a channel.
 pub(crate) fn is_ring_channel(
     network: &Network,
     ends: &[End],
@@ -319,7 +319,7 @@ pub(crate) fn add_ended(
     add(text, &[" after ", buffer.format(end.events)])
 }
 
-/// How many values the stream of a channel has, where it has one.
+/// Returns how many values the stream of a channel has, if it has a stream.
 pub(crate) fn carried(streams: &[Stream], channel: usize) -> Option<usize>
     ensures { result ≡ carried streams.now channel }
 {
@@ -333,7 +333,7 @@ pub(crate) fn carried(streams: &[Stream], channel: usize) -> Option<usize>
     None
 }
 
-/// Adds how many values there are, where that is known.
+/// Adds how many values there are, if that is known.
 pub(crate) fn add_count(text: &mut String, count: Option<usize>) -> Result<(), AllocError>
     ensures { IfOk result (λ _. string_bytes text.new ≡ string_bytes text.old ++ count_text count) }
 {

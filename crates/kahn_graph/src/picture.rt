@@ -11,12 +11,13 @@ use kahn_streams::{End, Kind, Network, Role, Side, Stream};
 use kahn_texts::add;
 use std::alloc::{AllocError, Global};
 
-/// The text in the language of Graphviz that draws the network of a program text: a node for each instance, with its number, its
-/// process, its value arguments by the names of their parameters, and where it stands in the text; and an edge for each channel
-/// from its writer to its reader, with its name, and at its ends the names of their parameters. Logical channels are dashed,
-/// processes that print have a second border, and inputs and outputs a mark. With the streams and the ends of a run a node tells
-/// how its instance ended, its colour too, and an edge how many values the stream of its channel has, and rings of waits are red;
-/// without a run there are none of both. It refuses only where memory was refused.
+/// Returns the picture of a program's network, in the language of Graphviz.
+/// - A node for each instance: its number, its process, its value arguments by the names of their parameters, and its place in the
+///   text.
+/// - An edge for each channel, from its writer to its reader: its name, and at its ends the names of their parameters.
+/// - Logical channels are dashed, processes that print have a second border, and inputs and outputs have a mark.
+/// With the streams and the ends of a run a node says how its instance ended, by its colour too, and an edge how many values its
+/// channel's stream has. Cycles of waits are red. Fails only if memory is refused.
 pub fn picture_text(
     alloc: Global,
     network: &Network,

@@ -5,7 +5,7 @@ ghost use Rattle.kahn_job.specs.inner.Words.{length, IfSome, IfNone, network_of,
 
 use kahn_streams::{About, Input, Network, Token};
 
-/// An input channel, and the place of the token that is taken next. Contracts alone see its network and its input.
+/// An input channel, and the place of the token that is taken next. Only contracts see its network and its input.
 #[derive(Drop)]
 pub(crate) struct Feed {
     pub(crate) network: About<Network>,
@@ -37,8 +37,8 @@ impl Feed {
         self.input = About::named();
     }
 
-    /// Returns the next token. None past the list. It stands apart, so that taking a token from a lane is short enough to be compiled
-    /// into the loop.
+    /// Returns the next token. None past the list. It is a function of its own, so that taking a token from a lane is short enough
+    /// to be compiled into the loop.
     #[inline(never)]
     pub(crate) fn take(&mut self, network: &Network, input: &Input) -> Option<Token>
         requires bound { self.old.next < 2 ^ 48 }

@@ -1,4 +1,5 @@
-//! Ends are given to parameters and taken back, a channel's ends go to the parameters that it is handed to, and both ends of a channel go on together.
+//! Ends are given to parameters and taken back, a channel's ends go to the parameters that have it as argument, and both ends of a
+//! channel move on together.
 
 ghost use Rattle.std.specs.Prelude.{◌≡◌, ◌<◌, ◌≤◌, vec_capacity};
 ghost use Rattle.kahn_code.specs.inner.Opening.{IsOpening};
@@ -11,8 +12,8 @@ use kahn_lane::lane_at;
 use kahn_streams::{Input, Network, NoMemory, Role, Side, Token};
 use std::alloc::Global;
 
-/// The ends of the channels of an instance while it runs, one for each parameter. What the instance reads it takes from a
-/// lane or from the list of an input channel; what it writes it puts into a lane. Nothing is put on an output channel.
+/// The ends of the channels of an instance while it runs, one for each parameter. What the instance reads it takes from a lane or
+/// from the list of an input channel; what it writes goes into a lane. Nothing is put on an output channel.
 #[derive(Drop)]
 pub(crate) struct Ends<'a> {
     pub(crate) network: &'a Network,
@@ -22,7 +23,7 @@ pub(crate) struct Ends<'a> {
     ghost served: { AreServed network.now input.now instance ports.now.items } by { Prim.hlevel (props, Serves-prop) },
 }
 
-/// Gives a parameter another end, and returns the one it had.
+/// Replaces the end of a parameter, and returns the one it had.
 #[tactic(auto, using(crate::proofs::Idles::cells_exchanged, crate::proofs::Idles::row_at, crate::proofs::Idles::rows_exchanged))]
 pub(crate) fn exchange(idles: &mut Vec<Idle>, side: Side, port: TaskPort) -> TaskPort
     requires { HasPlace (rows_of idles.old.items) side }
@@ -145,8 +146,8 @@ fn bare_jobs(
     Ok(idles)
 }
 
-/// Makes jobs of all instances, in order, whose ends stand where these queues stand. Their cells are still at their openings.
-/// Each inner channel has a new lane with copies of the tokens that wait in its queue. Fails only if memory was refused.
+/// Makes jobs of all instances, in order, whose ends are in the state of these queues. Their cells are still at their openings.
+/// Each inner channel has a new lane with copies of the tokens that wait in its queue. Fails only if memory is refused.
 pub fn jobs_at(
     alloc: Global,
     network: &Network,
@@ -170,7 +171,7 @@ pub fn jobs_at(
     Ok(idles)
 }
 
-/// Gives the jobs the cells of these taps, which are of the same instances and have let go of nothing. Never allocates.
+/// Gives each job the cell of its tap, which is of the same instance and has dropped nothing. Never allocates.
 #[tactic(auto, using(crate::proofs::Seated::cells_more, crate::proofs::Seated::place, crate::proofs::Seated::rows_stay, crate::proofs::Seated::same_more))]
 pub fn seat(idles: &mut Vec<Idle>, taps: Vec<Tap>)
     requires count { length taps.items ≡ length idles.old.items }
@@ -186,8 +187,7 @@ pub fn seat(idles: &mut Vec<Idle>, taps: Vec<Tap>)
     }
 }
 
-/// Returns the taps of the jobs' cells, which have let go of nothing, in the list `taps`, which has room for all. Never
-/// allocates.
+/// Returns the taps of the jobs' cells, which have dropped nothing, in the list `taps`, which has room for all. Never allocates.
 pub fn unseat(idles: Vec<Idle>, mut taps: Vec<Tap>) -> Vec<Tap>
     requires room { (taps.items ≡ []) × (length idles.items ≤ vec_capacity taps) }
     ensures tolds { tolds_of result.items ≡ cells_of idles.items }
@@ -311,8 +311,8 @@ fn settle_channel(
     }
 }
 
-/// Moves the ends of all channels on to an input whose lists begin with those of theirs. Each stays at its place, and all
-/// that was put is flushed. If memory is refused, those that moved already look the same to every call.
+/// Moves the ends of all channels to an input whose lists begin with their own input's lists. Each stays at its place, and all that
+/// was put is flushed. If memory is refused, the ends that have moved look the same to every call.
 #[tactic(auto, using(crate::proofs::Idles::all_settled, crate::proofs::Settles::going_first, crate::proofs::Settles::alike_stayed, crate::proofs::Settles::going_on, crate::proofs::Settles::rests_met, crate::proofs::Settles::stood_still, crate::proofs::Settles::stood_then))]
 pub fn settle(network: &Network, input: &Input, idles: &mut Vec<Idle>) -> Result<(), NoMemory>
     requires { AreResting network.now input.now (rows_of idles.old.items) }

@@ -19,8 +19,8 @@ pub(crate) enum Way {
     Nothing,
 }
 
-/// The end of a channel that a parameter has: it takes from an inner channel or from an input channel, or puts into an
-/// inner channel. A parameter that has a value or an output channel has no end.
+/// The end of a channel that a parameter has: it takes from an inner channel or from an input channel, or writes to an inner
+/// channel. A parameter that has a value or an output channel has no end.
 #[derive(Drop)]
 pub(crate) struct TaskPort(Way);
 
@@ -82,7 +82,7 @@ impl TaskPort {
         TaskPort(Way::Nothing)
     }
 
-    /// Whether the next `take` gives a token. Never allocates.
+    /// Whether the next `take` returns a token. Never allocates.
     pub(crate) fn ready(&mut self, _network: &Network, input: &Input) -> bool
         requires reads { self.old.reads ≡ true }
         requires of { IsFor _network.now input.now self.old }

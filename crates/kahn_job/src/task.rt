@@ -13,10 +13,10 @@ use std::marker::Model;
 use std::mem;
 use std::sync::ledger::Ledger;
 
-/// Where a process stood when it was last run, as far as more runs can't change it.
+/// Where a process was when it was last run, as far as more runs can't change it.
 #[derive(Clone, Copy, Debug, PartialEq, Eq)]
 pub enum TaskStanding {
-    /// It may go on, as far as is known.
+    /// It can run, as far as is known.
     Going,
     /// It has ended.
     Ended,
@@ -26,8 +26,8 @@ pub enum TaskStanding {
     Dry(usize),
 }
 
-/// A cell and the ends of its channels, which go from worker to worker together, with where its process stood when it was last
-/// run, and by parameter how many of the tokens that it sent are published. Code, network and input are lent to it when it runs.
+/// A cell and the ends of its channels, which go from worker to worker together; where its process was when it was last run; and
+/// for each parameter how many of the tokens that it sent are published. Code, network and input are lent to it when it runs.
 #[derive(Drop)]
 pub struct Task {
     cell: Cell,
@@ -111,9 +111,10 @@ impl Task {
         }
     }
 
-    /// Runs for at most `quantum` events, on the network and the input of its process. What it sent may stand in open segments
-    /// until `flush`. With a quantum of 0 it only says what comes next, and never allocates. A task whose process has ended
-    /// or faulted says so again.
+    /// Runs for at most `quantum` events, on the network and the input of its process. What it sent may be in open segments until
+    /// `flush`.
+    /// With a quantum of 0 it only reports what comes next, and never allocates. A task whose process has ended or faulted reports
+    /// that again.
     #[tactic(auto, using(crate::proofs::Berthed::advanced, crate::proofs::Trues::ran, crate::proofs::Trues::same_cell, crate::proofs::Trues::same_width, crate::proofs::Trues::true_after))]
     pub fn run<L: Ledger>(
         &mut self,
@@ -160,7 +161,7 @@ impl Task {
         flush_all(&mut self.ports)
     }
 
-    /// Returns where the process stood when it was last run.
+    /// Returns where the process was when it was last run.
     pub fn standing(&self) -> TaskStanding
         ensures result { result ≡ self.now.standing }
         ensures said { IsTrueOf self.now.work self.now.standing }

@@ -27,10 +27,10 @@ use std::sync::Wait;
 use std::sync::ledger::{Blank, Ledger};
 use std::thread::Threads;
 
-/// A run between its parts: a network, its input so far, the sum of its bounds so far, and where each process stands.
+/// A run between its parts: a network, its input so far, the sum of its bounds so far, and where each process is.
 ///
-/// Whatever its calls answer, what was sent on a stream stays, and no process has fewer events. So each stream is a prefix
-/// of the same stream in every later answer.
+/// Whatever its calls return, what was sent on a stream stays, and no process has fewer events. So each stream is a prefix of the
+/// same stream in every later answer.
 #[derive(Drop)]
 pub struct Held<'n> {
     alloc: Global,
@@ -84,11 +84,11 @@ fn copied_lists(alloc: Global, idles: &[Idle]) -> Result<Vec<Kept>, NoMemory>
 }
 
 impl<'n> Held<'n> {
-    /// A run of a network with an input that fits it, before its first event. It keeps the allocator for its later calls. The bound
-    /// of the configuration is the first one: `resume(0)` runs for that many events.
+    /// Returns a run of a network with an input that fits it, before its first event. It keeps the allocator for its later calls.
+    /// The bound of the configuration is the first one: `resume(0)` runs for that many events.
     ///
-    /// Fails with `BadConfig` if a number of the configuration is out of its limit, then with `UnknownWatch` if no channel has
-    /// the name that is to be watched, and with `NoMemory` if memory was refused.
+    /// Fails with `BadConfig` if a number of the configuration is beyond its limit, then with `UnknownWatch` if no channel has the
+    /// name that is to be watched, and with `NoMemory` if memory is refused.
     pub fn start(
         alloc: Global,
         network: &'n Network,
@@ -116,13 +116,14 @@ impl<'n> Held<'n> {
         })
     }
 
-    /// Allows so many events more, and runs by the workers of the configuration until the sum of all bounds is used up, or
-    /// every process has ended or waits on a channel of which it took all, or memory was refused. Before each quantum of
-    /// an instance the gate is entered.
+    /// Allows `more` events, and runs by the workers of the configuration until the sum of all bounds is used up, or every process
+    /// has ended or waits on a channel whose tokens it has all taken, or memory is refused.
+    /// Before each quantum of an instance the gate is entered.
     ///
-    /// Fails with `BadMore` if the sum of all bounds would pass 2^48 - 1, and with `NoMemory` if memory was refused before the
-    /// first event: both leave all as it was. Fails with `NoThread` if a thread couldn't be started, and one worker starts
-    /// none: so many events more are allowed then, each process stands where the workers left it, and the run may go on.
+    /// Fails with `BadMore` if the sum of all bounds would pass 2^48 - 1, and with `NoMemory` if memory is refused before the first
+    /// event: both leave all as it was.
+    /// Fails with `NoThread` if a thread can't be started, and one worker starts none: the `more` events are allowed then, each
+    /// process is where the workers left it, and the run can continue.
     pub fn resume<R: Threads + Wait + Sync, G: Gate + Sync>(
         &mut self,
         rt: &R,
@@ -166,12 +167,16 @@ impl<'n> Held<'n> {
         }
     }
 
-    /// Appends values to the list of an input channel. No process runs before the next part, and there is no answer until then,
+    /// Appends values to the list of an input channel. No process runs before the next part, and there isn't an answer until then,
     /// even if there are no values.
     ///
-    /// Fails with `UnknownName` if no channel has the name, then with `NotAnInput` if the channel isn't an input, `WrongKind`
-    /// if a value isn't of its kind, `TooMany` if its list would have more than 1,048,576 values, and `NoMemory` if memory was
-    /// refused. A refusal leaves all as it was.
+    /// Fails, in this order:
+    /// - with `UnknownName` if no channel has the name;
+    /// - with `NotAnInput` if the channel isn't an input;
+    /// - with `WrongKind` if a value isn't of its kind;
+    /// - with `TooMany` if its list would have more than 1,048,576 values;
+    /// - with `NoMemory` if memory is refused.
+    /// A refusal leaves all as it was.
     pub fn feed(&mut self, channel: &str, values: Vec<Value>) -> Result<(), FeedFault>
         ensures { MatchResult result (λ _. HasFed (channel.now, values.items) self.old self.new) (IsUnfed (channel.now, values.items) self.old self.new) }
     {
@@ -260,7 +265,7 @@ fn settle_task(task: &mut Task, part: &RunPart<'_>)
     }
 }
 
-/// Asks each task that may go on what comes next.
+/// Asks each task that can run what comes next.
 pub(crate) fn settle_all(tasks: &mut Vec<Task>, part: &RunPart<'_>)
     requires { (p : ℕ) (x : Tasked) → slice_get tasks.old.items p ≡ Some x → IsLentTo part.now x }
     ensures { HaveChanged SettlesTo tasks.old.items tasks.new.items }
@@ -316,7 +321,7 @@ fn conclude(
     }
 }
 
-/// Runs idle jobs whose ends are ready for the input so far. If memory was refused before the first event, each job stands where it stood,
+/// Runs idle jobs whose ends are ready for the input so far. If memory is refused before the first event, each job is as it was,
 /// for this input.
 pub(crate) fn run_settled<R: Threads + Wait + Sync, G: Gate + Sync>(
     rt: &R,
@@ -341,9 +346,9 @@ pub(crate) fn run_settled<R: Threads + Wait + Sync, G: Gate + Sync>(
     conclude(part, outcome, left, room.idles, room.ends)
 }
 
-/// Runs idle jobs for as many events as are left for the part, by the workers and the quantum that were asked for. If memory was refused
-/// before the first event, each job is as it was. If a thread couldn't be started, those that were are halted and gathered, and the jobs
-/// stand where they were left.
+/// Runs idle jobs for as many events as are left for the part, by the workers and the quantum that were asked for.
+/// If memory is refused before the first event, each job is as it was. If a thread can't be started, the ones that were started are
+/// halted and gathered, and the jobs are where they were left.
 pub(crate) fn run_part<R: Threads + Wait + Sync, G: Gate + Sync>(
     rt: &R,
     alloc: Global,

@@ -1,4 +1,4 @@
-//! Runs of a network, and what their answers mean.
+//! Runs of a network, and what their results mean.
 #![tactic(auto)]
 
 mod held;

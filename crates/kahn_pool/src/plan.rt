@@ -6,8 +6,8 @@ use kahn_code::Code;
 use kahn_crew::Crewing;
 use kahn_streams::{Input, Network};
 
-/// A part of a run: the network, its input so far, its code, who works on it, the sum of all bounds with this part's, and how many events
-/// are left of that sum.
+/// A part of a run: the network, its input so far, its code, who works on it, the sum of all bounds with this part's bound, and how
+/// many events are left of that sum.
 #[derive(Drop)]
 pub(crate) struct RunPart<'n> {
     pub(crate) network: &'n Network,

@@ -1,4 +1,4 @@
-//! Runs of a network, and how one on one thread is handed over to several workers.
+//! Runs of a network, and how a run on one thread becomes a run by several workers.
 
 ghost use Rattle.kahn_pool.specs.{inner.Below.IsCrew, inner.Below.IsCutShort, inner.Below.IsRight, inner.Below.IsRightRun, inner.Below.IsUnrun, inner.Below.Settles, inner.Below.inputs_of, inner.Below.network_of, inner.Holding.IsHandRoomFor, inner.Below.IsAsConfigured, inner.Below.cells_of, inner.Holding.AreHeldBy, inner.Holding.IsWholeAnswer, inner.Holding.HasEnded, inner.Below.AreJobsAt, inner.Below.HaveSettled, inner.Below.rows_of, inner.Holding.AreHeld};
 ghost use Rattle.kahn_sequential.specs.{declared.rounds.Round.Round as RoundOf, HeldRuns.IsWant, inner.Workbench.MayRun, inner.Workbench.sight_of, inner.Workbench.AreKeptOf, inner.Workbench.AreStreamsReady, inner.Workbench.IsBenchOf, inner.Workbench.IsWide, inner.Bench.all_events, inner.Bench.events_at, inner.Workbench.AreWhole, inner.Workbench.IsLaid, inner.Workbench.vacant_of};
@@ -20,8 +20,8 @@ use std::sync::Wait;
 use std::sync::ledger::Blank;
 use std::thread::{Threads, available_parallelism};
 
-/// What is wanted of memory where a run is handed over: jobs that stand where the bench stands, room for what a part wants, and room for
-/// taps, if the bench takes its processes back.
+/// The memory that passing a run to several workers needs: jobs whose state is the bench's, room for what a part needs, and room
+/// for taps, if the bench takes its processes back.
 #[derive(Drop)]
 pub(crate) struct HandRoom {
     pub(crate) idles: Vec<Idle>,
@@ -94,19 +94,23 @@ fn run_open<R: Threads + Wait + Sync, G: Gate + Sync>(
     }
 }
 
-/// Runs a network with an input that fits it. Its answer is right, whatever the number of workers and the quantum are. If its
-/// verdict isn't `Memory`, it is `Finished` exactly if the size of the solution is at most the bound, so the two change no
-/// verdict. A finished answer is the same for all of them and for every bound; of one that was stopped, which events were done
-/// may depend on them, and never what stands at a place of a stream.
+/// Runs a network with an input that fits it. Its answer is right for any number of workers and any quantum.
+/// If its verdict isn't `Memory`, it is `Finished` exactly if the size of the solution is at most the bound: so neither of them
+/// changes a verdict. A finished answer is the same for all of them and for every bound. If a run was stopped, which events were
+/// done may depend on them, but never which value is at a place of a stream.
 ///
-/// Fails with `BadConfig` if a number of the configuration is out of its limit, then with `UnknownWatch` if no channel has the
-/// name that is to be watched, with `NoMemory` if memory was refused before the first event, and with `NoThread` if a thread
-/// couldn't be started and the gate isn't open. One worker starts none: it has the caller's thread, on which it runs one process
-/// after another over plain queues. Each further worker has a thread of its own. If the gate is open, several begin as one does,
-/// and start threads once there is work for two: as many as have work, and no more than run side by side. If one can't be
-/// started there, or memory is refused for them, the run is left to those that came, or to one. Memory that is refused later
-/// stops the run: its answer has the verdict `Memory`, by one worker only if an instance has a next event and the bound isn't
-/// used up. Before each quantum of an instance a gate that isn't open is entered.
+/// Fails:
+/// - with `BadConfig` if a number of the configuration is beyond its limit;
+/// - then with `UnknownWatch` if no channel has the name that is to be watched;
+/// - with `NoMemory` if memory is refused before the first event;
+/// - with `NoThread` if a thread can't be started and the gate isn't open.
+/// One worker starts none: it has the caller's thread, on which it runs one process after another over plain queues. Each further
+/// worker has a thread of its own.
+/// If the gate is open, several workers begin as one does, and start threads once there is work for two: as many as have work, and
+/// no more than run side by side. If a thread can't be started there, or memory is refused for them, the run is left to the threads
+/// that were started, or to one worker.
+/// Memory that is refused later stops the run: its answer has the verdict `Memory`, by one worker only if an instance has a next
+/// event and the bound isn't used up. Before each quantum of an instance a gate that isn't open is entered.
 pub fn run<R: Threads + Wait + Sync, G: Gate + Sync>(
     rt: &R,
     alloc: Global,
@@ -169,8 +173,9 @@ fn answer_of(
     }
 }
 
-/// Runs a network by the workers that were asked for, one in the caller's thread and each other in one of its own, and answers right.
-/// Fails only if memory was refused before the first event, or if a thread couldn't be started for one of several.
+/// Runs a network by the workers that were asked for, one in the caller's thread and each other in one of its own, and returns a
+/// right answer.
+/// Fails only if memory is refused before the first event, or if a thread can't be started for one of several.
 pub(crate) fn run_workers<R: Threads + Wait + Sync, G: Gate + Sync>(
     rt: &R,
     alloc: Global,
@@ -199,8 +204,9 @@ pub(crate) fn run_workers<R: Threads + Wait + Sync, G: Gate + Sync>(
     Ok(answer_of(&part, stopped, streams, kept)?)
 }
 
-/// The answer of a run that was left there, once several workers went on from where its processes stand, or one if memory is refused
-/// before their first event. The bound is that of the whole run. Fails only if a thread couldn't be started.
+/// Returns the answer of a run that was left there: several workers continue it from where its processes are, or one if memory is
+/// refused before their first event.
+/// The bound is the whole run's. Fails only if a thread can't be started.
 pub(crate) fn run_on_workers<R: Threads + Wait + Sync, G: Gate + Sync>(
     rt: &R,
     alloc: Global,
@@ -241,8 +247,8 @@ pub(crate) fn run_on_workers<R: Threads + Wait + Sync, G: Gate + Sync>(
     Ok(answer_of(&part, stopped, streams, kept)?)
 }
 
-/// Jobs that stand where the queues of a bench stand, with copies of the tokens that wait there, for `hand_over`. The bench stays as it is.
-/// Fails only if memory was refused.
+/// Returns jobs for `hand_over`, whose state is the state of a bench's queues, with copies of the tokens that wait there. The bench
+/// stays as it is. Fails only if memory is refused.
 pub(crate) fn lanes(
     bench: &Sequential<'_>,
     alloc: Global,
@@ -264,8 +270,8 @@ pub(crate) fn lanes(
     )
 }
 
-/// The bench without its processes, and jobs that go on from where these stand, which have let go of nothing: the jobs that are
-/// given get their cells. Never allocates.
+/// Returns the bench without its processes, and jobs that continue from where these are. They have dropped nothing. The jobs in
+/// `idles` get their cells. Never allocates.
 pub(crate) fn hand_over<'n>(bench: Sequential<'n>, mut idles: Vec<Idle>) -> (Vacant<'n>, Vec<Idle>)
     requires whole { AreWhole (length (network_of bench.network).instances) bench.gone }
     requires jobs { AreJobsAt bench.network bench.input bench.queues.queues idles.items }
@@ -281,7 +287,7 @@ pub(crate) fn hand_over<'n>(bench: Sequential<'n>, mut idles: Vec<Idle>) -> (Vac
     (vacant, idles)
 }
 
-/// The jobs of all processes at their openings, and the bench that they came from. Fails only if memory was refused.
+/// Returns the jobs of all processes at their openings, and the bench that had them. Fails only if memory is refused.
 pub(crate) fn first_jobs<'n>(
     alloc: Global,
     network: &'n Network,

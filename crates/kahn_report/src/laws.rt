@@ -7,14 +7,14 @@ ghost use Rattle.kahn_syntax.specs.Texts.{IsProgram};
 ghost use Rattle.kahn_report.specs.SampleText.{IsSampleText};
 ghost use Rattle.std.specs.Prelude.{◌≡◌, ℕ, List, Option};
 
-/// Two finished reports of one program text and one input text, with one channel watched or none, are the same bytes,
-/// whatever the workers, the quantum and the bound.
+/// Two finished reports of one program text and one input text, with the same watched channel or none, are the same bytes for any
+/// workers, quantum and bound.
 pub fn one_report()
     ensures { (program input : List ℕ) (config other : Config) → IsOneReport program input config other }
 {}
 
-/// The network of the sample text of Kahn's paper, whatever its blanks, comments and letter case, is that of the law `sample`
-/// of kahn_streams: the value at place k of X is k mod 2.
+/// The network of the sample text of Kahn's paper is the network of the law `sample` of kahn_streams: the value at place k of X is
+/// k mod 2. The blanks, comments and letter case of the text don't matter.
 pub fn sample_text()
     ensures { (text : List ℕ) (t : Program) → IsSampleText text → IsProgram text t → network_of t ≡ sample_network }
 {}

@@ -31,10 +31,10 @@ fn answered<R: Threads + Wait + Sync, G: Gate + Sync>(
     }
 }
 
-/// Reads a program and an input, runs the program, and writes the report of its answer: from the bytes of the texts to
-/// the bytes of the report. Nothing is written before the answer is complete; if a write fails, a prefix of the report
-/// went out. A long report is formatted by as many threads as work. Names are hashed under `seed`, on which no answer
-/// depends.
+/// Reads a program and an input, runs the program, and writes the report of its answer: from the bytes of the texts to the bytes of
+/// the report.
+/// Nothing is written before the answer is complete; if a write fails, a prefix of the report has been written. A long report is
+/// formatted by as many threads as work. Names are hashed under `seed`, on which no answer depends.
 ///
 /// The verdict, if it isn't `Memory`, is `Finished` exactly if the size of the solution is at most the bound.
 ///

@@ -10,11 +10,11 @@ const TURNS: u32 = 1_000_000;
 /// Whom a gate holds, and until when.
 #[derive(Clone, Copy)]
 pub enum Hold {
-    /// Each, until so many were in the gate at the same time.
+    /// Each, until this many were in the gate at the same time.
     Inside(u64),
-    /// Each quantum of two instances, until the other has come to its own of that number.
+    /// Each quantum of two instances, until the other has reached its own with the same number.
     Each,
-    /// The first quantum of one of two instances, until the other has come to the quantum of this number.
+    /// The first quantum of one of two instances, until the other has reached the quantum with this number.
     First(usize, u64),
 }
 
@@ -51,12 +51,12 @@ impl Counting {
         self.entries.load(Ordering::SeqCst)
     }
 
-    /// For how many quanta each of 16 instances came, as digits to the base 16.
+    /// Returns for how many quanta each of 16 instances entered, as digits to the base 16.
     pub fn came(&self) -> u64 {
         self.came.load(Ordering::SeqCst)
     }
 
-    /// Which of two instances came, in order, if one worker runs them: digits to the base 4, from 1.
+    /// Returns which of two instances entered, in order, if one worker runs them: digits to the base 4, from 1.
     pub fn order(&self) -> u64 {
         self.order.load(Ordering::SeqCst)
     }

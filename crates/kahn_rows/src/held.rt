@@ -1,4 +1,4 @@
-//! Runs that are cut into parts at random, with answers that begin that of the whole run.
+//! Runs that are cut into parts at random, whose streams begin the streams of the whole run.
 
 use crate::gate::{Counting, Hold};
 use crate::programs::{

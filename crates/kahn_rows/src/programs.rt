@@ -11,7 +11,7 @@ use std::sync::Wait;
 use std::test::Fail;
 use std::thread::Threads;
 
-/// A bound that no run reaches if it comes to an end.
+/// A bound that no run reaches if it ends.
 pub const AMPLE: u64 = 1_000_000;
 
 /// Counts to 3.
@@ -32,7 +32,7 @@ begin integer output channel V, W;
 end
 ";
 
-/// Four processes in a ring, one of which ends.
+/// Four processes in a cycle, one of which ends.
 pub const FOUR_TURNS: &str = "\
 begin integer channel X, Y, Z, T1, T2;
   process f(integer in U, V; integer out W);
@@ -70,7 +70,7 @@ begin integer input channel A, B;
 end
 ";
 
-/// A division by zero, beside a process that copies what was sent before.
+/// A division by zero, and a process that copies what was sent before it.
 pub const DIVISION: &str = "\
 begin integer channel X; integer output channel W;
   process d(integer out W);
@@ -128,7 +128,7 @@ pub fn network_of<R: RandomSource>(rt: &R, alloc: Global, program: &str) -> Resu
     Ok(check(alloc, RandomState::new(rt)?, parse(alloc, program)?)?)
 }
 
-/// Returns the report of a program without an input, by so many workers with a quantum and a bound.
+/// Returns the report of a program without an input, by `workers` workers with a quantum and a bound.
 pub fn reported<R: RandomSource + Threads + Wait + Sync, G: Gate + Sync>(
     rt: &R,
     alloc: Global,
@@ -143,7 +143,7 @@ pub fn reported<R: RandomSource + Threads + Wait + Sync, G: Gate + Sync>(
     Ok(String::from_utf8(written)?)
 }
 
-/// Makes so many instances of a process with this body.
+/// Makes `number` instances of a process with this body.
 pub fn instances(alloc: Global, number: u64, body: &str) -> Result<String, AllocError> {
     let mut text = format!(in alloc; "begin process p(); begin {body} end; p()")?;
     for _ in 1..number {

@@ -1,4 +1,5 @@
-//! Hints of a run on one thread: which instances may go on, which are far ahead of their readers, and whether there is work for several workers.
+//! Hints of a run on one thread: which instances can run, which are far ahead of their readers, and whether there is work for
+//! several workers.
 
 ghost use Rattle.std.specs.Prelude.{◌≡◌, ◌<◌, length};
 
@@ -15,8 +16,9 @@ const FEW: usize = 8;
 
 const MANY_EVENTS: u64 = 64;
 
-/// The instances that may go on, in the order of their turns. A reader that finds its channel empty sleeps until something was sent there.
-/// One that is wrongly missing has its turn in the next round of all, and one that is wrongly there does nothing in its turn.
+/// The instances that may be able to run, in the order of their turns. A reader that finds its channel empty sleeps until something
+/// is sent on it.
+/// An instance that is wrongly missing gets its turn in the next round of all; one that is wrongly here does nothing in its turn.
 #[derive(Drop)]
 pub(crate) struct Awake {
     // The channels that each instance writes: first a few at which a reader was woken last.
@@ -141,7 +143,7 @@ impl Awake {
         }
     }
 
-    /// Notes how an instance stands: it may go on, or sleeps until something comes on a channel that is empty.
+    /// Notes the state of an instance: it can run, or it sleeps until something is sent on a channel that is empty.
     pub(crate) fn note_status(
         &mut self,
         instance: usize,
@@ -184,8 +186,8 @@ impl Awake {
         self.next.take()
     }
 
-    /// Wakes the readers that sleep at channels of this writer on which something waits after its turn of `done` events. Of many channels
-    /// a few are looked at after a turn of few events, and the others when all sleep.
+    /// Wakes the sleeping readers of this writer's channels on which something waits after its turn of `done` events.
+    /// If there are many channels, a turn of few events looks at a few of them; the others are looked at when all sleep.
     pub(crate) fn wake_readers(&mut self, writer: usize, done: u64, queues: &Plain<Global>) {
         let to = if done < MANY_EVENTS { FEW } else { usize::MAX };
         self.wake_between(writer, 0, to, queues);
@@ -238,7 +240,7 @@ impl Awake {
     }
 }
 
-/// How many tokens were sent on all channels between processes, and those of the input.
+/// Returns how many tokens were sent on all channels between processes, plus the number of input values.
 pub(crate) fn sent_on(network: &Network, queues: &Plain<Global>) -> u64 {
     let mut sum = 0_u64;
     for channel in 0..network.channels() {
@@ -280,8 +282,9 @@ impl Looks {
         })
     }
 
-    /// Notes a turn of `done` events that isn't brief, after which so many are left: what was done since the last such turn was done in
-    /// brief ones. Whether the look is over: a few turns that are very long tell too little.
+    /// Notes a turn of `done` events that isn't brief, after which `left` events are left: the events since the last such turn were
+    /// done in brief turns.
+    /// Returns whether the look is over. A few turns that are very long show too little.
     pub(crate) fn note_turn(&mut self, instance: usize, done: u64, left: u64) -> bool {
         let Some(cost) = self.costs.get(instance) else {
             return false;
@@ -324,7 +327,7 @@ impl Looks {
             && (MANY <= self.most_in_order || tokens <= self.work() / WORK_A_TOKEN)
     }
 
-    /// The next look, after so many tokens were sent in all.
+    /// Sets the next look, when `sent` tokens have been sent in all.
     pub(crate) fn turn(&mut self, sent: u64) {
         let is_wide = self.sees_work(sent);
         self.wide = if is_wide { self.most_in_order } else { 0 };

@@ -18,7 +18,7 @@ use std::sync::ledger::Ledger;
 // The most values that wait on an input channel.
 const MOST_WAITING: usize = 1_048_576;
 
-/// The processes of a network over its plain queues. What they keep they let go of when they are told to.
+/// The processes of a network over its plain queues. They drop what they keep when they are asked to.
 #[derive(Drop)]
 pub struct Sequential<'n> {
     network: &'n Network,
@@ -30,7 +30,7 @@ pub struct Sequential<'n> {
     looks: Looks,
 }
 
-/// A bench whose processes went to jobs. Its queues stay as they stood.
+/// A bench whose processes went to jobs. Its queues stay as they were.
 #[derive(Drop)]
 pub struct Vacant<'n> {
     network: &'n Network,
@@ -57,7 +57,8 @@ impl<'n> Model for Sequential<'n> {
 }
 
 impl<'n> Sequential<'n> {
-    /// All processes at their openings. The values of an input that is lent are read where it has them. Fails only if memory was refused.
+    /// Returns all processes at their openings. The values of an input that is lent are read in place. Fails only if memory is
+    /// refused.
     pub fn new(
         alloc: Global,
         network: &'n Network,
@@ -149,14 +150,14 @@ impl<'n> Sequential<'n> {
         done.wrapping_sub(1) < self.looks.most
     }
 
-    /// Notes that so many events are left at the beginning of a part.
+    /// Notes that `left` events are left at the beginning of a part.
     pub(crate) fn note_bound(&mut self, left: u64)
         ensures { self.new ≡ self.old }
     {
         self.looks.left = left;
     }
 
-    /// Notes a turn of `done` events that isn't brief, after which so many are left, for `wide`.
+    /// Notes for `wide` a turn of `done` events that isn't brief, after which `left` events are left.
     pub(crate) fn note_turn(&mut self, instance: usize, done: u64, left: u64)
         ensures { self.new ≡ self.old }
     {
@@ -176,7 +177,7 @@ impl<'n> Sequential<'n> {
         self.awake.wake_all();
     }
 
-    /// Notes how an instance stands after a turn of `done` events, and that what it sent has come, for `next`.
+    /// Notes for `next` the state of an instance after a turn of `done` events, and that what it sent has arrived.
     pub(crate) fn note_left(&mut self, instance: usize, outcome: Outcome, done: u64)
         ensures { self.new ≡ self.old }
     {
@@ -184,7 +185,7 @@ impl<'n> Sequential<'n> {
         self.awake.wake_readers(instance, done, &self.queues);
     }
 
-    /// An instance that may go on, as far as is known.
+    /// Returns an instance that can run, as far as is known.
     pub fn next(&mut self) -> Option<usize>
         ensures same { self.new ≡ self.old }
         ensures here { IfSome result (λ p. p < length (sight_of self.new).network.instances) }
@@ -200,8 +201,8 @@ impl<'n> Sequential<'n> {
         self.looks.wide
     }
 
-    /// Goes on for a longer input, in which these values come after those of an input channel: they wait there. Fails only if
-    /// memory was refused, and then all goes on as before. The caller names the input for contracts alone.
+    /// Continues for a longer input, in which these values come after the earlier ones of an input channel; they wait there.
+    /// Fails only if memory is refused, and then all continues as before. The caller names the input only for contracts.
     pub fn pour(&mut self, channel: usize, values: &[Value]) -> Result<(), NoMemory>
         ghost input: { Lists }
         requires role { role_at (network_of self.old.network) channel ≡ InputRole }
@@ -219,7 +220,7 @@ impl<'n> Sequential<'n> {
         }
     }
 
-    /// The processes let go of all that they kept: as far as that is known, only these keep anything. Never allocates.
+    /// Makes the processes drop all that they kept. As far as `turned` knows, only its instances keep anything. Never allocates.
     pub(crate) fn forget(&mut self, turned: &mut Woken)
         requires { AreSpent self.old turned.old }
         ensures { HasEmptied self.old self.new }
@@ -227,7 +228,7 @@ impl<'n> Sequential<'n> {
         forget_turned(&mut self.taps, turned);
     }
 
-    /// Says how all stand. For the prover only.
+    /// States where all processes are. For the prover only.
     pub fn stood(&self)
         ensures laid { IsLaid self.now }
         ensures counted { AreQueued self.now.queues }
@@ -237,7 +238,7 @@ impl<'n> Sequential<'n> {
         all_stood(self.network, &self.taps);
     }
 
-    /// Says how it is laid, and how one of its processes stands. For the prover only.
+    /// States its layout, and where one of its processes is. For the prover only.
     pub fn stood_at(&self, instance: usize)
         requires { instance < length (sight_of self.now).network.instances }
         ensures laid { IsLaid self.now }
@@ -315,7 +316,7 @@ impl<'n> Sequential<'n> {
         tap.sent(side.parameter)
     }
 
-    /// What an instance sent on a parameter since that was last let go of, if it is kept.
+    /// Returns what an instance sent on a kept parameter since it last dropped tokens.
     pub fn fresh(&self, instance: usize, parameter: usize) -> &Tokens
         requires here { instance < length (network_of self.now.network).instances }
         requires parameter { parameter < length (instance_at (network_of self.now.network) instance).actuals }
@@ -326,7 +327,7 @@ impl<'n> Sequential<'n> {
         tap.fresh(parameter)
     }
 
-    /// What an instance printed since that was last let go of.
+    /// Returns what an instance printed since it last dropped tokens.
     pub fn fresh_prints(&self, instance: usize) -> &Tokens
         requires { instance < length (network_of self.now.network).instances }
         ensures { HasFreshPrints self.now instance result.now.items }
@@ -344,8 +345,8 @@ impl<'n> Sequential<'n> {
         taken.checked_add(self.queues.waiting(channel) as u64)
     }
 
-    /// The place of the next value of an input channel, if `count` more may be poured: at most 1,048,576 may wait, and places are
-    /// below 2^48.
+    /// Returns the place of the next value of an input channel, if `count` more may be poured: at most 1,048,576 may wait, and
+    /// places are below 2^48.
     pub fn next_place(&self, channel: usize, count: usize) -> Option<u64>
         requires { role_at (network_of self.now.network) channel ≡ InputRole }
         ensures { MatchOption result (IsCrowded self.now channel count) (IsNextPlace self.now channel count) }
@@ -405,7 +406,8 @@ impl<'n> Sequential<'n> {
         (vacant, self.taps)
     }
 
-    /// The streams of an answer: what the writers kept, if nothing was let go of. There is room for what each kept. Never allocates.
+    /// Returns the streams of an answer: what the writers kept, if nothing was dropped. There is room for what each kept. Never
+    /// allocates.
     pub fn into_streams(self, mut streams: Vec<Stream>, kept: Vec<Kept>) -> Vec<Stream>
         requires whole { AreWhole (length (network_of self.network).instances) self.gone }
         requires ready { AreStreamsReady self.network self.input self.watch streams.items kept.items (vec_capacity kept) }
@@ -439,7 +441,7 @@ impl<'n> Vacant<'n> {
         &self.code
     }
 
-    /// The bench with these taps, which have let go of nothing. Never allocates.
+    /// Returns the bench with these taps, which have dropped nothing. Never allocates.
     pub fn with_taps(self, taps: Vec<Tap>) -> Sequential<'n>
         requires laid { IsLaid (seated_with self (map told_in taps.items)) }
         requires whole { AreWhole (length taps.items) (map gone_in taps.items) }

@@ -71,8 +71,9 @@ fn counts_of(
     counts
 }
 
-/// Runs a network on the caller's thread over plain queues, and counts in the end; if there is a stream for each channel, it is recorded. Fails
-/// only if memory was refused before the first event. If it was refused for what is recorded, no stream stays.
+/// Runs a network on the caller's thread over plain queues, and counts at the end. If there is a stream for each channel, the run
+/// is recorded.
+/// Fails only if memory is refused before the first event. If it is refused for what is recorded, no stream stays.
 pub(crate) fn run_kept(
     alloc: Global,
     network: &Network,
@@ -219,10 +220,12 @@ pub(crate) fn keep_sent(bench: &Sequential<'_>, recording: &mut Option<Vec<Strea
 }
 
 /// Runs a network with an input that fits it, as `run` does with one worker at an open gate, and keeps all that is sent, on every
-/// channel. Its answer is right, whatever number of workers the configuration has, and the streams of the channels are the histories
-/// of that answer: whole if it has finished. If a process reads a channel that it writes, each turn is one event.
+/// channel.
+/// Its answer is right for any number of workers in the configuration, and the streams of the channels are the answer's histories:
+/// whole if it has finished. If a process reads a channel that it writes, each turn is one event.
 ///
-/// Fails as `run` does, but that it starts no thread: with `NoMemory` if memory was refused before the first event or for what is kept.
+/// Fails as `run` does, except that it starts no thread: with `NoMemory` if memory is refused before the first event or for what is
+/// kept.
 pub fn run_recorded(
     alloc: Global,
     network: &Network,

@@ -1,4 +1,4 @@
-//! Runs on one thread that are fed as they go, and let go of what they kept.
+//! Runs on one thread that are fed as they run, and drop what they kept.
 
 ghost use Rattle.std.specs.Prelude.{◌≡◌, ◌∷◌, ℕ, ◌+◌, ◌++◌, ◌<◌, ◌≤◌, ◌^◌, [], Some, length, map, slice_get, sum_by, false, true, vec_capacity, IfOk, MatchResult, OnOk, IsTrue};
 ghost use Rattle.kahn_sequential.specs.{inner.Below.Holds, inner.Below.Names, inner.Below.inputs_of, inner.Below.is_watched, inner.Below.network_of, inner.Below.role_at, inner.Below.stream_lines, inner.Below.token_value, HeldRuns.IsLineOf, HeldRuns.IsRightSoFar, HeldRuns.IsUnstarted, HeldRuns.seen_events, Flows.AreNew, Flows.HasFlowed, Flows.HasLetGo, Flows.HasPouredIn, Flows.IsNotRun, Flows.IsRunOn, Flows.IsStale, Flows.IsUnpoured, inner.Bench.all_events, inner.FlowBench.IsPartEnd, inner.Noted.AreAtRest, inner.Noted.AreNoted, inner.Noted.AreNotedBut, inner.Noted.AreSpent, inner.Workbench.HasAdvanced, inner.Workbench.HasWorked, inner.Workbench.MayRun, inner.Workbench.sight_of};
@@ -23,10 +23,11 @@ use thiserror::Error;
 // Of more instances that had turns all are asked what they keep.
 const MOST_TURNED: usize = 16;
 
-/// A run on one thread that is fed between its parts, and that lets go of what it kept of its streams: a network, the sum of its
-/// bounds so far, and where each process stands. Only contracts see what it let go of, and the input that was taken.
+/// A run on one thread that is fed between its parts, and that drops what it kept of its streams: a network, the sum of its bounds
+/// so far, and where each process is.
+/// Only contracts see what it dropped, and the input that was taken.
 ///
-/// Whatever its calls answer, what was sent on a stream stays as contracts see it, and no process has fewer events.
+/// Whatever its calls return, what was sent on a stream stays as contracts see it, and no process has fewer events.
 #[derive(Drop)]
 pub struct Flow<'n> {
     alloc: Global,
@@ -49,7 +50,7 @@ pub struct Flow<'n> {
 // How many turns, for each instance, those that were woken have at most before rounds of all.
 const WOKEN_TURNS: usize = 4;
 
-/// Why a part of a held run gives no verdict, by the first of these that holds.
+/// Why a part of a held run has no verdict. The first of these that holds is returned.
 #[derive(Clone, Copy, Debug, PartialEq, Eq, Drop, Error)]
 pub enum HeldFault {
     /// The sum of all bounds would pass 2^48 - 1.
@@ -61,7 +62,7 @@ pub enum HeldFault {
     /// A thread couldn't be started. Those that were are halted and gathered.
     #[error("no thread")]
     NoThread,
-    /// The workers left and the run neither finished nor reached its bound nor wanted memory.
+    /// The workers left, and the run neither finished nor reached its bound nor was refused memory.
     #[error("workers stalled")]
     Stalled,
 }
@@ -147,12 +148,12 @@ fn lend(bench: &Sequential<'_>, tokens: &mut Tokens, channel: usize, place: u64,
 }
 
 impl<'n> Flow<'n> {
-    /// A run of a network with an input, before its first event. It keeps the allocator for its later calls. The bound of the
-    /// configuration is the first one: `resume(0)` runs for that many events. It runs on the caller's thread alone, whatever
-    /// number of workers the configuration has.
+    /// Returns a run of a network with an input, before its first event. It keeps the allocator for its later calls.
+    /// The bound of the configuration is the first one: `resume(0)` runs for that many events. It runs only on the caller's thread,
+    /// for any number of workers in the configuration.
     ///
-    /// Fails with `BadConfig` if a number of the configuration is out of its limit, then with `UnknownWatch` if no channel has
-    /// the name that is to be watched, and with `NoMemory` if memory was refused.
+    /// Fails with `BadConfig` if a number of the configuration is beyond its limit, then with `UnknownWatch` if no channel has the
+    /// name that is to be watched, and with `NoMemory` if memory is refused.
     pub fn start(
         alloc: Global,
         network: &'n Network,
@@ -184,8 +185,8 @@ impl<'n> Flow<'n> {
         })
     }
 
-    /// Allows so many events more, and runs until the sum of all bounds is used up, or every process has ended or waits on a
-    /// channel of which it took all, or memory was refused. Before each quantum of an instance the gate is entered.
+    /// Allows `more` events, and runs until the sum of all bounds is used up, or every process has ended or waits on a channel
+    /// whose tokens it has all taken, or memory is refused. Before each quantum of an instance the gate is entered.
     ///
     /// Fails only with `BadMore`, if the sum of all bounds would pass 2^48 - 1, and then nothing changes.
     pub fn resume<G: Gate>(&mut self, more: u64, gate: &G) -> Result<Verdict, HeldFault>
@@ -210,12 +211,16 @@ impl<'n> Flow<'n> {
         Ok(part.verdict)
     }
 
-    /// Appends values to the list of an input channel. No process runs before the next part, and there is no verdict until then,
+    /// Appends values to the list of an input channel. No process runs before the next part, and there isn't a verdict until then,
     /// even if there are no values.
     ///
-    /// Fails with `UnknownName` if no channel has the name, then with `NotAnInput` if the channel isn't an input, `WrongKind`
-    /// if a value isn't of its kind, `TooMany` if more than 1,048,576 values would wait there or a place would be 2^48 or
-    /// more, and `NoMemory` if memory was refused. A refusal leaves all as it was.
+    /// Fails, in this order:
+    /// - with `UnknownName` if no channel has the name;
+    /// - with `NotAnInput` if the channel isn't an input;
+    /// - with `WrongKind` if a value isn't of its kind;
+    /// - with `TooMany` if more than 1,048,576 values would wait there, or a place would be 2^48 or more;
+    /// - with `NoMemory` if memory is refused.
+    /// A refusal leaves all as it was.
     pub fn feed(&mut self, channel: &str, values: &[Value]) -> Result<(), FeedFault>
         ensures { MatchResult result (λ _. HasPouredIn (channel.now, values.now) self.old self.new) (IsUnpoured (channel.now, values.now) self.old self.new) }
     {
@@ -243,7 +248,8 @@ impl<'n> Flow<'n> {
         self.given.clear();
     }
 
-    /// What is new of the stream of a line since it was last let go of, in place order, for a line of `lines`. Never allocates.
+    /// Returns what is new on the stream of `line` since it last dropped tokens, in place order, for a line of `lines`. Never
+    /// allocates.
     pub fn fresh(&self, line: Line) -> &Tokens
         requires { IsLineOf self.now.run line }
         ensures { AreNew self.now line result.now.items }
@@ -258,7 +264,7 @@ impl<'n> Flow<'n> {
         }
     }
 
-    /// A number from this one on: no stream of a number from this one on and below that has anything new. Never allocates.
+    /// Returns a stream number of at least `from`, such that no stream from `from` up to it has anything new. Never allocates.
     pub fn next_fresh(&self, from: usize) -> usize
         ensures from { from ≤ result }
         ensures stale { (j : ℕ) → from ≤ j → j < result → IsStale self.now j }
@@ -297,7 +303,8 @@ impl<'n> Flow<'n> {
         lines_of(self.alloc, self.network, self.plan.watch)
     }
 
-    /// How each instance stands, right for the input and the bound so far. Only if the run is settled. Never allocates.
+    /// Returns how each instance ended or what it waits for, for the input and the bound so far. Only if the run is settled. Never
+    /// allocates.
     pub fn ends(&self) -> &[End]
         requires { (v : VerdictOf) × (self.now.run.verdict ≡ Some v) }
         ensures { (v : VerdictOf) → self.now.run.verdict ≡ Some v → IsRightSoFar self.now.run v result.now }
@@ -364,9 +371,10 @@ impl<'g, L: Ledger, G: Gate> Driver<'g, L, G> {
     }
 }
 
-/// Runs the processes of a bench on one thread for as many events as the plan's bound, each for at most its quantum at a time, before
-/// which the gate is entered. The list of ends has room for each instance; as far as it is known which instances were woken since they
-/// were noted, those of the others stay. Steps are counted on a ledger of its own. Never allocates.
+/// Runs the processes of a bench on one thread for as many events as the plan's bound, each for at most its quantum at a time.
+/// Before each quantum the gate is entered.
+/// The list of ends has room for each instance. If it is known which instances were woken since their ends were noted, the other
+/// ends stay. Steps are counted on a ledger of its own. Never allocates.
 pub(crate) fn run_on<G: Gate, L: Ledger>(
     blank: Blank,
     bench: &mut Sequential<'_>,

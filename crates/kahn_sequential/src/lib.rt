@@ -1,4 +1,4 @@
-//! Runs on one thread, and what the answers of all runs mean.
+//! Runs on one thread, and what the results of all runs mean.
 #![tactic(auto)]
 
 mod awake;

@@ -19,10 +19,10 @@ use std::sync::ledger::{Blank, Ledger};
 /// How many events a process may do before the next one is run.
 pub const QUANTUM: u64 = 1000;
 
-/// Runs the processes of a bench on one thread for as many events as the plan's bound, each for at most its quantum at a time, before
-/// which the gate is entered, and records what they send. If the run may be left and there is work for several workers, it gives back
-/// what is left, from which the run may go on. Steps are counted on a ledger of its own. The list of ends has room for each instance.
-/// Never allocates, but for what is recorded.
+/// Runs the processes of a bench on one thread for as many events as the plan's bound, each for at most its quantum at a time, and
+/// records what they send. Before each quantum the gate is entered.
+/// If the run may be left and there is work for several workers, it returns what is left, from which the run can continue. Steps
+/// are counted on a ledger of its own. The list of ends has room for each instance. Allocates only for what is recorded.
 pub fn run_until_wide<G: Gate, L: Ledger>(
     blank: Blank,
     bench: &mut Sequential<'_>,
@@ -53,7 +53,7 @@ pub fn run_until_wide<G: Gate, L: Ledger>(
     driver.to_end(bench, first, recording)
 }
 
-/// The answer of a run on a bench that ended so. There is room for all that it wants.
+/// Returns the answer of a run on a bench that ended so. There is room for all that it needs.
 pub fn answered(
     bench: Sequential<'_>,
     part: PartEnd,
@@ -75,7 +75,8 @@ pub fn answered(
 }
 
 /// Runs a network on the caller's thread over plain queues, with a watched channel or none, each process for at most the quantum of
-/// events before the next one. Before each quantum the gate is entered. Fails only if memory was refused before the first event.
+/// events before the next one.
+/// Before each quantum the gate is entered. Fails only if memory is refused before the first event.
 pub fn run_watched<G: Gate>(
     alloc: Global,
     gate: &G,
@@ -94,7 +95,8 @@ pub fn run_watched<G: Gate>(
     Ok(run_on_alone(gate, bench, round, streams, kept, plan))
 }
 
-/// The answer of a run that was left there, once it went on to its end on the caller's thread. The plan has the bound of the whole run.
+/// Returns the answer of a run that was left there, after running it to its end on the caller's thread. The plan has the bound of
+/// the whole run.
 pub fn run_on_alone<G: Gate>(
     gate: &G,
     mut bench: Sequential<'_>,
@@ -120,13 +122,12 @@ pub fn run_on_alone<G: Gate>(
     answered(bench, part, streams, kept, plan.bound)
 }
 
-/// Runs a network on the caller's thread over plain queues, without a watched channel, for at most `bound` events. The
-/// input fits the network.
+/// Runs a network on the caller's thread over plain queues, without a watched channel, for at most `bound` events. The input fits
+/// the network.
 ///
-/// Fails with `BadConfig` exactly if the bound is 2^48 or more, and with `NoMemory` if memory was refused before the first
-/// event. Memory that is refused later stops the run: its answer has the verdict `Memory`, which it has only if an instance
-/// has a next event and the bound isn't used up. Else the verdict is `Finished` exactly if the size of the solution is at
-/// most the bound.
+/// Fails with `BadConfig` exactly if the bound is 2^48 or more, and with `NoMemory` if memory is refused before the first event.
+/// Memory that is refused later stops the run: its answer has the verdict `Memory`, only if an instance has a next event and the
+/// bound isn't used up. Else the verdict is `Finished` exactly if the size of the solution is at most the bound.
 pub fn run_one(
     alloc: Global,
     network: &Network,
@@ -165,8 +166,8 @@ fn watched(network: &Network, name: &Option<String>) -> Result<Option<usize>, Ru
     }
 }
 
-/// The plan of a run of that configuration. Fails with `BadConfig` if a number is out of its limit, then with `UnknownWatch` if no
-/// channel has the name that is to be watched.
+/// Returns the plan of a run with this configuration. Fails with `BadConfig` if a number is beyond its limit, then with
+/// `UnknownWatch` if no channel has the name that is to be watched.
 pub fn plan_of(network: &Network, config: &Config) -> Result<Plan, RunFault>
     ensures allowed { IfOk result (λ _. IsAllowed config.now) }
     ensures watched { IfOk result (λ p. IsWatched network.now config.now.watch p.watch) }

@@ -1,8 +1,8 @@
-//! A run on one thread: rounds in which each instance has its turn, until one in which nothing was done. After a round in which
-//! most turns did nothing, the instances that may go on have turns one after another before the next round.
+//! A run on one thread: rounds in which each instance has its turn, until a round in which nothing was done. After a round in which
+//! most turns did nothing, the instances that can run have turns one after another before the next round.
 //!
-//! Which these are, and whether there is work for several workers, are hints (`awake.rt`). They have no clauses on purpose, since no
-//! answer depends on them: they only save time.
+//! Which these are, and whether there is work for several workers, are hints (`awake.rt`). They have no clauses on purpose, since
+//! no answer depends on them: they only save time.
 
 ghost use Rattle.kahn_sequential.specs.inner.Bench.{HasRunCell, IsVerdict, all_events, events_at};
 ghost use Rattle.kahn_sequential.specs.{inner.FlowBench.IsPartEnd, inner.Recording.HasRecorded, inner.Recording.IsRecording};
@@ -43,7 +43,7 @@ pub struct Round {
     pub ends: Vec<End>,
 }
 
-/// What a run on one thread goes by: the count of its steps, the gate before each quantum, and whether it may be left to several
+/// What a run on one thread is given: the count of its steps, the gate before each quantum, and whether it may be left to several
 /// workers.
 #[derive(Drop)]
 pub struct Driver<'g, L: Ledger, G: Gate> {
@@ -61,7 +61,7 @@ pub struct PartEnd {
 }
 
 impl Round {
-    /// Before the first round of a run for so many events. The list of ends has room for each instance.
+    /// Returns the state before the first round of a run for `bound` events. The list of ends has room for each instance.
     pub fn new(bench: &Sequential<'_>, quantum: u64, bound: u64, ends: Vec<End>) -> Round
         requires quantum { 0 < quantum }
         requires bound { all_events (sight_of bench.now) + bound < 2 ^ 48 }
@@ -248,7 +248,7 @@ impl<'g, L: Ledger, G: Gate> Driver<'g, L, G> {
         stopped
     }
 
-    /// The turn of an instance, which may be a long one if `far` says so, and how it stands then.
+    /// Gives an instance its turn, which may be a long one if `far` says so, and returns its state after that.
     #[inline(always)]
     pub(crate) fn visit(
         &mut self,
@@ -430,8 +430,9 @@ impl<'g, L: Ledger, G: Gate> Driver<'g, L, G> {
         round
     }
 
-    /// Rounds to the end of a part, until one in which nothing was done; or, if the run may be left, until there is work for several workers:
-    /// then it may go on from the round that is the error.
+    /// Does rounds to the end of a part, until one in which nothing was done.
+    /// If the run may be left, it also stops when there is work for several workers: then the error is the round from which the run
+    /// can continue.
     pub(crate) fn to_end(
         &mut self,
         bench: &mut Sequential<'_>,

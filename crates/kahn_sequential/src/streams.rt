@@ -66,8 +66,8 @@ fn add_prints(alloc: Global, lines: &mut Vec<Line>, network: &Network) -> Result
     Ok(())
 }
 
-/// The lines of the streams of an answer, in order of declaration: those of the output channels and of the channel `watch`, and
-/// then those of prints. Fails only if memory was refused.
+/// Returns the lines of the streams of an answer, in order of declaration: the output channels and the channel `watch`, and then
+/// the print lines. Fails only if memory is refused.
 pub(crate) fn lines_of(
     alloc: Global,
     network: &Network,
@@ -111,7 +111,7 @@ fn fill_one(network: &Network, stream: &mut Stream, lists: &mut Vec<Kept>)
     }
 }
 
-/// Fills each stream from what the cells kept: that of a channel with what its writer kept on the parameter, and a print stream
+/// Fills each stream from what the cells kept: a channel's stream with what its writer kept on the parameter, and a print stream
 /// with what was printed. A stream of an input channel stays. Never allocates.
 pub fn fill(network: &Network, streams: &mut Vec<Stream>, lists: &mut Vec<Kept>)
     requires named { AreNamed (network_of network.now) streams.old.items }
@@ -175,7 +175,7 @@ pub fn opening_streams(
     Ok(streams)
 }
 
-/// Room for all that the answer of a run wants. Fails only if memory was refused.
+/// Makes room for all that the answer of a run needs. Fails only if memory is refused.
 pub fn room_for_answer(
     alloc: Global,
     network: &Network,

@@ -7,7 +7,7 @@ use kahn_code::{Code, CodeFault, Kept, Tap};
 use kahn_streams::{Input, Line, Network, NoMemory};
 use std::alloc::Global;
 
-/// The instances that were woken since their ends were noted, or had turns since what they kept was let go of, if that is known.
+/// The instances that were woken since their ends were noted, or had turns since they last dropped tokens, if that is known.
 #[derive(Drop)]
 pub(crate) struct Woken {
     pub(crate) instances: Vec<usize>,
@@ -59,7 +59,7 @@ fn forget_at(taps: &mut Vec<Tap>, instance: usize)
     taps[instance].forget();
 }
 
-/// All taps let go of what they keep: as far as that is known, only these keep anything.
+/// Makes all taps drop what they keep. As far as `turned` knows, only its instances keep anything.
 pub(crate) fn forget_turned(taps: &mut Vec<Tap>, turned: &mut Woken)
     requires { turned.old.known ≡ true → AreSpentBut turned.old taps.old.items }
     ensures { HaveChanged HasSpent taps.old.items taps.new.items }
@@ -74,7 +74,7 @@ pub(crate) fn forget_turned(taps: &mut Vec<Tap>, turned: &mut Woken)
     }
 }
 
-/// Says that each process stands where its tap says. For the prover only.
+/// States that each process is where its tap says. For the prover only.
 pub(crate) fn all_stood(network: &Network, taps: &[Tap])
     requires { (p : ℕ) (x : Tapped) → slice_get taps.now p ≡ Some x → x.told.network ≡ network.now }
     ensures { (p : ℕ) (x : Tapped) → slice_get taps.now p ≡ Some x → StandsAsTold network.now x }
@@ -181,7 +181,7 @@ fn add_number(network: &Network, spans: &mut Vec<NumberRange>, line: Line, numbe
     };
 }
 
-/// Of each instance the numbers, among these lines, of the streams that it writes. Fails only if memory was refused.
+/// Returns, for each instance, the numbers among these lines of the streams that it writes. Fails only if memory is refused.
 pub(crate) fn numbers_of(
     alloc: Global,
     network: &Network,
@@ -210,7 +210,7 @@ fn least_in(spans: &[NumberRange], instance: usize, most: usize, from: usize) ->
     }
 }
 
-/// The least of the numbers of these instances that aren't less than another one.
+/// Returns the least number of these instances that isn't less than another one's.
 pub(crate) fn least_of(spans: &[NumberRange], instances: &[usize], from: usize) -> usize
     ensures from { from ≤ result }
     ensures least { (p j : ℕ) → is_in instances.now p → IsNumberOf spans.now p j → from ≤ j → result ≤ j }

@@ -1,5 +1,5 @@
-//! Runs, draws and explains texts for a host that calls in, as a page does: the bytes of a program and an input in, those of a report
-//! out, or of why the run stopped, or of what each channel carried; the bytes of a program in, those of a picture out.
+//! Runs, draws and explains texts for a host that calls in, as a page does. The bytes of a program and an input go in. Out come the
+//! bytes of a report, or of why the run stopped, or of what each channel carried, or of a picture.
 #![tactic(auto)]
 
 ghost use Rattle.kahn_web.specs.{Explained.IsReason, Page.IsPut, Page.IsPutIf, Page.IsRunInto, Picture.IsNetworkPicture, Whole.IsWholeText};
@@ -20,7 +20,7 @@ use std::hash::RandomState;
 pub struct RunOutcome {
     /// The status that the program `kahn` ends with for the same texts.
     pub status: u64,
-    /// How many bytes the report has, or the line of the fault if there is no report.
+    /// How many bytes the report has, or the line of the fault if there isn't a report.
     pub length: u64,
 }
 
@@ -34,8 +34,8 @@ fn put(bytes: &[u8], room: &mut [u8]) -> u64
     bytes.len() as u64
 }
 
-/// Runs a program on an input for at most `bound` events on the caller's thread. The report, or the line of the fault if there is
-/// none, is copied to the front of the room, if it is large enough; else the room keeps its bytes.
+/// Runs a program on an input for at most `bound` events on the caller's thread. The report, or else the line of the fault, is
+/// copied to the front of the room, if it is large enough; else the room keeps its bytes.
 #[unsafe(no_mangle)]
 pub extern "C" fn kahn_web_run(
     alloc: Global,
@@ -56,8 +56,8 @@ pub extern "C" fn kahn_web_run(
     };
 }
 
-/// Draws the network of a program. The picture, in the language of Graphviz, is copied as a report is, and its length is given, which
-/// is 0 where there is none: where the text isn't UTF-8, where the program is refused, and where memory is.
+/// Draws the network of a program. The picture, in the language of Graphviz, is copied as a report is. Returns its length, which is
+/// 0 if the text isn't UTF-8, if the program is refused, or if memory is refused.
 #[unsafe(no_mangle)]
 pub extern "C" fn kahn_web_draw(
     alloc: Global,
@@ -82,8 +82,8 @@ pub extern "C" fn kahn_web_draw(
     }
 }
 
-/// Tells why a program is refused, or else its input, or else why its run for at most `bound` events stopped. The text is copied as a
-/// report is, and its length is given, which is 0 where there is nothing to tell.
+/// Explains why a program is refused, or its input, or why its run for at most `bound` events stopped. The text is copied as a
+/// report is. Returns its length, which is 0 if there is nothing to explain.
 #[unsafe(no_mangle)]
 pub extern "C" fn kahn_web_explain(
     alloc: Global,
@@ -101,10 +101,12 @@ pub extern "C" fn kahn_web_explain(
     }
 }
 
-/// Runs a program on an input for at most `bound` events, with at most `quantum` of them in a turn of a process, and keeps what is sent
-/// on every channel. For each channel in order of declaration there is a line with its number of values and of those that were taken,
-/// and a line of its history, unless that is empty or in the report, which comes last. If a process reads a channel that it writes, each
-/// turn is one event. The text is copied as a report is, and its length is given, which is 0 where there is none.
+/// Runs a program on an input for at most `bound` events, at most `quantum` of them in a turn of a process, and keeps what is sent
+/// on every channel.
+/// For each channel in order of declaration there is a line with its number of values and how many of them were taken. Then comes a
+/// line of its history, unless that is empty or in the report. The report comes last. If a process reads a channel that it writes,
+/// each turn is one event.
+/// The text is copied as a report is. Returns its length, which is 0 if there is none.
 #[unsafe(no_mangle)]
 pub extern "C" fn kahn_web_whole(
     alloc: Global,

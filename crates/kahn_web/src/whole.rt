@@ -1,5 +1,5 @@
-//! The whole work by one thread, which needs no handle, for texts that are bytes; of all channels of a run how many values each had, what
-//! they were, and how many were taken; and why a run stopped, or a program or an input is refused.
+//! The whole work by one thread, which needs no handle, for texts that are bytes: the report of a run; for all channels of a run
+//! how many values each had, what they were, and how many were taken; and why a run stopped, or a program or an input is refused.
 
 ghost use Rattle.std.specs.Prelude.{◌≡◌, ◌<◌, IfOk, IfSome, Some, length, slice_get, MatchResult, codes, false};
 ghost use Rattle.kahn_streams.specs.{Network.network_of, Written.Writes};
@@ -76,8 +76,8 @@ fn written(alloc: Global, network: &Network, run: &Recorded) -> Result<Vec<u8>, 
     Ok(written)
 }
 
-/// The counts and histories of all channels of a run with at most so many events in a turn, and its report. There is nothing where a
-/// text is refused, where a number is past its limit, and where memory is refused.
+/// Returns the counts and histories of all channels of a run with at most `quantum` events in a turn, and its report. Nothing if a
+/// text is refused, if a number is beyond its limit, or if memory is refused.
 pub fn kept(
     alloc: Global,
     secret: &PageSecret,
@@ -158,8 +158,8 @@ fn work_alone<W: Write>(
     }
 }
 
-/// Runs a program on an input, both bytes. The writer gets the report, or the line of the fault. Returns the status. If there
-/// is no secret, the program text counts as one that can't be read.
+/// Runs a program on an input, both bytes. The writer gets the report, or the line of the fault. Returns the status. Without a
+/// secret the program text counts as one that can't be read.
 pub fn run_texts<W: Write>(
     alloc: Global,
     secret: &PageSecret,
@@ -185,7 +185,7 @@ pub fn run_texts<W: Write>(
     tell(&answer, text, writer).status
 }
 
-/// Why the input of a program is refused, as `kahn_explain program --input input` tells it.
+/// Returns why the input of a program is refused, as `kahn_explain program --input input` prints it.
 fn refused(
     alloc: Global,
     seed: RandomState,
@@ -205,7 +205,7 @@ fn refused(
     }
 }
 
-/// Why the run of an answer stopped, behind what is warned of in its program, as `kahn_explain program --input input --all` tells it.
+/// Returns the warnings on a program and then why its run stopped, as `kahn_explain program --input input --all` prints them.
 fn stopped(
     alloc: Global,
     program: &str,
@@ -233,8 +233,8 @@ fn stopped(
     }
 }
 
-/// Why a program is refused, or its input, or else why its run for at most `bound` events stopped, behind the warnings on the program.
-/// There is nothing where a text isn't UTF-8, where the fault has no place, where the bound is past its limit, and where memory is refused.
+/// Returns the warnings on a program, and why it is refused, or its input, or why its run for at most `bound` events stopped.
+/// Nothing if a text isn't UTF-8, if the fault has no place, if the bound is beyond its limit, or if memory is refused.
 pub fn reason(
     alloc: Global,
     secret: &PageSecret,
