@@ -1,5 +1,5 @@
-//! Runs a network of processes and channels, and explains why the run stopped, or what is wrong with the program text; or writes
-//! all that its channels carried.
+//! Runs a network of processes and channels, and explains why the run stopped, or what is wrong with the program text. It also
+//! writes what the channels carried, and what values need.
 #![tactic(auto)]
 
 mod needing;
@@ -40,7 +40,7 @@ fn wish_of(options: &ExplainOptions) -> Wish {
     }
 }
 
-/// Does what the command line asks for, and gives the status. Faults are told to the writer.
+/// Does what the command line asks for, and returns the exit status. Faults are reported to the writer.
 fn answered<R: Runtime + AllocGlobal + RandomSource, W: Write>(
     rt: &R,
     options: ExplainOptions,

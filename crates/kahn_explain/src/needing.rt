@@ -1,4 +1,4 @@
-//! What the value or the values that a word names need, or which are the first that need one.
+//! The answers of `--needs` and `--wakes`: what values need, and the first values that need one.
 
 ghost use Rattle.std.specs.Prelude.{◌≡◌, ◌↔◌, ℕ, Some, false, true, IfOk, MatchOption, MatchResult, Option, option_map, length};
 ghost use Rattle.kahn_streams.specs.{Network.Given, Network.network_of, Solution.source, declared.value.Line.Line, Inputs.inputs_of};
@@ -57,7 +57,7 @@ pub enum AskFault {
     NoLine,
     /// It names an input, or another line where an input is asked for.
     WrongLine,
-    /// What stands behind its colon is no place.
+    /// What comes after its colon isn't a place.
     NoPlace,
 }
 
@@ -72,7 +72,7 @@ fn place_of(word: &str) -> Option<u64>
     }
 }
 
-/// The place that stands behind a colon, or none where there is no colon.
+/// Returns the place after a colon, or nothing if there is no colon.
 fn place_given(word: Option<&str>) -> Option<Option<u64>>
     ensures { IsGivenAs (option_map (λ t. t.now) word.entry) result }
 {
@@ -138,7 +138,7 @@ pub(crate) fn sought(network: &Network, word: &str, wakes: bool) -> Result<Quest
     }
 }
 
-/// What is told of what the value at a place of a line needs, with the counts of the whole run.
+/// Returns what the value at a place of a line needs, in words, beside the counts of the whole run.
 fn place_told(
     alloc: Global,
     network: &Network,
@@ -159,7 +159,7 @@ fn place_told(
     Ok((words, found_end(&found)))
 }
 
-/// What is told of the first values that need the one at a place of an input, with the counts of the whole run.
+/// Returns the text on the first values that need the one at a place of an input, with the counts of the whole run.
 pub(crate) fn firsts_told(
     alloc: Global,
     network: &Network,
@@ -180,7 +180,7 @@ pub(crate) fn firsts_told(
     }
 }
 
-/// What is told of what the value at a place of a line needs.
+/// Returns the text on what the value at a place of a line needs.
 pub(crate) fn needs_told(
     alloc: Global,
     network: &Network,
@@ -217,7 +217,7 @@ pub(crate) fn needs_head(alloc: Global, network: &Network) -> TableText {
     Ok(text)
 }
 
-/// Adds how many of each channel or process are needed, by its name, where any are. Where the run has finished, of how many.
+/// Adds how many of each channel or process are needed, by its name, if any are. If the run has finished, it adds out of how many.
 fn add_counts(
     text: &mut String,
     network: &Network,
@@ -248,7 +248,7 @@ fn add_counts(
     Ok(())
 }
 
-/// Adds a place of a line, and what was found of it; or, where the first value that needs one was sought, that none does.
+/// Adds a place and what it needs; with `wakes`, if no value needs it, the line and that.
 fn add_found(
     text: &mut String,
     network: &Network,
@@ -365,7 +365,7 @@ fn seeker_on<'n>(
     }
 }
 
-/// Adds what is told of a line, if an instance sends on it, and returns how the search ended, and the search itself for the next line.
+/// Adds the text on a line, if an instance sends on it, and returns how the search ended, and the search itself for the next line.
 fn add_first<'n>(
     alloc: Global,
     text: &mut String,
@@ -392,7 +392,7 @@ fn add_first<'n>(
     Ok((found_end(&first.1), Some(seeker)))
 }
 
-/// What is told of all streams of a run, and how the searches ended, which do at most `bound` events together.
+/// Returns the text on all streams of a run, and how the searches ended. Together they do at most `bound` events.
 fn firsts(
     alloc: Global,
     network: &Network,

@@ -21,7 +21,7 @@ use kahn_texts::{read_input, write_line};
 use std::alloc::Global;
 use std::io::Write;
 
-/// What goes out, the words beside it, and what it came to.
+/// What is written, the words next to it, and its outcome.
 #[derive(Drop)]
 pub(crate) struct Reply {
     pub(crate) text: String,
@@ -29,7 +29,7 @@ pub(crate) struct Reply {
     pub(crate) came: Came,
 }
 
-/// What is told beside a table: the explanation, where the status isn't 0.
+/// Returns what is reported next to a table: the explanation, if the status isn't 0.
 fn beside(alloc: Global, told: Finding, text: String) -> String
     ensures { string_bytes result ≡ beside told (string_bytes text) }
 {
@@ -63,8 +63,8 @@ fn counts_of(
     })
 }
 
-/// Writes the table of all that the channels of a run carried, row by row, and to the other writer what is told beside it. Nothing is written
-/// before the run has ended, and no memory is refused after that.
+/// Writes the table of all that the channels of a run carried, row by row, and to the other writer what is reported next to it.
+/// Nothing is written before the run has ended, and no memory is asked for after that.
 fn trace_out<T: Write, W: Write>(
     alloc: Global,
     of: Request<'_>,
@@ -102,7 +102,8 @@ fn rows_fault(fault: RowsFault) -> WorkFault
     }
 }
 
-/// Writes the table of what all values of a line need, row by row as they are found, and to the other writer the notes on the program.
+/// Writes the table of what all values of a line need, row by row as they are found. The other writer gets the notes on the
+/// program.
 fn needs_out<T: Write, W: Write>(
     alloc: Global,
     of: Request<'_>,
@@ -215,7 +216,7 @@ fn notes_for(came: Came, notes: &str) -> &str
     }
 }
 
-/// Writes a reply, and what is told beside it.
+/// Writes a reply, and what is reported next to it.
 fn reply_out<T: Write, W: Write>(
     it: &Admitted,
     reply: Reply,
@@ -231,7 +232,7 @@ fn reply_out<T: Write, W: Write>(
     write_both(notes, reply.words.as_str(), reply.came, log)
 }
 
-/// Writes what a word asks for, and what is told beside it.
+/// Writes what a word asks for, and what is reported next to it.
 #[tactic(auto, using(crate::proofs::Sheets::put_reply, crate::proofs::Sheets::rows_replied))]
 fn asked_out<T: Write, W: Write>(
     alloc: Global,
@@ -253,7 +254,7 @@ fn asked_out<T: Write, W: Write>(
     }
 }
 
-/// Writes the counts of a run's channels, and what is told beside them.
+/// Writes the counts of a run's channels, and what is reported next to them.
 #[tactic(auto, using(crate::proofs::Sheets::put_reply))]
 fn counts_out<T: Write, W: Write>(
     alloc: Global,
@@ -272,10 +273,11 @@ fn counts_out<T: Write, W: Write>(
     }
 }
 
-/// Writes a sheet, and then to another writer what is warned of in the program, and why the run stopped if its status isn't 0; or to
-/// that writer why the program text or the word is refused, and for a warning too if it is asked to be strict. Faults are found in this
-/// order: of the program text, of the network, warnings, of the word, of the input text, of the run, memory, of the writers. Rows of a
-/// table of needs go out as they are found, so memory may be refused after the first ones; else nothing is written before that is known.
+/// Writes a sheet. Another writer gets the warnings on the program and, if the status isn't 0, why the run stopped. Or it gets why
+/// the program text or the word is refused; if it is asked to be strict, a warning counts as such a reason.
+/// Faults are found in this order: of the program text, of the network, warnings, of the word, of the input text, of the run,
+/// memory, of the writers. Rows of a table of needs are written as they are found, so memory may be refused after the first ones.
+/// Else nothing is written before that is known.
 #[tactic(auto, using(crate::proofs::Sheets::of_kind))]
 pub(crate) fn sheet_out<T: Write, W: Write>(
     alloc: Global,

@@ -1,4 +1,4 @@
-//! Tables that go out row by row. No text of a whole table is in memory.
+//! Tables that are written row by row. The text of a whole table is never in memory.
 
 ghost use Rattle.std.specs.Prelude.{◌≡◌, ◌≤◌, IfOk};
 ghost use Rattle.kahn_streams.specs.{Inputs.inputs_of, Network.network_of};
@@ -105,7 +105,7 @@ impl Numbers {
         true
     }
 
-    /// Makes the text that of these numbers.
+    /// Makes the text the text of these numbers.
     fn renew(&mut self, numbers: &[u64]) -> Result<(), AllocError> {
         if self.numbers.len() != numbers.len() {
             return self.write(numbers);

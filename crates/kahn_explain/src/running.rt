@@ -20,7 +20,7 @@ use std::hash::RandomState;
 use std::io;
 use std::io::{ErrorKind, Write};
 
-/// What running and explaining came to; why the input text is refused is told to the writer, if that has a place.
+/// Returns the outcome of running and explaining. Why the input text is refused is reported to the writer, if that has a place.
 fn or_refused<W: Write>(
     alloc: Global,
     of: Request<'_>,
@@ -58,8 +58,8 @@ fn done_as_data<W: Write>(alloc: Global, of: Request<'_>, out: &mut W) -> Result
     )
 }
 
-/// Explains the run of the program on the input; or looks at the texts alone; or writes a sheet, and to the other writer what is told beside
-/// it, or why there is none.
+/// Explains a run, checks the texts only, or writes a sheet to `out`. Everything beside a sheet goes to `log`, also why there is
+/// none.
 fn done<W: Write, E: Write>(
     alloc: Global,
     wish: Wish,
@@ -87,7 +87,8 @@ fn done<W: Write, E: Write>(
     }
 }
 
-/// The status for what the explaining came to. A fault is told to the writer, unless it is that nobody reads what is explained.
+/// Returns the exit status for the outcome of explaining. A fault is reported to the writer, unless it is that nobody reads the
+/// explanation.
 fn ended<E: Write>(came: Result<Came, WorkFault>, program: &str, gone: bool, errors: &mut E) -> u8
     ensures told { IsFaultTold gone program.now came (E.contents errors.old) (E.contents errors.new) }
     ensures status { result ≡ end_status came }
@@ -109,7 +110,7 @@ fn ended<E: Write>(came: Result<Came, WorkFault>, program: &str, gone: bool, err
     }
 }
 
-/// Does what is asked for, and gives the exit status. What is told beside a sheet, and a fault, goes to `errors`.
+/// Does what is asked for, and returns the exit status. Messages next to a sheet, and a fault, go to `errors`.
 pub(crate) fn ran<W: Write, E: Write>(
     alloc: Global,
     wish: Wish,
@@ -159,7 +160,7 @@ pub(crate) struct Request<'t> {
     pub(crate) word: &'t str,
     /// Whether a program with a warning is refused.
     pub(crate) strict: bool,
-    /// Whether each process is told that hasn't ended, and not only each cause.
+    /// Whether each process that hasn't ended is listed, and not only each cause.
     pub(crate) all: bool,
 }
 
@@ -191,7 +192,8 @@ impl<W: Write> Write for Pipe<W> {
     }
 }
 
-/// What a run came to, and what is told of it: why it stopped, by its causes or for each process, and which values nobody took.
+/// Returns the outcome of a run, and the text on it: why it stopped, by its causes or for each process, and which values nobody
+/// took.
 pub(crate) fn told_of(
     alloc: Global,
     of: Request<'_>,
@@ -212,11 +214,10 @@ pub(crate) fn told_of(
     Ok((explanation.told, text))
 }
 
-/// Writes what is warned of in a program, runs it on an input, and writes why the run stopped; or why the program text is refused,
-/// where that has a place, and for a warning too where it is asked to be strict. What is warned of is written and flushed once the
-/// input text was read, before the run begins: so it stands where the run is refused, or memory for the explanation. Else nothing is
-/// written before all that is to be written stands. Faults are found in this order: of the program text, of the network, warnings,
-/// of the input text, of the writer at the warnings, of the run, want of memory, of the writer at the explanation.
+/// Writes the warnings, runs the program, and writes why it stopped; or writes why the program is refused (with `strict`, also for
+/// a warning). Warnings go out once the input is read, before the run; everything else is complete before it is written. Faults,
+/// first one first: program text, network, warnings, input text, the writer of warnings, the run, memory, the writer of the
+/// explanation.
 pub(crate) fn explain<W: Write>(
     alloc: Global,
     of: Request<'_>,

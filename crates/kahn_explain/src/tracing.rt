@@ -1,4 +1,4 @@
-//! Runs for a table: of histories, and of counts; and the channel of which most values were left.
+//! Runs for a table of histories or of counts; and the channel with the most values left.
 
 ghost use Rattle.std.specs.Prelude.{◌≡◌, ◌<◌, ◌++◌, IfOk, MatchResult, false, length, map, ◌+◌, string_bytes};
 ghost use Rattle.kahn_streams.specs.{Answers.HasStream, Answers.is_output, Network.network_of, Network.role_at, declared.value.Line.TheVariants.Channel};
@@ -32,7 +32,7 @@ pub(crate) fn counted(
     }
 }
 
-/// The run of a network for an input text, with all that was sent. It refuses as `read_input` and `run_recorded` do.
+/// Returns the run of a network for an input text, with all that was sent. Fails as `read_input` and `run_recorded` do.
 pub(crate) fn recorded(
     alloc: Global,
     network: &Network,
@@ -70,7 +70,7 @@ fn kept<'r>(_network: &Network, run: &'r Recorded, channel: usize) -> &'r Stream
     &run.channels[channel]
 }
 
-/// The history of a channel: of the answer where it is an output, and else of what was kept.
+/// Returns the history of a channel: the answer's if it is an output, and else what was kept.
 fn history<'r>(network: &Network, run: &'r Recorded, channel: usize) -> &'r Stream
     requires here { channel < length (network_of network.now).channels }
     requires run { IsRecord network.now run.now }
@@ -91,8 +91,8 @@ fn add_print<'r>(columns: &mut Vec<&'r Stream>, stream: &'r Stream) -> Result<()
     }
 }
 
-/// The histories of all channels and print streams of a run, from place 0 on, as far as they came. Each begins the history of its line, and
-/// where the answer has finished it is the whole of it.
+/// Returns the histories of all channels and print streams of a run, from place 0 on. Each begins the history of its line, and if
+/// the answer has finished it is the whole history.
 fn columns_of<'r>(
     alloc: Global,
     network: &Network,
@@ -144,8 +144,9 @@ pub(crate) fn add_value(text: &mut String, value: Value) -> Result<(), AllocErro
     }
 }
 
-/// The table of all that the channels of a run carried: a row that heads the columns of its channels and prints, the first with the word
-/// `place`, and a row for each place, from 1 to that of the last value of all, with the value of each column there, or nothing if it has none.
+/// The table of all that the channels of a run carried. A first row heads the columns of its channels and prints; its first word is
+/// `place`. Then comes a row for each place, from 1 to the last value's place. It has the value of each column there, or nothing if
+/// there is none.
 #[derive(Drop)]
 pub(crate) struct Trace<'r> {
     head: String,
@@ -158,7 +159,7 @@ pub(crate) struct Trace<'r> {
 }
 
 impl<'r> Trace<'r> {
-    /// Makes the table ready, so that nothing is allocated once a part of it went out.
+    /// Makes the table ready, so that nothing is allocated once a part of it has been written.
     pub(crate) fn new(
         alloc: Global,
         network: &Network,
@@ -272,7 +273,7 @@ impl<'r> Trace<'r> {
     }
 }
 
-/// Adds the number and the name of the process on a side of a channel; nothing where none is there.
+/// Adds the number and the name of the process on a side of a channel; nothing if there is none.
 fn add_side(text: &mut String, network: &Network, side: Option<Side>) -> Result<(), AllocError> {
     match side {
         Some(side) => add_line(text, network, Line::Print(side.instance)),
@@ -280,7 +281,7 @@ fn add_side(text: &mut String, network: &Network, side: Option<Side>) -> Result<
     }
 }
 
-/// The table of the counts of the channels of a run: a row that heads the columns, and for each channel a row with its name, the
+/// Returns the table of the counts of a run's channels. A first row heads the columns; each channel has a row with its name, the
 /// processes that write and read it, and how many values were sent, taken and left.
 pub(crate) fn counts_text(alloc: Global, network: &Network, counts: &[Count]) -> TableText {
     let mut text = String::from_str(alloc, "channel,from,to,sent,taken,left\n")?;
@@ -312,7 +313,7 @@ fn left_of(network: &Network, counts: &[Count], channel: usize) -> u64
     }
 }
 
-/// Of one channel and the next one that of which more values are left, and how many.
+/// Returns `one`, or `next` if that has more values left, with how many.
 fn fuller(network: &Network, counts: &[Count], one: (usize, u64), next: usize) -> (usize, u64)
     requires here { next < length (network_of network.now).channels }
     requires one { IsFullest network.now counts.now next one }
@@ -326,7 +327,7 @@ fn fuller(network: &Network, counts: &[Count], one: (usize, u64), next: usize) -
     one
 }
 
-/// The channel of which most values are left, and how many, if of one some are.
+/// Returns the channel with the most values left, and how many, if a channel has any.
 fn fullest(network: &Network, counts: &[Count]) -> (usize, u64)
     ensures { IsFullest network.now counts.now (length (network_of network.now).channels) result }
 {
@@ -337,7 +338,7 @@ fn fullest(network: &Network, counts: &[Count]) -> (usize, u64)
     one
 }
 
-/// The line on the channel of which most values are left; nothing where none is, or the run has more to do.
+/// Returns the line on the channel with the most values left; nothing if no value is left, or the run has more to do.
 pub(crate) fn untaken_line(
     alloc: Global,
     network: &Network,
@@ -376,7 +377,7 @@ pub(crate) fn untaken_line(
     Ok(text)
 }
 
-/// A text with a line behind its first one.
+/// Returns a text with a line after its first one.
 pub(crate) fn with_line(alloc: Global, text: &str, line: &str) -> Result<String, AllocError>
     ensures { IfOk result (λ whole. string_bytes whole ≡ put_line line.now (parted_at 10 text.now)) }
 {

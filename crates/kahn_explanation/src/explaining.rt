@@ -57,7 +57,7 @@ pub fn write_both<W: Write>(
     }
 }
 
-/// Writes why a program text has a fault, where that has a place; the fault is answered where it has none.
+/// Writes why a program text was refused; returns `fault` itself if it has no place in the text.
 fn refuse<W: Write>(
     alloc: Global,
     seed: RandomState,
@@ -208,7 +208,8 @@ fn held_words(
     Ok(String::new(alloc))
 }
 
-/// Notes in lines, with such a text between, and what is said below those on these faults of a program whose text has these comments.
+/// Returns the notes as text, with `between` between two of them; a note on an undeclared name ends with the comment that seems to
+/// declare it.
 fn note_lines(
     alloc: Global,
     path: &str,

@@ -137,7 +137,7 @@ fn is_fit_part(asked: Option<Kind>, part: &[u8]) -> bool
     }
 }
 
-/// Where what follows on a piece of some bytes begins, which begins at one of them: behind a byte that ends it.
+/// Returns the byte after a piece that begins at `from` and the separator after it.
 pub(crate) fn past(_bytes: &[u8], from: usize, piece: &[u8]) -> usize
     requires { from + length piece.now ≤ length _bytes.now }
     ensures { result ≡ from + length piece.now + 1 }
@@ -195,7 +195,7 @@ fn count_in(entries: bool, line: &[u8]) -> usize
     if is_skipped { 0 } else { 1 }
 }
 
-/// The line of this number, or the entry where entries alone count, from 0.
+/// Finds line `number` from 0; with `entries`, blank lines don't count.
 pub(crate) fn find_line(text: &str, entries: bool, number: usize) -> Option<FoundLine<'_>>
     ensures { MatchOption result (IsUnfound text.now entries number) (λ f. IsFound text.now entries number f.from f.line.now) }
 {

@@ -1,4 +1,4 @@
-//! The part of a line that isn't taken which is at fault, and what is wanted there, where lines come one at a time.
+//! For input that comes line by line: which part of a refused line is at fault, and what was expected there.
 
 ghost use Rattle.std.specs.Prelude.{◌≡◌};
 ghost use Rattle.kahn_texts.specs.Formats.{content as content_of};

@@ -13,12 +13,12 @@ use std::io::{BufRead, BufReader, ErrorKind, Read};
 /// A byte order mark, which the first line may begin with.
 const MARK: &[u8] = b"\xEF\xBB\xBF";
 
-/// How many bytes of a line are kept: more than its limit, behind a byte order mark too.
+/// How many bytes of a line are kept: more than its limit, also after a byte order mark.
 const MOST_KEPT: usize = MOST_BYTES + 4;
 
-/// What came.
+/// What was read.
 pub(crate) enum Next {
-    /// A line, which may be too long: then it is cut behind its limit.
+    /// A line, which may be too long: then it is cut after its limit.
     Line,
     /// The end of the input.
     End,
@@ -35,8 +35,8 @@ pub(crate) fn has_line<R: Read>(reader: &BufReader<R>) -> bool
     reader.buffer().contains(&b'\n')
 }
 
-/// Reads the next line without its line feed into an empty list. The last line needs none. The rest of one for which memory is refused
-/// is passed over.
+/// Reads the next line, without its line feed, into the empty `line`; the last line needs none. If memory is refused, the rest of
+/// the line is skipped.
 pub(crate) fn read_line<B: BufRead>(reader: &mut B, line: &mut Vec<u8>) -> Next
     requires { vec_len line.old ≡ 0 }
     ensures { IsNextLine (B.remaining reader.old) (B.remaining reader.new) line.new.items result }
@@ -61,7 +61,7 @@ pub(crate) fn read_line<B: BufRead>(reader: &mut B, line: &mut Vec<u8>) -> Next
     Next::Failed
 }
 
-/// Reads what has come of a line, or waits for it, and keeps it; nothing is told where more may come, and nothing read without memory.
+/// Adds what is there of a line, or waits for it. Returns `None` if more may follow. If memory is refused, reads nothing.
 fn read_part<B: BufRead>(reader: &mut B, line: &mut Vec<u8>) -> Option<Next>
     requires { vec_len line.old ≤ most_kept }
     ensures { IsLinePart (B.remaining reader.old) (B.remaining reader.new) line.old.items line.new.items result }
@@ -123,7 +123,7 @@ pub(crate) fn without_mark(line: &[u8], number: u64) -> &[u8]
     line.strip_prefix(MARK).unwrap_or(line)
 }
 
-/// A line as it is fed: behind the name of the input channel and a colon, where values stand alone.
+/// Returns the line to feed: `line` itself, or with a bare input `INPUT:LINE`, made in `room`.
 pub(crate) fn fed_line<'a>(
     input: Option<&str>,
     line: &'a [u8],
@@ -147,7 +147,7 @@ pub(crate) fn is_several(names: &str) -> bool
     names.as_bytes().contains(&b',')
 }
 
-/// The names of several channels, where commas stand between them: then each line is a row.
+/// Returns the names of several channels, if there is a comma between them: then each line is a row.
 pub(crate) fn row_names(input: Option<&str>) -> Option<&str>
     ensures { option_copied result ≡ row_names (option_copied input.entry) }
 {
@@ -212,7 +212,8 @@ fn cell_of(alloc: Global, name: &[u8], word: &[u8]) -> Result<Vec<u8>, AllocErro
     Ok(cell)
 }
 
-/// A line that feeds a row's value to the channel of that name, where it is meant for it; else it, or nothing, and the fault.
+/// Returns a line that feeds a row's value to the channel called `name`, if it is meant for it; else the line, or nothing, and the
+/// fault.
 fn tried_cell(
     alloc: Global,
     session: &Session<'_>,
@@ -230,7 +231,8 @@ fn tried_cell(
     }
 }
 
-/// The lines of a row, one for each of the names and meant for an input channel; else why there are none, and which line isn't.
+/// Returns one line `NAME:VALUE` for each name of a row, all meant for input channels; or the fault, and the line that has it
+/// (empty for the row itself).
 pub(crate) fn row_cells(
     alloc: Global,
     session: &Session<'_>,
@@ -267,7 +269,8 @@ pub(crate) fn row_cells(
     Ok(cells)
 }
 
-/// The numbers of the streams of the channels of these names; or `UnknownWatch` where there is no name, or no stream of one.
+/// Returns the numbers of the streams of the channels with these names; `UnknownWatch` if there is no name, or a name has no
+/// stream.
 pub(crate) fn stream_numbers(
     alloc: Global,
     session: &Session<'_>,

@@ -18,7 +18,7 @@ use std::rt::Runtime;
 use std::{env, io};
 use taking::wants_memory;
 
-/// Does what the command line asks for, and gives the status. Faults are told to the writer.
+/// Does what the command line asks for, and returns the exit status. Faults are reported to the writer.
 fn answered<R: Runtime + AllocGlobal + RandomSource, W: Write>(
     rt: &R,
     mut options: LiveOptions,

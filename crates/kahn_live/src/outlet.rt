@@ -1,4 +1,5 @@
-//! The writer of what is new, which goes out before the next wait and not line by line; and streams that another program left so that they don't block.
+//! The writer of what is new, which is written before the next wait and not line by line; and streams that another program left in
+//! a state in which they don't block.
 
 ghost use Rattle.std.specs.Prelude.{◌≡◌, ◌⊎◌, ◌↔◌, false, true, IfErr, IsErr, IsTrue};
 ghost use Rattle.std.specs.{Io.WritesAtMost, Io.KnownBytes.Keeps, Io.KnownBytes.WriteAppends};
@@ -10,7 +11,7 @@ use std::io::{ErrorKind, Read, Write};
 use std::time::{Clock, Duration};
 use std::{io, thread};
 
-/// A writer that flushes at `send` alone, and remembers whether its reader is gone.
+/// A writer that flushes only at `send`, and remembers whether its reader is gone.
 #[derive(Drop)]
 pub(crate) struct DeferredWriter<W: Write> {
     pub(crate) writer: W,

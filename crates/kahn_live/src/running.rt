@@ -19,28 +19,29 @@ use std::alloc::Global;
 use std::hash::RandomState;
 use std::io::{BufReader, Read, Write};
 
-/// What is amiss with a run that is judged.
+/// What is wrong with a run that is judged.
 #[derive(Clone, Copy)]
 pub(crate) enum Amiss {
     /// A process has a fault of arithmetic.
     Faulted,
-    /// None has, and processes wait on one another in a ring.
+    /// No process has a fault, and processes wait on one another in a cycle.
     Ringed,
 }
 
 /// How a run ended.
 #[derive(Drop)]
 pub(crate) enum RunEnding {
-    /// The end of the input was reached, and that is amiss.
+    /// The end of the input was reached, and this is wrong, if anything.
     Reached(Verdict, Option<Amiss>),
     /// Nobody reads what is new any more.
     Gone,
-    /// There is no channel of a name of `--plain`, or it is no input where its values stand in the lines; or a line of `--at-end` isn't
+    /// A name of `--plain` isn't a channel's, or isn't an input's though its values are in the lines; or a line of `--at-end` isn't
     /// meant for an input channel.
     Refused,
 }
 
-/// The name of the channel that is watched: where values stand alone, of the first one whose values are shown, which so has a stream.
+/// Returns the name of the channel that is watched. If only values are written, it is the first channel whose values are shown,
+/// which so has a stream.
 fn name_watched(options: &LiveOptions) -> Option<&str>
     ensures { option_copied result ≡ name_watched options.now.plain options.now.config.watch }
 {
@@ -54,7 +55,7 @@ fn name_watched(options: &LiveOptions) -> Option<&str>
     }
 }
 
-/// The numbers of the streams of which the values alone are shown: of those that are named, or else of the first.
+/// Returns the numbers of the streams whose values are shown without names: the named ones, or else the first.
 fn plain_streams(
     alloc: Global,
     session: &Session<'_>,
@@ -68,7 +69,7 @@ fn plain_streams(
     }
 }
 
-/// A session of the network before its first part, which shows the values of streams alone where these channels are named.
+/// Returns a session of the network before its first part, which shows only the values of streams if these channels are named.
 fn started<'n>(
     alloc: Global,
     network: &'n Network,
@@ -86,7 +87,7 @@ fn started<'n>(
     Ok(session)
 }
 
-/// The option that names channels which have to have streams, and these names, where a run is refused since one has none.
+/// Returns the option and the names that it gave, if a run is refused since one of them has no stream.
 fn unknown_shown(fault: RunFault, options: &LiveOptions) -> Option<(Origin, &str)>
     ensures { option_map (λ x. (x.0, x.1.now)) result ≡ unknown_shown fault options.now.plain options.now.config.watch }
 {
@@ -101,7 +102,7 @@ fn unknown_shown(fault: RunFault, options: &LiveOptions) -> Option<(Origin, &str
     }
 }
 
-/// How a run without a session ends. That a channel that is to be shown has no stream is told.
+/// Ends a run without a session. If a channel that is to be shown has no stream, it reports that.
 fn unstarted<E: Write + Drop>(
     network: &Network,
     fault: RunFault,
@@ -122,7 +123,7 @@ fn unstarted<E: Write + Drop>(
     (Ok(RunEnding::Refused), teller)
 }
 
-/// Runs a network on the input, and writes what is new to the output, which it gives back.
+/// Runs a network on the input, writes what is new to the output, and returns the output.
 fn run_network<I: Read + Drop, W: Write + Drop, E: Write + Drop>(
     program: &str,
     network: &Network,
@@ -194,7 +195,7 @@ fn told<E: Write>(ending: Result<RunEnding, Fault>, program: &str, teller: &mut 
     }
 }
 
-/// Runs a program text, of that file, on the input as the options say. Returns the status and both writers.
+/// Runs a program text, from the file at this path, on the input as the options say. Returns the status and both writers.
 pub(crate) fn ran<I: Read + Drop, W: Write + Drop, E: Write + Drop>(
     alloc: Global,
     seed: RandomState,
@@ -240,7 +241,8 @@ pub(crate) fn reached_status(amiss: Option<Amiss>, refused: bool, verdict: Verdi
     }
 }
 
-/// Whether it is told how a run with this verdict ended: the status isn't 0, a process has a fault, or processes wait on one another.
+/// Whether the end of a run with this verdict is reported: the status isn't 0, a process has a fault, or processes wait on one
+/// another.
 #[tactic(auto, using(crate::proofs::Ends::by_ring))]
 pub(crate) fn is_end_wanted(
     session: &Session<'_>,
@@ -260,8 +262,8 @@ pub(crate) fn is_end_wanted(
     session.has_ring()
 }
 
-/// Takes the lines of the input, and then those behind them, judges the run where it is to be, sends what is new, and tells what is left,
-/// and how the run of the program ended where it isn't as it should be.
+/// Takes all lines, then those of `at_end`. Judges the run if `strict`, and sends what is new. Reports incomplete rows, and how the
+/// run ended if something is wrong.
 pub(crate) fn work<I: Read + Drop, W: Write, E: Write>(
     program: &str,
     stage: &mut LiveStage<'_, W, E>,
@@ -286,8 +288,8 @@ pub(crate) fn work<I: Read + Drop, W: Write, E: Write>(
     Ok(RunEnding::Reached(verdict, amiss))
 }
 
-/// Sends what is new in the end, and returns how a run ended whose lines ended so: nobody reads what is new any more, if a write or a send
-/// answered that.
+/// Sends what is new at the end, and returns how a run ended whose lines ended so. Nobody reads what is new any more, if a write or
+/// a send reported that.
 pub(crate) fn sent<W: Write>(
     outlet: &mut DeferredWriter<W>,
     ending: Result<RunEnding, Fault>,

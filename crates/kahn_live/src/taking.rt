@@ -1,4 +1,4 @@
-//! The lines of a run: those of the input, and those that are fed at its end.
+//! The lines of a run: the input's lines, and the lines that are fed at its end.
 
 ghost use Rattle.std.specs.Prelude.{◌≡◌, ◌&&◌, IfErr, IfOk, IsTrue, None, false, map, option_copied, string_bytes, true};
 ghost use Rattle.std.specs.Io.Buffered.{reader_buffer, reader_remaining};
@@ -18,7 +18,7 @@ use kahn_streams::{Failure, Open, RunFault, Verdict};
 use kahn_texts::ReadFault;
 use std::io::{BufReader, Read, Write};
 
-/// What the lines of a run change: a session, where it writes what is new, and where is told what isn't taken.
+/// What the lines of a run change: the session, the writer of what is new, and the writer of refusals.
 #[derive(Drop)]
 pub(crate) struct LiveStage<'n, W: Write, E: Write> {
     pub(crate) session: Session<'n>,
@@ -38,7 +38,7 @@ fn is_quiet(wanted: bool, first: Option<(usize, Failure)>, ringed: bool) -> bool
     !wanted && !ringed && first.is_none()
 }
 
-/// Whether a line of that number changes nothing: an empty one, where the run has finished.
+/// Whether a line changes nothing: it is empty, and the run has finished.
 fn is_idle(session: &Session<'_>, number: u64, line: &[u8]) -> bool
     ensures { result ≡ is_idle number line.now session.now.flow.run.verdict }
 {
@@ -51,8 +51,8 @@ fn lacks_memory(session: &Session<'_>) -> bool
     matches!(session.verdict(), Some(Verdict::Memory))
 }
 
-/// Reads the next line, without its line feed; of a program without an input channel it is a blank one, and there is none where memory
-/// was refused for the last part. What is new went out before, or the read doesn't wait.
+/// Reads the next line, without its line feed. Without an input channel it is blank, or the end after a part for which memory was
+/// refused. What is new was sent before, unless the read can't block.
 pub(crate) fn come<I: Read, W: Write>(
     session: &Session<'_>,
     reader: &mut BufReader<I>,
@@ -72,8 +72,8 @@ pub(crate) fn come<I: Read, W: Write>(
     Next::Line
 }
 
-/// Whether each line that is to be fed at the end is meant for an input channel; else the first that isn't is told, unless memory was
-/// refused for it.
+/// Whether each line that is to be fed at the end is meant for an input channel. Else it reports the first that isn't, unless
+/// memory is refused for that.
 fn try_last<E: Write>(
     session: &Session<'_>,
     teller: &mut Teller<E>,
@@ -108,7 +108,7 @@ impl<W: Write, E: Write> LiveStage<'_, W, E> {
         self.outlet.send()
     }
 
-    /// Tells a fault of the line of that number, behind what is new so far. It fails where that can't be written.
+    /// Reports a fault of line `number`, after what is new so far. It fails if that can't be written.
     fn tell_behind(&mut self, fault: TakeFault, number: u64, line: &[u8]) -> Result<(), Fault>
         ensures session { self.new.session ≡ self.old.session }
         ensures told { IsRefusalTold number line.now fault (point_of W.contents E.contents self.old) (point_of W.contents E.contents self.new) result }
@@ -118,7 +118,7 @@ impl<W: Write, E: Write> LiveStage<'_, W, E> {
         Ok(())
     }
 
-    /// Tells what there is to tell of the part of the line of that number, which had this verdict, behind what is new.
+    /// Reports what there is to report of the part of line `number`, which had this verdict, after what is new.
     fn tell_part(&mut self, verdict: Verdict, number: u64, line: &[u8]) -> Result<(), Fault>
         requires { HasVerdict self.old.session }
         ensures session { self.new.session ≡ self.old.session }
@@ -168,7 +168,8 @@ impl<W: Write, E: Write> LiveStage<'_, W, E> {
         self.tell_answer(answer, number, line)
     }
 
-    /// Takes a line of the input, with a name or of one channel, and gives why it was refused. Where memory is refused for it, that is told.
+    /// Takes a line of the input, with a name or of one channel, and returns why it was refused. If memory is refused for it, it
+    /// reports that.
     fn take_alone(
         &mut self,
         input: Option<&str>,
@@ -202,7 +203,7 @@ impl<W: Write, E: Write> LiveStage<'_, W, E> {
         Ok(())
     }
 
-    /// Takes the lines of a row, for channels of these names: feeds all, and then runs one part.
+    /// Takes the lines of a row, for channels with these names: feeds all, and then runs one part.
     fn take_cells(&mut self, names: &str, cells: &[Vec<u8>], number: u64) -> Result<(), Fault>
         requires { self.old.session.broken ≡ false }
         ensures broken { IfOk result (λ _. self.new.session.broken ≡ false) }
@@ -253,7 +254,7 @@ impl<W: Write, E: Write> LiveStage<'_, W, E> {
         }
     }
 
-    /// Tells that no line is for another input channel, where values of one stand alone and there is another.
+    /// Reports another input channel, to which no line goes, if bare values of one channel are read.
     fn tell_alone(&mut self, input: Option<&str>)
         ensures { AcrossStage W.contents E.contents self.old self.new (IsAloneTold (bare_of (option_copied input.entry))) }
     {
@@ -271,7 +272,8 @@ impl<W: Write, E: Write> LiveStage<'_, W, E> {
             .say(Origin::File, words, b"", input, between, other);
     }
 
-    /// Reads and takes the next line, and tells whether there was one. What is new goes out before, unless the read doesn't wait.
+    /// Reads and takes the next line, and returns whether there was one. What is new is written before, unless the read doesn't
+    /// wait.
     fn take_next<I: Read>(
         &mut self,
         reader: &mut BufReader<I>,
@@ -333,7 +335,8 @@ impl<W: Write, E: Write> LiveStage<'_, W, E> {
         Ok(())
     }
 
-    /// Runs the part before the first line, and tells whether there are input channels of the names whose values stand alone.
+    /// Runs the part before the first line, and returns whether each name whose values are in the lines without a name is an input
+    /// channel's.
     fn begin(&mut self, input: Option<&str>) -> Result<bool, Fault>
         requires { self.old.session.broken ≡ false }
         ensures broken { IfOk result (λ _. self.new.session.broken ≡ false) }
@@ -348,7 +351,8 @@ impl<W: Write, E: Write> LiveStage<'_, W, E> {
         }
     }
 
-    /// Takes all lines, after a part before the first, and tells whether the names whose values stand alone are of input channels.
+    /// Takes all lines, after a part before the first, and returns whether each name whose values are in the lines without a name
+    /// is an input channel's.
     fn take_each<I: Read>(
         &mut self,
         reader: &mut BufReader<I>,

@@ -1,4 +1,4 @@
-//! What is told of lines that are refused, and of the end.
+//! Messages on lines that are refused, and on the end.
 
 ghost use Rattle.std.specs.Prelude.{◌≡◌, ◌∷◌, [], IfOk, IsTrue, false, option_copied, string_bytes, true};
 ghost use Rattle.kahn_session.specs.Live.{HasVerdict, IsRinged, has_left};
@@ -22,7 +22,8 @@ use kahn_texts::{process_name, write_line};
 use std::alloc::{AllocError, Global};
 use std::io::Write;
 
-/// Of more letters of names none is looked for that is near to the name of a refused line: that would take longer than its lines.
+/// The most letters of names among which one is sought that is near to the name of a refused line: a search of more would take
+/// longer than its lines.
 const MOST_LETTERS: u64 = 16_777_216;
 
 /// A writer of faults, and what lines were refused.
@@ -74,7 +75,8 @@ fn cause_words(
 }
 
 impl<E: Write> Teller<E> {
-    /// Before the first line. With `keep_going` no line counts as refused but those that are lost for want of memory.
+    /// Returns the state before the first line. With `keep_going` only lines that are lost since memory is refused count as
+    /// refused.
     pub(crate) fn new(alloc: Global, errors: E, keep_going: bool, path: String) -> Teller<E>
         ensures { telling_of E.contents result ≡ untold (E.contents errors) keep_going (string_bytes path) }
     {
@@ -97,7 +99,7 @@ impl<E: Write> Teller<E> {
         }
     }
 
-    /// Whether the line of that number is refused as the one before it, and nothing more is to be said of it.
+    /// Whether the line is refused like the one before it, and nothing more is to be reported.
     pub(crate) fn is_again(&self, number: u64, fault: TakeFault, input: Option<&str>) -> bool
         ensures { result ≡ is_again (telling_of E.contents self.now) number fault (option_copied input.entry) }
     {
@@ -120,8 +122,8 @@ impl<E: Write> Teller<E> {
         self.failed |= told.is_err();
     }
 
-    /// Returns what is said of the name of a line that no input channel has; or nothing, if memory is refused for it, or names of
-    /// `MOST_LETTERS` letters were compared with those of lines before.
+    /// Returns the message on a line whose name no input channel has. Nothing if memory is refused for it, or if names of
+    /// `MOST_LETTERS` letters were compared with the names of earlier lines.
     fn words_of(&mut self, network: &Network, line: &[u8], fault: TakeFault) -> String
         ensures { telling_of E.contents self.new ≡ telling_of E.contents self.old }
     {
@@ -137,7 +139,7 @@ impl<E: Write> Teller<E> {
         words.unwrap_or(String::new(self.alloc))
     }
 
-    /// Tells how many lines more were refused as the one that was told, where there are any.
+    /// Reports how many more lines were refused as the last reported one was, if any.
     fn tell_more(&mut self)
         ensures { IsMoreTold (telling_of E.contents self.old) (telling_of E.contents self.new) }
     {
@@ -151,7 +153,7 @@ impl<E: Write> Teller<E> {
         self.say(Origin::File, "and ", b"", digits, like, "");
     }
 
-    /// Counts the line of that number; not where refused lines leave the status as it is, unless it was lost for want of memory.
+    /// Counts a refused line; with `keep_going` the status stays 0 unless memory was refused for it.
     pub(crate) fn count(&mut self, number: u64, fault: TakeFault)
         ensures { IsTallied number fault (telling_of E.contents self.old) (telling_of E.contents self.new) }
     {
@@ -159,8 +161,8 @@ impl<E: Write> Teller<E> {
         self.number = number;
     }
 
-    /// Tells why the line of that number is refused, by the part of it that is at fault, and how bare numbers are taken, where an
-    /// input channel is named; behind how many lines more were refused as the last one that was told.
+    /// Reports how many lines were refused like the last reported one; then why this line is, with the word at fault; then how bare
+    /// numbers are taken, if `input` names a channel.
     pub(crate) fn tell(
         &mut self,
         number: u64,
@@ -184,7 +186,7 @@ impl<E: Write> Teller<E> {
         self.say(Origin::File, words, b"", input, "", "");
     }
 
-    /// Whether something of this verdict is told now of the part of this line: each once in a run, and of an empty line no want of events.
+    /// Whether this verdict is still to be reported: each once in a run, and `Bound` not for an empty line.
     pub(crate) fn is_verdict_new(&self, verdict: Verdict, line: &[u8]) -> bool
         ensures { result ≡ is_verdict_new (telling_of E.contents self.now) line.now verdict }
     {
@@ -195,7 +197,7 @@ impl<E: Write> Teller<E> {
         }
     }
 
-    /// Tells it of the part of the line of that number, where that is wanted. The line isn't refused.
+    /// If `wanted`, reports the verdict of the part of line `number`. The line isn't refused.
     pub(crate) fn tell_verdict(&mut self, number: u64, wanted: bool, verdict: Verdict)
         ensures { IsVerdictTold number wanted verdict (telling_of E.contents self.old) (telling_of E.contents self.new) }
     {
@@ -216,7 +218,7 @@ impl<E: Write> Teller<E> {
         }
     }
 
-    /// The first process that has a fault after a part, unless it was told before that one has.
+    /// Returns the first process that has a fault after a part, unless its fault was reported before.
     pub(crate) fn new_fault(&self, session: &Session<'_>) -> Option<(usize, Failure)>
         requires { HasVerdict session.now }
         ensures { IsNewFault self.now.faulted session.now.flow.run result }
@@ -245,7 +247,7 @@ impl<E: Write> Teller<E> {
         self.say(from, digits, b"", " ", name, failure_words(kind));
     }
 
-    /// Whether processes wait on one another in a ring, which wasn't told. Behind the last part that isn't asked: the end tells it.
+    /// Whether processes are in a cycle of waits that wasn't reported. After the last part false: the end reports it.
     pub(crate) fn is_ring_new(&self, session: &Session<'_>) -> bool
         requires { HasVerdict session.now }
         ensures { IsTrue result → (self.now.ringed ≡ false) × IsRinged session.now.flow.run true }
@@ -259,7 +261,7 @@ impl<E: Write> Teller<E> {
         }
     }
 
-    /// Tells it of the line of that number, unless memory is refused for it.
+    /// Reports the cycle after line `number`, unless memory is refused for that.
     pub(crate) fn tell_ring(&mut self, number: u64, session: &Session<'_>)
         requires { HasVerdict session.now }
         ensures { IsRingTold number session.now.flow.run (telling_of E.contents self.old) (telling_of E.contents self.new) }
@@ -275,7 +277,7 @@ impl<E: Write> Teller<E> {
         self.say(Origin::Line(number), first, b"", "", "", "");
     }
 
-    /// Tells that values are left without the others of their row, where some are, behind how many lines more were refused.
+    /// Reports how many more lines were refused, and values that are left without the others of their row, if any are.
     pub(crate) fn tell_left(&mut self, session: &Session<'_>)
         ensures { IsLeftTold (has_left session.now) (telling_of E.contents self.old) (telling_of E.contents self.new) }
     {
@@ -294,7 +296,7 @@ impl<E: Write> Teller<E> {
         self.failed |= told.is_err();
     }
 
-    /// Tells what came of the run of a session and its causes, or that memory was refused for it.
+    /// Reports the outcome of a session's run and its causes, or that memory was refused for that.
     fn put_causes(&mut self, session: &Session<'_>, program: &str)
         requires { HasVerdict session.now }
         ensures { IsWhyTold session.now.flow.run (telling_of E.contents self.old) (telling_of E.contents self.new) }
@@ -316,8 +318,7 @@ impl<E: Write> Teller<E> {
         self.failed |= told.is_err();
     }
 
-    /// Tells why the run of a session of the network of a program text ended, and how, behind how many lines more were refused; only
-    /// where that is wanted of a run of which that is amiss.
+    /// Reports how many more lines were refused, then why and how the run ended, if there is something to report (`is_end_wanted`).
     pub(crate) fn tell_end(
         &mut self,
         session: &Session<'_>,
@@ -353,7 +354,7 @@ impl<E: Write> Teller<E> {
         self.failed |= told.is_err();
     }
 
-    /// Tells why a run has no answer, where it has none, behind how many lines more were refused, and gives the status.
+    /// Reports how many more lines were refused, and why a run has no answer, if it has none. Returns the exit status.
     pub(crate) fn tell_last(&mut self, answer: &Result<Verdict, Fault>, program: &str) -> u8
         ensures status { result ≡ live_status_of self.old.refused answer.now }
         ensures told { IsLastTold program.now answer.now (telling_of E.contents self.old) (telling_of E.contents self.new) }
@@ -373,7 +374,7 @@ fn is_bare(line: &[u8]) -> bool
         .is_some_and(|byte| byte.is_ascii_digit() || *byte == b'-')
 }
 
-/// Whether it is told now how bare numbers are taken: once, where one is refused, or the line of number 0, which names a channel alone.
+/// Whether to say now how bare numbers are taken: once, if one is refused, or the line of number 0 is.
 fn wants_hint(hinted: bool, number: u64, line: &[u8], fault: TakeFault) -> bool
     ensures { result ≡ wants_hint hinted number line.now fault }
 {
@@ -401,7 +402,7 @@ fn letters_of(network: &Network) -> u64 {
     letters
 }
 
-/// The part of a line that is at fault where it isn't taken, and what is wanted there; of a name these words.
+/// Returns the part of a line that is at fault, if it isn't taken, and what is expected there; for a name, these words.
 fn refused_part<'l>(
     network: &Network,
     line: &'l [u8],
@@ -423,7 +424,8 @@ fn refused_part<'l>(
     }
 }
 
-/// Tells a fault of the line of that number, and the part at fault; or counts the line where it is refused as the one before it.
+/// Reports a fault of line `number`, and the part at fault; or counts the line, if it is refused for the same reason as the one
+/// before it.
 pub(crate) fn tell_refused<E: Write>(
     session: &Session<'_>,
     teller: &mut Teller<E>,

@@ -1,4 +1,5 @@
-//! A run that is fed as it goes, each part of which may take so many events, and what is new on its streams, in the form of a session.
+//! A run that is fed as it runs, each part of which may take a number of events, and what is new on its streams, in the form of a
+//! session.
 
 ghost use Rattle.std.specs.Prelude.{◌≡◌, ℕ, ◌+◌, ◌≤◌, [], Some, IfErr, IfOk, MatchResult, ◌==◌, ◌-◌, ◌<◌, MatchOption, drop, if◌then◌else◌, length, map, nat_lt, slice_get};
 ghost use Rattle.kahn_sequential.specs.{HeldRuns.IsLineOf, HeldRuns.IsRightSoFar, HeldRuns.IsUnstarted, Flows.AreNew, Flows.HasFlowed, Flows.HasPouredIn, Flows.IsUnpoured, Flows.flow_lines};
@@ -18,7 +19,7 @@ use std::alloc::Global;
 use std::io::Write;
 use std::marker::Model;
 
-/// A run that is fed as it goes, each part of which may take so many events.
+/// A run that is fed as it runs. Each of its parts may take the number of events that is its bound.
 #[derive(Drop)]
 pub(crate) struct Paced<'n> {
     pub(crate) flow: Flow<'n>,
@@ -355,7 +356,7 @@ fn all_waiting(
     Ok(left)
 }
 
-/// Whether no more values wait behind so many rows than are new on all streams: then no value is copied more often than one comes.
+/// Whether at most as many values would be copied as are new: so no value is copied more often than one arrives.
 fn is_worth(run: &Paced<'_>, columns: &[usize], count: usize) -> bool {
     let mut new: usize = 0;
     for number in 0..run.lines().len() {
@@ -368,8 +369,8 @@ fn is_worth(run: &Paced<'_>, columns: &[usize], count: usize) -> bool {
     left <= new
 }
 
-/// Lets go of what went out behind so many rows, and gives how many of them went out of what stays. Where a value waits for the others of its
-/// row, all may stay for now, as where memory is refused.
+/// Drops the values of the first `count` rows. Returns how many written rows are still kept: 0, or `count` if copying isn't worth
+/// it yet or memory is refused.
 pub(crate) fn let_go(alloc: Global, run: &mut Paced<'_>, columns: &[usize], count: usize) -> usize
     ensures gone { HasLetGoBehind count columns.now run.old run.new result }
     ensures run { run.new.flow.run ≡ run.old.flow.run }
@@ -388,7 +389,7 @@ pub(crate) fn let_go(alloc: Global, run: &mut Paced<'_>, columns: &[usize], coun
     0
 }
 
-/// What went out of each stream begins what there is of it, as each stream says. It changes nothing.
+/// States that what was written of each stream begins what there is of it. It changes nothing.
 pub(crate) fn begun(run: &Paced<'_>, lines: &[Line])
     requires { lines.now ≡ flow_lines run.now.flow.run }
     ensures { OutBegins run.now.flow }

@@ -1,4 +1,4 @@
-//! What is said of a run on lines: why a line isn't taken, from where, in which words, and of which part of a line.
+//! Messages of a run on lines: why a line isn't taken, where, in which words, and which part of the line.
 
 ghost use Rattle.std.specs.Prelude.{◌≡◌, ◌++◌, ◌∷◌, []};
 ghost use Rattle.kahn_session.specs.{Refusals.Says, Refusals.before_part, Refusals.behind_part, Refusals.failure_words, Refusals.is_want, Refusals.like_words, Refusals.origin, Refusals.refused_origin, Refusals.take_words};
@@ -12,7 +12,7 @@ use thiserror::Error;
 /// The number of each line of `--at-end`. No line of the input has it.
 pub const AT_END: u64 = u64::MAX;
 
-/// Where what is said comes from, behind the program's file.
+/// The place of a message, after the program's file.
 #[derive(Clone, Copy)]
 pub enum Origin {
     /// Nothing more.
@@ -21,12 +21,12 @@ pub enum Origin {
     Plain,
     /// The name of `--watch`.
     Watch,
-    /// The line of that number. Lines of the input are counted from 1; number 0 stands for what is before the first, and `AT_END` for
+    /// The line with this number. Lines of the input are counted from 1; number 0 is what comes before the first, and `AT_END` is
     /// each line of `--at-end`.
     Line(u64),
 }
 
-/// Why a line of input isn't taken. After each but `Write` the session goes on with the next line.
+/// Why a line of input isn't taken. After each of these but `Write` the session continues with the next line.
 #[derive(Clone, Copy, Debug, PartialEq, Eq, Drop, Error)]
 pub enum TakeFault {
     /// The line has more than 16,777,216 bytes. Nothing changed.
@@ -38,7 +38,7 @@ pub enum TakeFault {
     /// The line isn't blank and doesn't begin with a name and a colon. Nothing changed.
     #[error("not a name and a colon")]
     BadLine,
-    /// A word after the colon is no value. Nothing changed.
+    /// A word after the colon isn't a value. Nothing changed.
     #[error("not a value")]
     BadValue,
     /// The line is a row, and hasn't one value for each of its channels. A session takes no rows, and never says so.
@@ -84,7 +84,7 @@ pub fn take_words(fault: TakeFault) -> &'static str
     }
 }
 
-/// How many lines more weren't taken for the same reason, behind their number.
+/// Returns the words that follow the number of further lines that weren't taken for the same reason.
 pub fn like_words(count: u64) -> &'static str
     ensures { result.now ≡ like_words count }
 {
@@ -95,7 +95,7 @@ pub fn like_words(count: u64) -> &'static str
     }
 }
 
-/// Which fault a process has, behind its name.
+/// Returns the words for a process's fault, which follow its name.
 pub fn failure_words(kind: Failure) -> &'static str
     ensures { result.now ≡ failure_words kind }
 {
@@ -172,8 +172,8 @@ fn put<'a, W: Write>(
     )
 }
 
-/// Writes what is said behind the program's file: where it comes from, words, a part of a line as it is shown, and more words. It flushes.
-/// After a fault of the writer a prefix of it went out. It takes no memory.
+/// Writes a message after the program's file: its place, words, a part of a line as it is shown, and more words. It flushes.
+/// After a fault of the writer a prefix of it has been written. Never allocates.
 pub fn write_said<W: Write>(
     out: &mut W,
     path: &str,

@@ -1,4 +1,4 @@
-//! Sessions: what a line of input makes of a run, and what goes out after it.
+//! Sessions: what a line of input makes of a run, and what is written after it.
 
 ghost use Rattle.std.specs.Prelude.{◌≡◌, ◌↔◌, ◌&&◌, not, Some, false, map, IsTrue, MatchResult, is_err, option_copied};
 ghost use Rattle.std.specs.List.{list_any, position};
@@ -21,7 +21,7 @@ use std::io::Write;
 use std::marker::Model;
 use std::str;
 
-/// A run that is fed line by line. What went out of its streams it lets go of.
+/// A run that is fed line by line. It drops what it has written of its streams.
 #[derive(Drop)]
 pub struct Session<'n> {
     alloc: Global,
@@ -37,7 +37,7 @@ pub struct Session<'n> {
     ring: RingHint,
 }
 
-/// Whether processes may have come to wait on one another in a ring, and from how many events on that is asked again. No clause speaks of it.
+/// Whether processes may wait on one another in a cycle, and after how many events that is looked at again. No clause speaks of it.
 #[derive(Drop)]
 struct RingHint {
     seen: bool,
@@ -174,9 +174,10 @@ fn is_over(network: &Network, verdict: Verdict, ends: &[End]) -> bool
 }
 
 impl<'n> Session<'n> {
-    /// A session of a network before its first part, whose input channels have no values. The bound of the configuration is how many events
-    /// each part may take. It refuses with `BadConfig` where a number of the configuration is out of its limit, with `UnknownWatch` where no
-    /// channel has the name that is to be watched, and with `NoMemory` where memory was refused.
+    /// Returns a session of a network before its first part, whose input channels have no values. The bound of the configuration is
+    /// how many events each part may take.
+    /// Fails with `BadConfig` if a number of the configuration is beyond its limit, with `UnknownWatch` if no channel has the name
+    /// that is to be watched, and with `NoMemory` if memory is refused.
     pub fn start(
         alloc: Global,
         network: &'n Network,
@@ -202,16 +203,16 @@ impl<'n> Session<'n> {
         })
     }
 
-    /// The number of the stream of a channel of that name, or nothing where it has none.
+    /// Returns the number of the stream of the channel called `channel`, or nothing if it has none.
     pub fn stream_of(&self, channel: &[u8]) -> Option<usize>
         ensures { result ≡ stream_of self.now.flow.run channel.now }
     {
         line_of(self.network, self.paced.lines(), channel)
     }
 
-    /// From now on shows the streams of these numbers alone, as in a report from 0, and of them the values alone: one a line of one
-    /// stream, and of several a row, the values of one place with commas between, once each of the streams has its own. A number that
-    /// no stream has stands for one without values. It may be called only before the first part.
+    /// From now on writes only the values of the streams `columns` (numbers as in a report, from 0), without names: one a line for
+    /// one stream; for several, rows with commas, each once all its values exist. An unknown number is a stream without values.
+    /// Call it only before the first part.
     pub fn show_columns(&mut self, columns: Vec<usize>)
         ensures { self.new ≡ record self.old { columns = columns.items } }
     {
@@ -243,10 +244,10 @@ impl<'n> Session<'n> {
         feed_line(self.alloc, &mut self.paced, line)
     }
 
-    /// Runs a part, and writes what is new: a line for each stream that has grown, its heading as in a report and then the values after
-    /// those that went out; or after `show_columns` only the values of its streams. The caller flushes. The part goes on until nothing
-    /// can, or until it took as many events as each part may, or memory was refused. If a write fails, a prefix of what is new was
-    /// written: the session is broken, and takes no more.
+    /// Runs a part, and writes what is new: a line for each stream that has grown, its heading as in a report and then its new
+    /// values. After `show_columns` it writes only the values of its streams. The caller flushes.
+    /// The part runs until no process can run, or until it took as many events as each part may, or memory is refused. If a write
+    /// fails, a prefix of what is new has been written: the session is broken, and takes no more.
     pub fn run<G: Gate, W: Write>(
         &mut self,
         gate: &G,
@@ -294,7 +295,8 @@ impl<'n> Session<'n> {
         }
     }
 
-    /// The verdict of the last part, where nothing changed since. With one, and if no write failed, the session is settled: it may be closed.
+    /// Returns the verdict of the last part, if nothing changed since. With one, and if no write failed, the session is settled: it
+    /// may be closed.
     pub fn verdict(&self) -> Option<Verdict>
         ensures { result ≡ self.now.flow.run.verdict }
     {
@@ -322,7 +324,7 @@ impl<'n> Session<'n> {
         is_over(self.network, verdict, self.paced.ends())
     }
 
-    /// How each process stands. It is asked only where the session is settled.
+    /// Returns how each process ended or what it waits for. Call it only if the session is settled.
     pub fn ends(&self) -> &[End]
         requires { HasVerdict self.now }
         ensures stood { AreStandings (network_of self.now.flow.run.network) (map stands result.now) }
@@ -332,7 +334,7 @@ impl<'n> Session<'n> {
         self.paced.ends()
     }
 
-    /// Whether processes wait on one another in a ring. It is asked only where the session is settled. It takes no memory.
+    /// Whether processes wait on one another in a cycle. Call it only if the session is settled. Never allocates.
     pub fn has_ring(&self) -> bool
         requires { HasVerdict self.now }
         ensures { IsRinged self.now.flow.run result }
@@ -340,12 +342,13 @@ impl<'n> Session<'n> {
         has_ring(self.network, self.ends())
     }
 
-    /// Whether it seems that processes wait on one another in a ring since a part. It is a hint, and costs nothing.
+    /// Whether it seems that processes wait on one another in a cycle since a part. It is a hint, and costs nothing.
     pub fn may_have_ring(&self) -> bool {
         self.ring.seen
     }
 
-    /// Whether the next part may take long: each may be of more than a million events, or the last one was of more than ten thousand.
+    /// Whether the next part may take long: each part may have more than a million events, or the last one had more than ten
+    /// thousand.
     pub fn may_be_slow(&self) -> bool
         ensures { IsTrue result ↔ MayBeSlow self.now.step self.now.flow.run }
     {
@@ -353,14 +356,14 @@ impl<'n> Session<'n> {
         step > 1_000_000 || left < step.saturating_sub(10_000)
     }
 
-    /// The name of the first input channel, where there is one.
+    /// Returns the name of the first input channel, if there is one.
     pub fn first_input(&self) -> Option<&str>
         ensures { IsFirstInput self.now.flow.run.network (option_copied result) }
     {
         self.input
     }
 
-    /// The name of the first input channel that hasn't this one, where there is one.
+    /// Returns the name of the first input channel that isn't called `name`, if there is one.
     pub fn other_input(&self, name: &str) -> Option<&str>
         ensures { IsOtherInput self.now.flow.run.network (Some name.now) (option_copied result) }
     {
@@ -381,8 +384,8 @@ impl<'n> Session<'n> {
         self.network
     }
 
-    /// Writes the last lines of a report, how each process stands and how the run ended, and flushes. It is asked for only
-    /// where the session is settled. It takes no memory. After a fault of the writer a prefix of the lines went out.
+    /// Writes the last lines of a report, and flushes: how each process ended, and the verdict. Call it only if the session is
+    /// settled. Never allocates. After a fault of the writer a prefix of the lines has been written.
     pub fn close<W: Write>(&self, writer: &mut W) -> Result<Verdict, WriteFault>
         requires { HasVerdict self.now }
         ensures { IsClosed self.now.flow.run (W.contents writer.old) (W.contents writer.new) result }
@@ -409,7 +412,7 @@ fn awaited(network: &Network, ends: &[End], instance: usize) -> Option<usize> {
 }
 
 impl RingHint {
-    /// Whether the waits of a process lead to one to which they led before, and not to one to which others did.
+    /// Whether the waits from `first` run into a cycle that this call found, and not into processes that an earlier one visited.
     fn leads_back(&mut self, network: &Network, ends: &[End], first: usize) -> bool {
         let number = first.saturating_add(1);
         let mut at = first;
@@ -429,7 +432,8 @@ impl RingHint {
         false
     }
 
-    /// Asks the processes behind a part with so many events so far: if they are many, not before as many were done as there are processes.
+    /// Looks for a cycle of waits after a part. With more than 8 processes, only once as many events were done as there are
+    /// processes.
     fn ask(&mut self, network: &Network, events: u64, ends: &[End]) {
         if self.seen || (ends.len() > 8 && events < self.from) {
             return;

@@ -75,8 +75,8 @@ fn add_under(
     Ok(())
 }
 
-/// Adds those within a statement, which may be guarded by a `then`, an `else`, a `do` or a `repeat`; and the next statement, if this one is no
-/// block, and that looks like a part of what this is a part of, or ends with.
+/// Adds the misleading statements within `statement`, which is `guarded` if it follows `then`, `else`, `do` or `repeat`; and
+/// `next`, if `statement` isn't a block and `next` looks as if it belonged to the same guard, or to the one at its end.
 #[cycle(layout)]
 fn add_within(
     spans: &mut Vec<Span>,

@@ -79,7 +79,7 @@ fn process_kind(instances: &[Instance], process: &Process) -> Option<WarningKind
     Some(NoInstance)
 }
 
-/// What is warned of a name that is used or isn't, and is assigned or isn't: of a variable of this kind, or of a parameter.
+/// Returns the warning on a name, by whether it is used and assigned; `variable` is its kind, or `None` for a parameter.
 fn name_kind(is_used: bool, is_assigned: bool, variable: Option<Kind>) -> Option<WarningKind>
     ensures { result ≡ name_kind is_used is_assigned variable }
 {
@@ -135,7 +135,8 @@ fn bare_kind(yes: &Statement) -> Option<WarningKind>
     if is_empty(yes) { Some(BareThen) } else { None }
 }
 
-/// Where the first statement stands that isn't reached, once there is one: the next one, if one before it never ends and it isn't empty.
+/// Returns the place of the first unreachable statement: `place` if there is one, or else `next` if a statement before it never
+/// ends.
 fn place_on(ends: bool, place: Option<Span>, next: Option<Span>) -> Option<Span>
     ensures { result ≡ option_or place (if ends then next else None) }
 {
@@ -150,8 +151,8 @@ fn branched(waits: bool, yes: (bool, bool), no: (bool, bool)) -> (bool, bool)
     (yes.0 & no.0, waits | yes.1 | no.1)
 }
 
-/// Adds the warnings of statements that stand one behind the other, and the places in them. Answers whether one of them never ends, and
-/// whether one waits, sends or prints anywhere.
+/// Adds the warnings of a list of statements, and its constant sites. Returns whether one of them never ends, and whether one
+/// waits, sends or prints.
 #[cycle(walk)]
 fn add_list(
     warnings: &mut Vec<Warning>,
@@ -384,8 +385,8 @@ pub fn fault_places(
     Ok(places)
 }
 
-/// The law of faults: an operator that isn't told has no such fault, whatever its operands are; a body in which none is told never ends
-/// with that fault, so an instance that has it in the solution has a place. Its contract is what it does.
+/// The law of faults: an operator that `fault_places` doesn't list never has that fault, whatever its operands. So if an instance
+/// has the fault in the solution, its body has a listed place. Its contract is what it does.
 #[tactic(auto, using(crate::proofs::Nowhere::faults_lie))]
 pub fn faults_lie()
     ensures { FaultsLie }

@@ -40,7 +40,7 @@ fn source_of(cause: Cause) -> usize {
     }
 }
 
-/// Those whose waits lead to an instance: the ones on its ring, or itself; or the others.
+/// Returns the reasons whose waits lead to instance `one`: with `at_it` the cycle of `one`, or `one` itself; without it all others.
 pub(crate) fn led_to(story: &Story, one: usize, at_it: bool) -> Result<Vec<Reason>, AllocError> {
     let mut those = Vec::new(story.alloc);
     for reason in story.reasons {
@@ -113,8 +113,8 @@ fn writer_of(network: &Network, channel: usize) -> Option<usize> {
     Some(network.writer(channel)?.instance)
 }
 
-/// Adds that an instance waits on a channel, at these places, and who writes that; and that it is in a deadlock, or where its waits lead, where
-/// that isn't to itself.
+/// Adds on which channel an instance waits, where, and who writes it; then that it is in a deadlock, or to whom its waits lead,
+/// unless that is itself.
 fn add_wait(
     text: &mut String,
     story: &Story,
@@ -211,7 +211,7 @@ fn places_of(story: &Story, reason: &Reason) -> Places {
     }
 }
 
-/// What is said below the line of an instance: what mends its ring, where it has the least number in it, and who wait because of it.
+/// Returns the lines below an instance: for the first one of a deadlock how to break it, and who waits because of this one.
 fn below(story: &Story, reason: &Reason, waiting: &[Reason]) -> Result<Vec<String>, AllocError> {
     let mut below = Vec::new(story.alloc);
     if let (Cause::Ring(one), Outcome::Waits(channel)) = (reason.cause, reason.end.outcome) {
@@ -310,8 +310,8 @@ fn add_reason(text: &mut String, story: &Story, reason: &Reason, waiting: &[Reas
     add_error(text, story, words.as_str(), &places, below)
 }
 
-/// Adds the cause that is at an instance, if one is, with those that wait because of it: of a ring all its instances, and those below the
-/// first.
+/// Adds the cause at an instance, if it is one, and who waits because of it. A deadlock lists all its instances, with the waiting
+/// ones below the first.
 fn add_cause(text: &mut String, story: &Story, instance: usize) -> Wrote {
     let waiting = led_to(story, instance, false)?;
     let members = led_to(story, instance, true)?;

@@ -124,8 +124,8 @@ fn is_all_taken(story: &Story) -> bool {
     is_fed(story.network, input)
 }
 
-/// What stands behind the first words: that all input was taken; or rings beside a fault, who is on the one ring, that the run was
-/// stopped too, and how many processes want more events.
+/// Returns the rest of the first line: that all input was taken; deadlocks beside a fault; who is in the only deadlock; that the
+/// run was stopped too; how many processes want more events.
 fn behind_lead(story: &Story, finding: Finding) -> Result<String, AllocError> {
     let mut text = String::new(story.alloc);
     let rings = count_of(story.reasons, Finding::Deadlock);
@@ -213,8 +213,8 @@ fn told(
     })
 }
 
-/// What came of a run of the network of a program text that ended so, in a line, and each cause, as `explained` tells them; nothing where
-/// all processes have ended or wait for input. It refuses only where memory was refused.
+/// Returns the first line and the causes, as `explained` does; empty if each process has ended or waits for input. Fails only if
+/// memory is refused.
 pub fn causes(
     alloc: Global,
     path: &str,
@@ -233,10 +233,9 @@ pub fn causes(
     Ok(told.text)
 }
 
-/// Why the run of an answer of the network of a program text stopped, by the input that it was fed, where that is known: a line with
-/// what came of it, each cause once, with those that wait because of it, notes on the places where a ring waits and on all that a fault
-/// can have come from, and how the run ended; or with each instance that hasn't ended, and where its waits lead. It refuses only where
-/// memory was refused.
+/// Explains why a run stopped: a line on what came of it; each cause once with who waits because of it (with `each`, every instance
+/// that hasn't ended and where its waits lead); notes on the places of waits and faults; how the run ended. `fed`: its input, if
+/// known. Fails only if memory is refused.
 pub fn explained(
     alloc: Global,
     path: &str,

@@ -1,5 +1,5 @@
-//! Changes of one or two words that were perhaps meant: each is made in the text, which is checked again, and the one that leaves the fewest
-//! faults is told, if these are fewer and none wasn't there.
+//! Candidate fixes of one or two words. Each is applied and the text checked again. The one that leaves the fewest faults is
+//! suggested, if there are fewer than before and none is new.
 
 ghost use Rattle.std.specs.Prelude.{◌≡◌, ◌<◌, IfOk, IfSome, IsTrue, length, true};
 ghost use Rattle.std.specs.List.{list_all, list_any};
@@ -116,7 +116,7 @@ fn are_fewer(text: &str, faults: &[CheckFault], other: &str, left: &[CheckFault]
     left.len() < faults.len() && are_known(text, faults, other, left)
 }
 
-/// How many faults of a text a change leaves, if these are fewer and none wasn't there, and one isn't there any more.
+/// Returns how many faults `fix` leaves; `None` unless `fault` is gone, there are fewer, and none is new.
 pub(crate) fn left_by(
     alloc: Global,
     seed: RandomState,
@@ -143,7 +143,7 @@ pub(crate) fn left_by(
     Ok(None)
 }
 
-/// The kind of what stands at a place where the other one is wanted: that of a channel, or logical where a number is right.
+/// Returns the kind that was found where the other one is expected: that of the channel, or else by trying `0` in its place.
 pub(crate) fn found_kind(place: NetworkPlace) -> Result<Option<Kind>, NoMemory> {
     let (alloc, span, beside) = (place.alloc, place.at, place.at);
     if let (None, Some((kind, _))) = (place.body, place.channel(place.word())) {
@@ -175,7 +175,7 @@ pub(crate) fn tries_of(text: &str, lexemes: &[Lexeme]) -> usize {
     tries.min(MOST_TRIES)
 }
 
-/// The better of two changes: the one that leaves fewer faults, or else the first.
+/// Returns the change that leaves fewer faults, `best` if both leave as many; a tie with a suggested name is recorded.
 fn better(best: Option<Edit>, change: Edit) -> Edit {
     let Some(mut best) = best else {
         return change;
@@ -188,7 +188,8 @@ fn better(best: Option<Edit>, change: Edit) -> Edit {
     best
 }
 
-/// What may stand in the place of a word of a head: for a fault of kinds another kind, or else another direction or role, or none.
+/// Returns the words that may replace a word of a heading: the other kind for a fault of kinds, or else other directions or roles,
+/// or none.
 fn others_for(class: Class, is_of_kinds: bool) -> &'static [&'static str] {
     match (class, is_of_kinds) {
         (Class::Word(Integer), true) => &["logical"],
@@ -367,8 +368,8 @@ impl<'p> Trial<'p> {
     }
 }
 
-/// The change that leaves the fewest faults of all, and fewer than there are, of those that may be tried yet. None of several names that leave
-/// as few; and none of a side that leaves another fault.
+/// Returns the change that leaves the fewest faults. `None` if several names leave as few, or if a change for a missing side leaves
+/// any fault. Uses up `tries`.
 pub(crate) fn change_for<'p>(
     place: NetworkPlace<'p>,
     tries: &mut usize,

@@ -31,15 +31,17 @@ pub struct FaultNotes {
 #[derive(Drop)]
 struct ToldNotes {
     notes: Vec<Note>,
-    /// The faults of the notes, and those that have none since there are too many, and how many these are.
+    /// `told`: the faults with a note, and those past the limit of notes; `more`: how many those are.
     told: Vec<CheckFault>,
     more: usize,
     /// How many changes may be tried yet.
     tries: usize,
 }
 
-/// Whether a fault of a text is held back, where others were told: of an instance what was told, one of sides beside any that isn't, one beside
-/// a fault of the text of its process, and one of a name that is declared twice; and a channel without a side where one lacks the other side.
+/// Whether a fault is suppressed, since it seems to follow from another one:
+/// - in an instance: the same fault of the same name was reported; its process has a fault, or is declared twice; it is a second
+///   reader or writer, and some fault is of another sort; or it is an unknown name, and some name is declared twice;
+/// - a channel without a reader, if one without a writer was reported, and the other way round.
 fn is_held(place: NetworkPlace, told: &[CheckFault], fault: CheckFault) -> bool {
     let is_side = |one| matches!(one, CheckFault::TwoReaders(_) | CheckFault::TwoWriters(_));
     let begin = |one| check_span(one).map_or(0, |span| span.from);
@@ -90,7 +92,7 @@ fn fix_of(
     }
 }
 
-/// The note on a fault, and whether a change is told that leaves none.
+/// Returns the note on a fault, and whether its change leaves no fault at all.
 fn found_at(
     text: &str,
     place: NetworkPlace,
@@ -117,8 +119,8 @@ fn found_at(
 }
 
 impl ToldNotes {
-    /// Tells a fault, if it isn't held back and not too many are told; answers whether a change is told that leaves none. Then its note is
-    /// the only one.
+    /// Adds the note on `fault`, unless it is suppressed or there are too many. Returns true if its change leaves no fault: then
+    /// this note is the only one.
     #[tactic(auto, using(crate::proofs::Telling::one_more, crate::proofs::Telling::one_alone))]
     fn tell(
         &mut self,
@@ -152,9 +154,8 @@ impl ToldNotes {
     }
 }
 
-/// The notes on the faults that are told of a text that spells a program: on 20 at most, of which one alone is of a limit. What seems to
-/// follow from another fault is held back, and so are all others where a change is told that leaves none. It refuses only where memory was
-/// refused.
+/// Returns the notes on the faults of a program: at most 20, and one on a limit only if it comes first. Faults that seem to follow
+/// from another one are left out; if a change leaves no fault, its note comes alone. Fails only if memory is refused.
 pub fn fault_notes(
     alloc: Global,
     seed: RandomState,

@@ -73,7 +73,7 @@ pub(crate) struct NetworkPlace<'p> {
     pub(crate) body: Option<Body<'p>>,
 }
 
-/// What a parameter takes stands for, and of which kind it is.
+/// Returns what a name must be to fit a parameter, and of which kind.
 pub(crate) fn taken_by(parameter: &Parameter) -> (NameKind, Kind) {
     match parameter.taking {
         Taking::Channel(Direction::In, kind) => (NameKind::Source, kind),
@@ -128,7 +128,7 @@ pub(crate) fn bodies_in<'p>(
     Ok(bodies)
 }
 
-/// That of the first process of these letters.
+/// Returns the first process called `word`.
 pub(crate) fn body_called<'p>(bodies: &[Body<'p>], word: &[u8]) -> Option<Body<'p>> {
     let mut all = bodies.iter().rev();
     all.find(|body| is_called(word, &body.process.name))
@@ -247,7 +247,7 @@ impl<'p> NetworkPlace<'p> {
         rest.get(..instance.arguments.len()).unwrap_or(&[])
     }
 
-    /// Where a channel is handed over first for such a parameter.
+    /// Returns where the channel `word` is first passed to a parameter of that direction.
     pub(crate) fn passed(&self, side: NameKind, word: &[u8]) -> Option<Span> {
         let mut all = self.handed.iter();
         let is_for = |parameter| taken_by(parameter).0 == side;
@@ -286,7 +286,7 @@ impl<'p> NetworkPlace<'p> {
         all.any(|one| one.parameter.is_none() && is_called(name, one.process))
     }
 
-    /// The first process without an instance that takes the channel of its letters so.
+    /// Returns the first process without an instance that has a parameter of that direction, and of the channel's kind.
     pub(crate) fn taker(&self, side: NameKind) -> Option<Span> {
         let wanted = (side, self.channel(self.word())?.0);
         for body in self.bodies.iter().rev() {
@@ -317,7 +317,7 @@ impl<'p> NetworkPlace<'p> {
         lexemes.get(from..to).unwrap_or(&[])
     }
 
-    /// What the names stand for that may stand at the place.
+    /// Returns which sort of name fits at this place.
     pub(crate) fn asked(&self) -> NameKind {
         match (self.body, self.class(-2), self.class(-1), self.class(1)) {
             (None, _, _, Some(Class::Sign(Sign::Open))) => NameKind::Process,
@@ -329,8 +329,8 @@ impl<'p> NetworkPlace<'p> {
         }
     }
 
-    /// Whether nothing has a name that may stand there: it stands where it is declared alone, or is a channel that may have the side and
-    /// doesn't.
+    /// Whether `name` is still unused here: it occurs only in its declaration; or, as an argument, it is a channel that fits and
+    /// lacks this side.
     pub(crate) fn is_free(&self, name: &Name) -> bool {
         let word = name.text.as_bytes();
         let Some((side, kind)) = self.parameter().map(taken_by) else {

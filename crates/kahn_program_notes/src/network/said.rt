@@ -1,4 +1,5 @@
-//! The words behind those of a fault, by what is known of its place: what is wanted, what is found, and what to do; and another place.
+//! The words after the name of a fault, chosen by facts about its place: what was expected and found, and advice; and a related
+//! place.
 
 use crate::network::changes::{Edit, EditKind, MOST_LEXEMES, found_kind};
 use crate::network::near::{add_near, nearest};
@@ -14,7 +15,7 @@ use std::alloc::AllocError;
 /// Whether memory was there for adding words.
 type Added = Result<(), AllocError>;
 
-/// What is wanted, and what is found: of a fault, the first row of which all facts hold.
+/// Expected and found. A row is a fault, the facts that it needs, and words; the first row whose facts all hold counts.
 const FOUND: &str = "
 kind does not agree | integer | : wanted logical, found integer
 kind does not agree | logical | : wanted integer, found logical

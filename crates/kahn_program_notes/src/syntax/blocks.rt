@@ -51,7 +51,8 @@ fn word_of(seats: &[LineLexeme], number: usize) -> &'static str {
     seats.get(number).map_or("", |seat| seat.word)
 }
 
-/// The number of what leads to the statements before an `end` with a number: on its line, or on the nearest line that is as deep.
+/// Returns the `do`, `then`, `else` or `repeat` whose statements the `end` at `number` seems to close: on its line, or on the
+/// nearest line of the same depth.
 fn guard_of(seats: &[LineLexeme], number: usize, end: LineLexeme) -> Option<usize> {
     let (mut depth, mut found) = (0usize, None);
     for (number, seat) in front(seats, number).iter().enumerate().rev().take(FAR) {
@@ -80,7 +81,8 @@ fn guard_of(seats: &[LineLexeme], number: usize, end: LineLexeme) -> Option<usiz
     found
 }
 
-/// Whether a block had to end before a line: before a process, an `end` less deep than its `begin`, and what is no deeper than that.
+/// Whether the block of `begin` must have ended before `seat`. That starts a later line with `process`, an `end` less deep than
+/// `begin`, or anything else no deeper.
 fn is_past(seats: &[LineLexeme], begin: usize, seat: LineLexeme) -> bool {
     let Some([begin, inside, ..]) = seats.get(begin..) else {
         return false;
@@ -95,7 +97,8 @@ fn is_past(seats: &[LineLexeme], begin: usize, seat: LineLexeme) -> bool {
         }
 }
 
-/// The block that has no `end`, by its `begin`, and the lexeme before which it ends; by no indentation the innermost one at the place.
+/// Returns the unclosed block: its `begin`, and the lexeme before which it ends by the indentation. If that doesn't show it: the
+/// innermost open block, and the place.
 fn unclosed_at(place: Place, seats: &[LineLexeme]) -> Result<Option<(usize, usize)>, AllocError> {
     let mut open = Vec::new(place.alloc);
     let seen = front(seats, place.number.saturating_add(1));
@@ -117,7 +120,8 @@ fn unclosed_at(place: Place, seats: &[LineLexeme]) -> Result<Option<(usize, usiz
     Ok(None)
 }
 
-/// The `end` that is one too many, by its number, of those up to a place: deeper than its block, behind statements without a block, or the last.
+/// Returns the surplus `end` among those up to `place`: one deeper than its block, one that closes several statements that aren't a
+/// block, or the last.
 fn surplus_at(place: Place, seats: &[LineLexeme]) -> Result<Option<usize>, AllocError> {
     let (mut open, mut doubt): (Vec<LineLexeme>, Option<usize>) = (Vec::new(place.alloc), None);
     let seen = front(seats, place.number.saturating_add(1));

@@ -1,5 +1,5 @@
-//! The place where a text goes wrong, with the lexemes round it; what stands at it, by tables of words, a row a line, with cells between bars;
-//! and the changes that mend it: the text with one is read.
+//! The place of a syntax error with its neighbours, the tests that table rows make on it, and fixes, each tried by parsing the
+//! changed text.
 
 ghost use Rattle.std.specs.Prelude.{◌-◌, ◌<◌, IfOk, IfSome, IsTrue, length};
 ghost use Rattle.kahn_program_notes.specs.Notes.{Mends, MendsText};
@@ -14,7 +14,7 @@ use kahn_syntax::{Class, Keyword, Lexeme, Span, SyntaxFault, parse};
 use kahn_texts::{add, add_spot};
 use std::alloc::{AllocError, Global};
 
-/// Of how many lexemes a text may be for which changes are looked for.
+/// The most lexemes of a text in which changes are tried.
 pub(crate) const MOST: usize = 8192;
 
 /// The place where a text goes wrong.
@@ -23,45 +23,46 @@ pub(crate) struct Place<'p> {
     pub(crate) alloc: Global,
     pub(crate) text: &'p str,
     pub(crate) lexemes: &'p [Lexeme],
-    /// How many lexemes stand before the place, and how many lexemes that is before the one that is told.
+    /// `number`: how many lexemes are before this place. `back`: how far it is before the reported one.
     pub(crate) number: usize,
     pub(crate) back: usize,
     pub(crate) span: Span,
     pub(crate) wanted: &'p Wanted,
-    /// How far the text goes with each change that can stand there; and how far it goes at most, which is the greatest number for a program.
+    /// How far the text parses with each change. `to`: the farthest of these, at least `number + 3`; `usize::MAX` is a whole
+    /// program.
     pub(crate) reaches: &'p [Reach],
     pub(crate) to: usize,
 }
 
-/// How many lexemes a text has to go on with a change that is as good as one with which it is a program.
+/// A change with which the text parses more than this many lexemes further is as good as one that makes it a program.
 const GOOD: usize = 16;
 
 pub(crate) type Put = Result<Fix, AllocError>;
 
 pub(crate) type Fixed = Result<Option<Fix>, NoMemory>;
 
-/// Where a heading stands and what it says, where that isn't what was expected at the place.
+/// The place and words of a heading, if it isn't the `expected .., found ..` one.
 pub(crate) type Heading = Option<(Span, String)>;
 
-/// What is said of a place, where something is: the heading, the change that mends it, and a sentence.
+/// What a rule says, if it applies: a heading, a fix and a sentence, each if there is one.
 pub(crate) type Saying = Result<Option<(Heading, Option<Fix>, Option<String>)>, NoMemory>;
 
 pub(crate) type Words = Result<String, AllocError>;
 
-/// The lexeme so many behind the one at a place, or before it.
+/// Returns the lexeme `count` after the one at `place`; a negative `count` goes backwards.
 pub(crate) fn near(place: Place, count: isize) -> Option<Lexeme> {
     let number = place.number.checked_add_signed(count)?;
     place.lexemes.get(number).copied()
 }
 
-/// The same place, as far as its lexemes go, so many of them before it.
+/// Returns `place` moved `back` lexemes towards the beginning. Its span stays.
 pub(crate) fn before(mut place: Place, back: usize) -> Place {
     place.number = place.number.wrapping_sub(back);
     place.back = back;
     place
 }
 
-/// The first so many of some.
+/// Returns the first `count` items, or all if there are fewer.
 pub(crate) fn front<T>(items: &[T], count: usize) -> &[T] {
     items.get(..count).unwrap_or(items)
 }
@@ -80,7 +81,8 @@ fn is_far(place: Place) -> bool {
     number.saturating_add(GOOD) < place.to
 }
 
-/// The change that is offered at a place, leaves out so many lexemes and puts the first of some words that one does.
+/// Returns the change at `place` that parses farthest, removes `out` lexemes and inserts a word of `puts`, tried in order;
+/// `nothing` inserts none.
 pub(crate) fn offered(place: Place, out: usize, puts: &str) -> Option<Change> {
     for word in puts.split_whitespace() {
         let found = place.reaches.iter().find(|reach| {
@@ -95,7 +97,8 @@ pub(crate) fn offered(place: Place, out: usize, puts: &str) -> Option<Change> {
     None
 }
 
-/// Whether a name at a place is a slip away from a word: one that isn't declared, and stands once if it has up to three letters.
+/// Whether the name at `place` is undeclared and one edit away from `word`. A name of up to three letters must also occur only
+/// once; a longer one that another language has must let the text parse far.
 fn is_slip(place: Place, word: &str) -> bool {
     let Some(name) = name_at(place, 0) else {
         return false;
@@ -109,7 +112,7 @@ fn is_slip(place: Place, word: &str) -> bool {
     may_slip && is_within(name.as_bytes(), word.as_bytes(), 1) && !is_declared(place)
 }
 
-/// The change that puts a keyword in the place of a name one slip away from it, at a place or before it: the one that goes farthest.
+/// Returns the change that replaces a misspelt name, at `place` or just before it, by a keyword: the one that parses farthest.
 pub(crate) fn slip(place: Place) -> Option<Change> {
     let slips = place.reaches.iter().filter(|one| {
         let (change, back) = (one.change, place.number.saturating_sub(one.change.at));
@@ -130,13 +133,13 @@ pub(crate) fn has_word(words: &str, word: &str) -> bool {
     words.any(|one| one.eq_ignore_ascii_case(word))
 }
 
-/// Whether there is a lexeme, of one of the classes that are written so; or `nothing`.
+/// Whether the class of `lexeme` is written in `words`; a missing lexeme is written `nothing`.
 pub(crate) fn finds(words: &str, lexeme: Option<Lexeme>) -> bool {
     let word = lexeme.map_or("nothing", |lexeme| class_word(lexeme.what));
     has_word(words, word)
 }
 
-/// Whether all of a group may stand, or one of a class, in no group.
+/// Whether `wanted` has the group called `word`, or among the other classes the one written `word`.
 pub(crate) fn may_stand(word: &str, wanted: &Wanted) -> bool {
     let groups: &[LexemeGroup] = match word {
         "statement" => &[LexemeGroup::Statement],
@@ -150,7 +153,7 @@ pub(crate) fn may_stand(word: &str, wanted: &Wanted) -> bool {
     wanted.groups.iter().any(|group| groups.contains(group))
 }
 
-/// What stands behind the lexeme at a place, and before the next; nothing where there are no two.
+/// Returns the text between the lexeme at `place` and the next; `None` if either is missing.
 fn between<'p>(place: Place<'p>) -> Option<&'p str> {
     let (from, to) = (near(place, 0)?.span.to, near(place, 1)?.span.from);
     Some(part_of(place.text, Span { from, to }))
@@ -191,8 +194,8 @@ pub(crate) fn is_declared(place: Place) -> bool {
     false
 }
 
-/// Whether a test holds of a place, or, behind `!`, doesn't: behind `+` stands what may stand there, behind `-` what may not, and behind `>`
-/// what stands behind the lexeme there.
+/// Whether a test holds. `+W`: `W` is expected here. `-W`: it isn't. `>W_X`: the next lexeme is `W` or `X`. Anything else: a word
+/// of `is_so`. `!` before it negates.
 pub(crate) fn holds(test: &str, place: Place) -> bool {
     let bare = test.strip_prefix("!").unwrap_or(test);
     let is_met = match bare.split_at_checked(1).unwrap_or(("", "")) {
@@ -213,7 +216,7 @@ pub(crate) fn fits(row: &'static str, place: Place) -> bool {
         && tests.all(|test| holds(test, place))
 }
 
-/// Whether less stands behind a place of a text than behind one of another text, and than behind a change of that.
+/// Whether less text is left after `at` in `new` than after `span`, and than after `part`, in `text`.
 fn is_less(new: &str, at: Span, text: &str, span: Span, part: Span) -> bool
     ensures { IsTrue result → length new.now - at.from < length text.now - span.from }
 {
@@ -221,7 +224,7 @@ fn is_less(new: &str, at: Span, text: &str, span: Span, part: Span) -> bool
     left < text.len().saturating_sub(span.from) && left < text.len().saturating_sub(part.to)
 }
 
-/// Whether a lexeme can't stand, or a character isn't of the language, and less stands behind that than behind a place of another text.
+/// Whether `fault` is an unexpected lexeme or a bad character, and comes later than `span` in the sense of `is_less`.
 fn is_later(new: &str, fault: SyntaxFault, text: &str, span: Span, part: Span) -> bool
     requires { IsTextFault new.now fault }
     ensures { IsTrue result → MendsText text.now span new.now }
@@ -233,7 +236,7 @@ fn is_later(new: &str, fault: SyntaxFault, text: &str, span: Span, part: Span) -
     }
 }
 
-/// Whether a text is a program, or less stands behind its fault than behind a place of another text, and than behind a change of that.
+/// Whether `new` parses, or goes wrong later than `span` in the sense of `is_less`. Fails only if memory is refused.
 fn goes_on(alloc: Global, new: &str, text: &str, span: Span, part: Span) -> Result<bool, NoMemory>
     ensures { IfOk result (λ mends. IsTrue mends → MendsText text.now span new.now) }
 {
@@ -275,7 +278,7 @@ pub(crate) fn sentence(alloc: Global, sentence: &str, word: &str, other: &str) -
     filled(alloc, sentence, &[(b'@', word), (b'#', other)])
 }
 
-/// A sentence with a word for `@`, and for `#` and `%` the line and column of a byte, and its line.
+/// Fills in a sentence: `@` is `word`, `#` is LINE:COLUMN of byte `at`, `%` is its line.
 pub(crate) fn placed(alloc: Global, text: &str, sentence: &str, word: &str, at: usize) -> Words {
     let mut spot = String::new(alloc);
     add_spot(&mut spot, "", text, at)?;
@@ -295,7 +298,7 @@ pub(crate) fn put_behind(alloc: Global, part: Span, put: &str) -> Put {
     put_at(alloc, Span { from, to: from }, part, put)
 }
 
-/// A change, if there is one, as it is made in the text; none that puts a name or a number there, of which there are many.
+/// Returns a change as an edit of the text; `None` if it would insert a name or a number, since many would do.
 pub(crate) fn fix_of(place: Place, change: Option<Change>) -> Fixed {
     let Some(change) = change else {
         return Ok(None);
@@ -322,7 +325,7 @@ pub(crate) fn fix_of(place: Place, change: Option<Change>) -> Fixed {
     Ok(Some(fix))
 }
 
-/// What is said of a change, if it mends the place: the heading says what it replaces or leaves out before that.
+/// What is said of a fix, if it mends the place. If it changes an earlier part, the heading is on that part.
 pub(crate) fn told(place: Place, fix: Option<Fix>) -> Saying {
     let Some(fix) = mending(place.alloc, place.text, place.span, fix)? else {
         return Ok(None);

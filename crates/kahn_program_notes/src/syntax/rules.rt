@@ -1,4 +1,5 @@
-//! What is said of a place where a text goes wrong, beside what was expected: rows of rules, and of words and characters of other languages.
+//! What a note on a syntax error says beside `expected .., found ..`: tables of rules, and of words and characters of other
+//! languages.
 
 ghost use Rattle.std.specs.Prelude.{IfOk, IfSome};
 ghost use Rattle.kahn_program_notes.specs.Notes.{Mends};
@@ -13,10 +14,12 @@ use kahn_expected::is_of_word;
 use kahn_syntax::{Span, SyntaxFault};
 use std::alloc::Global;
 
-/// A row has the lexeme before the place, the one there, and the tests; and what is said: where a change is and what is put there, of several
-/// the first that is offered; or the name of a rule; or a sentence, with `$` for the lexeme before the place, and `^` for the one there. The
-/// first row that says something is told: slips, words of another language, and blocks; what would mislead; changes of one lexeme, as what is
-/// written for another or one too many, and then what is left out; habits; and at last what a part of a program that is open looks like.
+/// Rules, the first that says something wins. A row has the lexeme before the place, the one at it, tests, and what to say:
+/// - a change: its kind, then what to insert, of which the first that helps counts;
+/// - the name of a rule;
+/// - a sentence, in which `$` is the lexeme before the place and `^` the one at it.
+/// The order: slips, words of other languages, and blocks; habits for which a change would mislead; changes of one lexeme,
+/// replacing and removing before inserting; other habits; examples.
 const RULES: &str = "
 any | = | >< | sign | <=
 any | = | >> | sign | >=
@@ -142,7 +145,7 @@ any | any | +integer | parameters are like `integer in U; integer out W; integer
 /// How many lexemes before a place a change may stand.
 pub(crate) const FAR: usize = 8;
 
-/// What stands there, what is put in its place if the text goes on with it, and what is said. The first row that fits is told.
+/// Rows: characters; replacements, each offered if the text then parses further; a hint. The first row that fits counts.
 const CHARACTERS: &str = "
 . |  | ; numbers are whole, and no `.` stands in a name or behind the last `end`
 _ |  | ; a name begins with a letter, and a number has decimal digits alone
@@ -206,7 +209,8 @@ close | none | ; a channel has no end that is told: a process just sends no more
 skip pass null nop | none | ; a statement that does nothing is empty, or `begin end` | +:=
 ";
 
-/// What is said of a word of another language: the keyword in its place; or else what the language has, and it may be left out.
+/// For a word of another language: the fix that puts our keyword in its place; or else a heading, what this language has instead,
+/// and perhaps a fix that removes it.
 fn foreign_said(place: Place) -> Saying {
     let Some((at, row)) = foreign_word(place) else {
         return Ok(None);
@@ -232,7 +236,8 @@ fn foreign_said(place: Place) -> Saying {
     Ok(Some((head, fix, Some(below))))
 }
 
-/// What is said of the change of a row of the table that leaves out so many lexemes, nearest to a place.
+/// Makes the change of a row, which removes `out` lexemes, at `place` or at the nearest of the `FAR` lexemes before it where that
+/// helps.
 fn change_said(row: &'static str, place: Place, out: usize, puts: &str) -> Saying {
     for back in 0..FAR.saturating_add(1) {
         let at = before(place, back);
@@ -246,7 +251,7 @@ fn change_said(row: &'static str, place: Place, out: usize, puts: &str) -> Sayin
     Ok(None)
 }
 
-/// What is said of a sign that is put in the place of two lexemes at a place, or one before it.
+/// Replaces the two lexemes at `place`, or else those one before it, by the sign `put`.
 fn sign_said(row: &'static str, place: Place, put: &str) -> Saying {
     for back in 0..2 {
         let at = before(place, back);
@@ -306,7 +311,7 @@ fn row_at(rest: &str) -> Option<(&'static str, &'static str)> {
     None
 }
 
-/// What stands from a part of a text to the end of its line, as a comment of the language.
+/// Returns the edit that makes the rest of the line, from `part` on, a comment.
 fn remark(alloc: Global, text: &str, part: Span) -> Put {
     let rest = text.get(part.to..).unwrap_or("");
     let line = rest.lines().next().unwrap_or("").trim_end();
@@ -316,7 +321,7 @@ fn remark(alloc: Global, text: &str, part: Span) -> Put {
     put_at(alloc, Span { to, ..part }, part, put.as_str())
 }
 
-/// What is put in the place of such a character: the first with which the text goes on past the next lexeme, also with blanks for others.
+/// Returns the first replacement with which the text parses past the next lexeme, with blanks for all other bad characters.
 pub(crate) fn character_fix(alloc: Global, text: &str, plain: &str, span: Span) -> Fixed
     ensures { IfOk result (λ fix. IfSome fix (Mends text.now span)) }
 {
@@ -362,7 +367,8 @@ pub(crate) fn row_of_foreign(word: &str) -> Option<&'static str> {
     FOREIGN.lines().find(|row| has_word(cell(row, 0), word))
 }
 
-/// A word of another language before a place, or at it, by its place, and its row; none that is declared, or given a value.
+/// Returns the word of another language just before `place` or at it, and its row. A declared name or the left side of an
+/// assignment doesn't count.
 fn foreign_word(place: Place) -> Option<(Place, &'static str)> {
     for back in [1, 0] {
         let at = before(place, back);

@@ -24,7 +24,7 @@ use std::alloc::{AllocError, Global};
 /// What a note has beside what was expected: a heading of its own, a change, and sentences, of which one is on the comment before it.
 type Parts = (Heading, Option<Fix>, Vec<String>);
 
-/// What any lexeme of a class is called: what stands before its letters, these, and what stands behind them.
+/// Returns what a class of lexemes is called, in three parts: prefix, word, suffix.
 fn class_parts(class: Class) -> ((&'static str, &'static str), &'static str)
     ensures { result.0.0.now ++ (result.0.1.now ++ result.1.now) ≡ any_words class }
 {
@@ -66,7 +66,7 @@ fn separator(left: usize) -> &'static str
     }
 }
 
-/// The end of the text, where it may stand: behind a whole program; and how many pieces that is.
+/// Returns `the end of the text` and 1 if the text could end here, or else an empty string and 0.
 fn end_piece(what: What) -> (&'static str, usize)
     ensures words { result.0.now ≡ concat (text_end_words what) }
     ensures count { result.1 ≡ length (text_end_words what) }
@@ -138,7 +138,8 @@ fn expected_words(alloc: Global, text: &str, what: What, unexpected: &Unexpected
     Ok(words)
 }
 
-/// What is said of a place, beside what was expected there; nothing where the comment before it goes on over a part of a program.
+/// What is said beside `expected ..`. If the comment before the place swallows code, this is at most the `;` that would end it
+/// earlier.
 fn said_of(alloc: Global, text: &str, span: Span, at: &FaultPlace, before: Option<Span>) -> Saying {
     if let Some(it) = before {
         let said = unended_said(alloc, text, span, it)?;
@@ -213,9 +214,8 @@ fn parts_at(alloc: Global, text: &str, span: Span, at: &FaultPlace) -> Result<Pa
     Ok((head, fix, below))
 }
 
-/// A note on a place where a text goes wrong, which tells what was expected there, and what is probably meant: a change of one lexeme with
-/// which the text is a program, or else goes on farthest, where it has at most 8,192 lexemes; where a block ends; or what the language has.
-/// The heading stands where the change is made. It refuses only where memory was refused.
+/// Returns the note on a syntax error: what was expected, and the likeliest fix or hint (docs/faults-rules.md). Changes are tried
+/// in texts of at most 8,192 lexemes. The heading is where the fix is. Fails only if memory is refused.
 pub fn unexpected_note(alloc: Global, text: &str, span: Span, what: What) -> Result<Note, NoMemory>
     requires { IsTextFault text.now (Expected span what) }
     ensures { IfOk result (IsNoteAt text.now span what) }
@@ -264,7 +264,7 @@ fn holds_name(text: &str, name: &str, comment: Span) -> bool {
         && words.any(|word| word == name.as_bytes())
 }
 
-/// What is said below a note of the comment that holds the declaration of the name at a place, where one of these does.
+/// Returns the line on the first comment that seems to hold the declaration of the name at `span`, or nothing.
 pub fn held_remark(alloc: Global, text: &str, span: Span, comments: &[Span]) -> Words {
     let mut remark = String::new(alloc);
     let name = part_of(text, span);
