@@ -1,8 +1,9 @@
-"""The manual pages and the completions of three shells, each compared both ways with the help of its program.
+"""The manual pages, compared with the help of each program, and the completions of three shells: options as in the help, and names in programs.
 
     manuals.py PROGRAM ..      each program by its path; its file is called as the program is"""
 import os
 import re
+import shutil
 import subprocess
 import sys
 
@@ -10,6 +11,27 @@ from common import TOP, Tried, text_of
 
 COMPLETIONS = f"{TOP}/editors/completions"
 OPTION = re.compile(r"(?m)^  (?:    |(-\w), )(--[\w-]+)(?:\.\.\.)?(?: <([^>]+)>)? {2,}(.*)$")
+
+# Lines in the folder of examples, and what the last word of each can be. The names of IN_PROGRAMS are in the programs of the line.
+FILES = (
+    ("kahn co", "control.kahn count.kahn"),
+    ("kahn_draw library/a", "library/accumulate.kahn"),
+    ("kahn_test count.kahn sq", "squares.kahn"),
+    ("kahn_build count.kahn library/de", "library/debounce.kahn library/decimate.kahn library/delay.kahn"),
+)
+IN_PROGRAMS = (
+    ("kahn sorting.kahn --watch F", "FIRST FOURTH"),
+    ("kahn_live sorting.kahn --watch MI", "MIDDLE_1 MIDDLE_2"),
+    ("kahn_live sorting.kahn --in ", "A B C D"),
+    ("kahn_live sorting.kahn --out F", "FIRST FOURTH"),
+    ("kahn_live alarm.kahn --at-end ", "HEAT= TIME="),
+    ("kahn_explain sorting.kahn --needs LOW_", "LOW_AB LOW_CD"),
+    ("kahn_explain sorting.kahn --wakes ", "A B C D"),
+    ("kahn_build library/tests/delay.kahn library/delay.kahn --set ", "delay.FIRST= delay.N="),
+)
+LISTS = (("kahn_live sorting.kahn --in A,", "A,A A,B A,C A,D"), ("kahn_live sorting.kahn --out FIRST,S", "FIRST,SECOND"),
+         ("kahn_live sorting.kahn --plain A,F", "A,FIRST A,FOURTH"))
+COMMANDS = (("kahn_build sorting.kahn -- kahn_explain --needs F", "FIRST FOURTH"),)
 
 
 def helped(text):
@@ -38,6 +60,40 @@ def bash(name):
     """The options that bash completes."""
     script = 'source "$1"; _kahn "$2" -; printf "%s\\n" "${COMPREPLY[@]}"; _kahn "$2" --ver; echo "${COMPREPLY[@]}"'
     return subprocess.run(["bash", "-c", script, "bash", f"{COMPLETIONS}/kahn.bash", f"/usr/bin/{name}"], capture_output=True, text=True).stdout.split()
+
+
+def bash_words(words):
+    """What bash completes of the last of these words."""
+    script = 'source "$1"; shift; COMP_WORDS=("$@") COMP_CWORD=$(($# - 1)); _kahn "$1" "${@: -1}" "${@: -2:1}"; printf "%s\\n" "${COMPREPLY[@]}"'
+    return ["bash", "-c", script, "bash", f"{COMPLETIONS}/kahn.bash", *words]
+
+
+def zsh_words(words):
+    """The same for zsh, without its own functions: of what the option before takes, all are printed."""
+    script = """file=$1; shift; words=("$@"); _kahn() { source $file; }; _sequence() { "$@"; }
+      compadd() { local end=; [[ $1 != -S ]] || end=$2; printf "%s$end\\n" "${@[$@[(i)--] + 1,-1]}"; }
+      _arguments() { for it; do [[ $it != (|\\*)"${words[-2]}["* ]] || eval "${it##*:}"; done; }
+      _normal() { service=${words[1]}; _kahn; }; CURRENT=$#words service=$words[1]; _kahn"""
+    return ["zsh", "-fc", script, "zsh", f"{COMPLETIONS}/_kahn", *words]
+
+
+def fish_words(words):
+    script = f"source {COMPLETIONS}/{words[0]}.fish; complete -C '{' '.join(words)}'"
+    return ["fish", "--no-config", "-c", script]
+
+
+def try_words(tried):
+    """Names of channels, value arguments and files. fish shows other files after the programs."""
+    for shell, command, cases in (("bash", bash_words, FILES + IN_PROGRAMS + LISTS + COMMANDS), ("zsh", zsh_words, IN_PROGRAMS + COMMANDS),
+                                  ("fish", fish_words, FILES + IN_PROGRAMS + LISTS)):
+        if not shutil.which(shell):
+            print(f"there is no {shell}: what it completes is not tried")
+            continue
+        for line, wanted in cases:
+            words = line.split(" ")
+            shown = subprocess.run(command(words), capture_output=True, text=True, cwd=f"{TOP}/examples").stdout.split("\n")
+            given = {it.split("\t")[0] for it in shown if it.startswith(words[-1]) and not re.search(r"\.(?:input|values|report)$", it.split("\t")[0])}
+            tried.same(f"{shell}: {line}", " ".join(sorted(given - {""})), wanted)
 
 
 def zsh(name):
@@ -71,6 +127,7 @@ def main(*programs):
     tried = Tried()
     for path in programs:
         try_program(path, tried)
+    try_words(tried)
     return tried.finish()
 
 

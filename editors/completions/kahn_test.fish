@@ -1,5 +1,7 @@
 # Completion of the words of kahn_test in fish.
 
+source (status dirname)/kahn.fish
+complete -c kahn_test -k -a '(__fish_complete_suffix .kahn)'
 complete -c kahn_test -l update -d 'write the values of the runs to the files'
 complete -c kahn_test -l values -d 'print the values of one run'
 complete -c kahn_test -l lax -d 'accept programs with warnings'
