@@ -14,8 +14,9 @@ page_sources() {
     cd "$top" || return
     for name in "${names[@]}"; do grep "^$name\b" crates.txt; done
     grep -m 1 '^## [0-9]' CHANGELOG.md
-    find "${names[@]/#/crates/}" web examples -name out -prune -o -type f ! -name '[.#]*' ! -name '*~' \( -path '*/src/*' -o -path '*/specs/*' -o -path '*/proofs/*' \
-      -o -path 'web/*' -o -name '*.kahn' -o -name '*.input' \) -print | LC_ALL=C sort | xargs sha256sum HANDLES
+    find "${names[@]/#/crates/}" web examples \( -name out -o -path examples/library \) -prune -o -type f ! -name '[.#]*' ! -name '*~' \
+      \( -path '*/src/*' -o -path '*/specs/*' -o -path '*/proofs/*' -o -path 'web/*' -o -name '*.kahn' -o -name '*.input' \) -print \
+      | LC_ALL=C sort | xargs sha256sum HANDLES
   ) | sha256sum | cut -d ' ' -f 1
 }
 

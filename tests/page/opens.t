@@ -1,5 +1,9 @@
 What the page opens with, and texts with mistakes.
 
+The examples are whole programs, each with a title; the library has none.
+  $ EXAMPLES.filter(([, program]) => !/^\s*(comment[^;]*;\s*)*begin/i.test(program)).concat(groups().filter((it) => it.title === "More"))
+  []
+
 A link to a program with a mistake: nothing is shown that isn't there.
   $ open #program=begin+end&input=&bound=7
   $ until(() => at("verdict").className === "refused")
