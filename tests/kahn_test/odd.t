@@ -69,9 +69,36 @@ Lines that aren't of a file of values.
   0
   [1]
 
+What isn't a value, and a bound that kahn doesn't take.
+  $ network words; printf 'B: 2 3, 4\n' > networks/words.values; kahn_test networks/words.kahn; printf 'B: .. 2\nC: 02 3 # all\nbound 999999999999999999\n' > networks/words.values; kahn_test networks/words.kahn
+  ok 1 - words.kahn
+  not ok 2 - words
+  # line 1: not a value: `3,`
+  1..2
+  ok 1 - words.kahn
+  not ok 2 - words
+  # line 1: not a value: `..`
+  # line 2: not a value: `02`
+  # line 3: expected `NAME: 1 2`, `print PROCESS: 1`, `status 7`, `bound 100` or `# words`, each once
+  1..2
+  [1]
+
+An input of another name, and a program without values.
+  $ printf 'B: 2 3 4\n' > networks/words.values; mv networks/words.input networks/wrods.input; kahn_test networks/words.kahn; rm networks/words.values; kahn_test networks/words.kahn
+  ok 1 - words.kahn
+  not ok 2 - words
+  # B:1 doesn't come: 0 values, wanted 3
+  # B:1 never comes
+  # no input: there is no words.input
+  1..2
+  ok 1 - words.kahn
+  # words.kahn has no values yet: --update writes them
+  1..1
+
 A file of values without a program.
   $ mkdir lost; cp networks/lines.kahn lost; echo 'B: 2 3 4' > lost/other.values; kahn_test lost
   ok 1 - lines.kahn
+  # lines.kahn has no values yet: --update writes them
   not ok 2 - other
   # there is no program other.kahn
   1..2
@@ -97,6 +124,12 @@ What can't be read or written.
   $ mkdir empty; kahn_test empty
   ! kahn_test: no programs in empty
   [5]
+  $ mkdir locked; chmod 0 locked; user=(); [ "$(id -u)" != 0 ] || user=(setpriv --inh-caps=-all --bounding-set=-all); "${user[@]}" kahn_test locked; status=$?; rmdir locked; exit $status
+  ! kahn_test: cannot read locked
+  [5]
+  $ kahn_test examples/squares.values
+  ! kahn_test: expected a folder or NAME.kahn, found examples/squares.values
+  [2]
   $ mkdir networks/lines.case.values; kahn_test networks/lines.kahn
   ok 1 - lines.kahn
   not ok 2 - lines
@@ -117,9 +150,10 @@ What can't be read or written.
   [5]
 
 The command line.
-  $ kahn_test --updat; kahn_test --bound 1e6; kahn_test --bound; kahn_test --values; kahn_test --values examples/count.kahn --update; kahn_test --junit
+  $ kahn_test --updat; kahn_test --bound 1e6; kahn_test --bound 281474976710656; kahn_test --bound; kahn_test --values; kahn_test --values examples/count.kahn --update; kahn_test --junit
   ! kahn_test: no such option: --updat; --help lists them
   ! kahn_test: --bound: not a number of events: `1e6`
+  ! kahn_test: --bound: not a number of events: `281474976710656`
   ! kahn_test: --bound needs a value
   ! kahn_test: --values takes a program, perhaps an input, and --bound
   ! kahn_test: --values takes a program, perhaps an input, and --bound
