@@ -235,7 +235,7 @@ end
       if (document.documentElement.scrollWidth !== innerWidth || document.body.scrollHeight !== innerHeight) found.push(`${pane} scrolls`);
       if (pane === "network" && !(isAcross() && lettersAreShown())) found.push("the picture or its letters");
     }
-    for (const tab of ["plots", "waits", "report", "table"]) {
+    for (const tab of ["plots", "diagram", "waits", "report", "table"]) {
       showTab(tab);
       await pause();
       if (document.documentElement.scrollWidth !== innerWidth) found.push(`${tab} scrolls`);
@@ -317,7 +317,7 @@ end
     await shows("alarm");
     await go(30);
     choose({ process: 0 });
-    for (const tab of ["plots", "waits", "report", "table"]) {
+    for (const tab of ["plots", "diagram", "waits", "report", "table"]) {
       showTab(tab);
       look(tab);
     }
@@ -366,6 +366,35 @@ end
     }
     return "agrees";
   },
+  // The events of a whole run as the diagram has them, beside what each step says; and each take beside its send: what differs.
+  async lifelinesOf() {
+    const { run } = page, { timeline, steps, streams } = run;
+    for (const k of openBounds(timeline, 0, steps, 0)) await timeline.learn(k);
+    const events = eventsWithin(timeline, 0, steps, streams), wrong = events.length === steps ? [] : [`${events.length} events`];
+    for (const { k, who, kind, stream, row } of events) {
+      const { mover, event } = await run.momentAt(k);
+      if (String([who, kind, stream, row]) !== String([mover, event.kind, event.stream, event.kind === "turn" ? -1 : event.row])) wrong.push(k);
+    }
+    for (const { stream, row, sent, taken, isLeft } of passages(events, timeline)) {
+      const find = (kind) => events.filter((it) => it.kind === kind && it.stream === stream)[row]?.k;
+      if (sent !== find("send") || taken !== find("take") || taken <= sent || isLeft !== (taken === undefined && streams[stream].role !== "output" || streams[stream].role === "output")) wrong.push([stream, row]);
+    }
+    return wrong;
+  },
+  // Whether the diagram has learnt all that it shows.
+  isLearnt: () => page.moment.step === page.k && diagram.moment === page.moment && diagram.events?.length === diagram.high - diagram.first && !at("diagram").querySelector(".unknown"),
+  // Values of a diagram that lie on one another.
+  labelsOver() {
+    const all = [...document.querySelectorAll("#diagram .value")].map((it) => it.getBoundingClientRect());
+    return all.flatMap((it, i) => all.slice(0, i).filter((other) => it.left < other.right - 1 && other.left < it.right - 1 && it.top < other.bottom - 3 && other.top < it.bottom - 3)).length;
+  },
+  // A text as a picture of its own: whether it is read as one, whether something in it leads out, its texts, and whether it has elements of other kinds.
+  pictureIn(text) {
+    const whole = new DOMParser().parseFromString(text, "image/svg+xml"), kinds = new Set([...whole.querySelectorAll("*")].map((it) => it.tagName));
+    const known = ["svg", "rect", "defs", "marker", "path", "g", "text", "tspan", "title", "line", "circle"], texts = [...whole.querySelectorAll("text")].map((it) => it.textContent);
+    return { isRead: !whole.querySelector("parsererror") && whole.documentElement.tagName === "svg", others: [...kinds].filter((it) => !known.includes(it)), texts, leadsOut: / (?:href|style|on\w+)=|javascript:/.test(text) };
+  },
+
   // To what a run came.
   cameTo: () => JSON.stringify([page.run.last, page.run.end.ends, page.run.end.streams.map((it) => [it.name, it.count, it.taken, it.text])]),
   // With other turns of the processes: whether the run comes to the same, what `flowsOf` says, and the most events of a process in a row.
@@ -452,7 +481,7 @@ end
     const found = [];
     await puts(programs.deadlock);
     for (const it of ["texts", "network", "values"]) found.push((show(it), small()));
-    for (const it of ["plots", "waits", "report", "table"]) found.push((showTab(it), small()));
+    for (const it of ["plots", "diagram", "waits", "report", "table"]) found.push((showTab(it), small()));
     await puts(programs.endless.replace("I + 1;", "I + 1"));
     found.push((show("texts"), small()));
     await shows("alarm");

@@ -28,3 +28,9 @@ export function refill(element, ...inner) {
 
 export const numbered = (it) => it.toLocaleString("en");
 export const clipped = (text, most) => (text.length > most ? `${text.slice(0, Math.max(1, most - 1))}…` : text);
+export const classesOf = (...classes) => classes.filter(Boolean).join(" ");
+
+// Changes what is there only if it is another thing: the browser lays out and paints what was touched.
+export function alter(element, key, value) {
+  if (element.getAttribute(key) !== value) element.setAttribute(key, value);
+}

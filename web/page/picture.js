@@ -1,6 +1,6 @@
 // The picture of the network at a moment: drawn once, then only its states, colours and values change.
 
-import { numbered, svg } from "./elements.js";
+import { alter, classesOf, numbered, svg } from "./elements.js";
 import { fitted, LETTER, MOST_SCALE, READABLE } from "./layout.js";
 import { stateWords } from "./moment.js";
 import { View } from "./view.js";
@@ -21,7 +21,6 @@ const STOP = { role: "button", tabindex: -1 }, ASIDE = 2;
 const WAYS = { ArrowLeft: [-1, 0], ArrowRight: [1, 0], ArrowUp: [0, -1], ArrowDown: [0, 1] };
 
 const shortly = (it) => (it < 10000 ? numbered(it) : it.toLocaleString("en", { notation: "compact", maximumFractionDigits: 1 }));
-const classesOf = (...classes) => classes.filter(Boolean).join(" ");
 
 function stateText({ state, on, events }) {
   return state === "fault" ? (on === "division" ? "division by 0" : on) : `${state} · ${shortly(events)}`;
@@ -47,11 +46,7 @@ function lastText({ count, last }, most) {
   return orDots(text, most);
 }
 
-// Changes what is there only if it is another thing: the browser lays out and paints what was touched.
-function alter(element, key, value) {
-  if (element.getAttribute(key) !== value) element.setAttribute(key, value);
-}
-
+// (as `alter` does)
 function say(element, text) {
   if (element.textContent !== text) element.textContent = text;
 }

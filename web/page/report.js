@@ -38,10 +38,13 @@ export class Stream {
   valueAt(row) {
     if (row < MOST_VALUES) return this.values[row];
     if (row === this.count - 1) return this.last;
-    let from = 0;
-    for (let i = 0; i <= row; i++) from = this.text.indexOf(" ", from) + 1;
-    const end = this.text.indexOf(" ", from);
-    return this.text.slice(from, end < 0 ? undefined : end);
+    const { text, mark = { row: -1, from: 0 } } = this;
+    let { from } = mark;
+    for (let i = mark.row; i < row; i++) from = text.indexOf(" ", from) + 1;
+    for (let i = mark.row; i > row; i--) from = text.lastIndexOf(" ", from - 2) + 1;
+    this.mark = { row, from };
+    const end = text.indexOf(" ", from);
+    return text.slice(from, end < 0 ? undefined : end);
   }
 
   get last() {

@@ -6,7 +6,7 @@ import { remark, showProblems } from "./marking.js";
 import { go } from "./moves.js";
 import { QUANTUM, ran, STOPPED } from "./run.js";
 import { showInput, toast } from "./showing.js";
-import { boundOf, changed, isSame, MOST_BOUND, NOTHING, page, picture, plots, program, runner, table, texts } from "./state.js";
+import { boundOf, changed, diagram, isSame, MOST_BOUND, NOTHING, page, picture, plots, program, runner, table, texts } from "./state.js";
 import { drawPicture, showScore, showSteps, stopPlaying } from "./steps.js";
 import { asked, fail, tell } from "./telling.js";
 import { refusedVerdict, verdictOf } from "./verdict.js";
@@ -216,6 +216,7 @@ export function showStreams() {
   at("by").querySelector("[value=event]").disabled = run.isCut;
   table.show(run.streams, Boolean(run.end), run.steps);
   plots.show(run.streams, run.steps, times);
+  diagram.show(run);
   at("by").value = plots.by;
 }
 

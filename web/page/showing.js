@@ -7,7 +7,7 @@ import { changed, input, page, program, store } from "./state.js";
 const HEAD = 50, LEAST_PROGRAM = 30, MOST_PROGRAM = 83;
 // Milliseconds that a note stays, and one with a button.
 const NOTED = 4000, OFFERED = 12000;
-export const TABS = ["table", "plots", "waits", "report"];
+export const TABS = ["table", "plots", "diagram", "waits", "report"];
 
 export function show(pane) {
   document.body.dataset.pane = pane;

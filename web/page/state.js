@@ -2,6 +2,7 @@
 // it follows; so no module that changes something has to know who shows it.
 
 import { at } from "./elements.js";
+import { Diagram } from "./diagram.js";
 import { Editor } from "./editor.js";
 import { Picture } from "./picture.js";
 import { Plots } from "./plots.js";
@@ -17,6 +18,7 @@ export const store = new Store(), runner = new Runner(MODULE), checker = new Run
 export const program = new Editor(at("program"), at("programInk"), { isProgram: true });
 export const input = new Editor(at("input"), at("inputInk"), { isProgram: false });
 export const picture = new Picture(at("picture")), table = new Table(at("table")), plots = new Plots(at("plots"));
+export const diagram = new Diagram(at("diagram"));
 
 // run: what is shown, isOld: of texts before; moment: at event k; chosen: by a press; check: what is marked; number: of the newest run;
 // typed: the line in which somebody types, and in which text; turns: the most events of a turn that were chosen;

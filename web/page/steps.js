@@ -4,7 +4,7 @@ import { at, made, numbered, refill, svg } from "./elements.js";
 import { atEnd, eitherButtons, isBad } from "./marking.js";
 import { onlyPlace } from "./moment.js";
 import { go } from "./moves.js";
-import { changed, follow, page, picture, plots, program, store, table } from "./state.js";
+import { changed, diagram, follow, page, picture, plots, program, store, table } from "./state.js";
 import { verdictOf } from "./verdict.js";
 
 // Seconds that a run plays for, and the milliseconds from one step to the next.
@@ -79,6 +79,7 @@ function showValues() {
   const { moment, chosen } = page;
   if (page.tab === "table") table.update(moment, chosen);
   if (page.tab === "plots") plots.update(moment, chosen);
+  if (page.tab === "diagram") diagram.update(moment, chosen);
 }
 
 // Draws the network if the room has another width than before. Unless its height was chosen, the pane is as high as the picture.

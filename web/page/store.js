@@ -90,9 +90,9 @@ export function linkOf(texts) {
   return location.protocol.startsWith("http") ? { link: location.origin + location.pathname + hash } : { link: `kahn.html${hash}`, isPart: true };
 }
 
-export function download(name, text) {
+export function download(name, text, type = "text/plain") {
   const link = document.createElement("a");
-  link.href = URL.createObjectURL(new Blob([text], { type: "text/plain" }));
+  link.href = URL.createObjectURL(new Blob([text], { type }));
   link.download = name;
   link.click();
   setTimeout(() => URL.revokeObjectURL(link.href), 1000);
