@@ -383,6 +383,48 @@ end
   },
   // Whether the diagram has learnt all that it shows.
   isLearnt: () => page.moment.step === page.k && diagram.moment === page.moment && diagram.events?.length === diagram.high - diagram.first && !at("diagram").querySelector(".unknown"),
+  // How many values wait on each channel: what the plots say of the greatest number and of some events, beside the steps.
+  async waitingOf() {
+    const { run } = page, wrong = [], most = plots.lanes.map(() => 0);
+    for (let k = 0; k <= run.steps; k++) {
+      const { streams } = await run.reportAt(k);
+      plots.lanes.forEach(({ i, parts, greatest }, n) => {
+        const count = streams[i].count - streams[i].taken, told = waitingAt(parts, k);
+        most[n] = Math.max(most[n], count);
+        if (count < told.least || count > told.most || (k === greatest.at && count !== greatest.count)) wrong.push([k, i]);
+      });
+    }
+    plots.lanes.forEach(({ greatest: { count, isLeast } }, n) => { if (isLeast ? count > most[n] : count !== most[n]) wrong.push([n, count, most[n]]); });
+    return wrong;
+  },
+  // Shows how many values wait once all of that is known, however busy the machine is.
+  async showsWaits() {
+    while (!(await page.run.learnWaits(() => true)));
+    at("by").value = "waits";
+    await showBy();
+  },
+  // The values of a VCD by the names of its variables: each event and the value from then on.
+  changesIn(text) {
+    const names = {}, found = {};
+    let at = 0;
+    for (const line of text.split("\n")) {
+      const [, short, name] = /^\$var \w+ \d+ (\S+) (\S+) \$end$/.exec(line) ?? [], [, bits, of] = /^b([01]+) (\S+)$/.exec(line) ?? [], [, bit, logical] = /^([01])(\S+)$/.exec(line) ?? [];
+      if (short) names[short] = name;
+      else if (/^#\d+$/.test(line) && !logical) at = Number(line.slice(1));
+      else if (bits) (found[names[of]] ??= []).push([at, String(BigInt.asIntN(64, BigInt(`0b${bits}`)))]);
+      else if (bit) (found[names[logical]] ??= []).push([at, bit === "1" ? "true" : "false"]);
+    }
+    return found;
+  },
+  // Values that came, as a VCD has them.
+  cameBy: () => Object.fromEntries(page.run.streams.map(({ print, name, values }, i) => [(print === undefined ? "" : "print_") + name.replaceAll(" ", "_"), page.run.timeline.times[i].map((k, row) => [k, values[row]])])),
+  // Whether a VCD of the run has these, in whatever order.
+  async agreesAsVcd() {
+    const { run } = page, sorted = (found) => JSON.stringify(Object.entries(found).filter(([, list]) => list.length).sort());
+    await run.learnTimes(() => true);
+    return sorted(changesIn(vcdOf(run.streams, run.final.streams, run.timeline.times, run.steps))) === sorted(cameBy());
+  },
+  presses: (element, key) => void element.dispatchEvent(new KeyboardEvent("keydown", { key, bubbles: true, cancelable: true })),
   // Values of a diagram that lie on one another.
   labelsOver() {
     const all = [...document.querySelectorAll("#diagram .value")].map((it) => it.getBoundingClientRect());
@@ -391,7 +433,7 @@ end
   // A text as a picture of its own: whether it is read as one, whether something in it leads out, its texts, and whether it has elements of other kinds.
   pictureIn(text) {
     const whole = new DOMParser().parseFromString(text, "image/svg+xml"), kinds = new Set([...whole.querySelectorAll("*")].map((it) => it.tagName));
-    const known = ["svg", "rect", "defs", "marker", "path", "g", "text", "tspan", "title", "line", "circle"], texts = [...whole.querySelectorAll("text")].map((it) => it.textContent);
+    const known = ["svg", "rect", "defs", "marker", "path", "g", "text", "tspan", "title", "line", "circle", "clipPath"], texts = [...whole.querySelectorAll("text")].map((it) => it.textContent);
     return { isRead: !whole.querySelector("parsererror") && whole.documentElement.tagName === "svg", others: [...kinds].filter((it) => !known.includes(it)), texts, leadsOut: / (?:href|style|on\w+)=|javascript:/.test(text) };
   },
 

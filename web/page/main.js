@@ -6,7 +6,7 @@ import { choose, chooseAt, chooseNothing, chooseStream, go, goToOwn, goToValue, 
 import { divider } from "./panes.js";
 import { STOPPED } from "./run.js";
 import { lacking } from "./runner.js";
-import { runTexts, showBy, takeTurns } from "./running.js";
+import { runTexts, showBy, showCursors, takeTurns } from "./running.js";
 import { savePicture } from "./saving.js";
 import { show, showSigns, showTab, TABS } from "./showing.js";
 import { BOUND, changed, diagram, input, NOTHING, page, picture, plots, program, runner, store, table } from "./state.js";
@@ -28,6 +28,7 @@ for (const it of ["selectionchange", "focusin", "focusout"]) document.addEventLi
 picture.choose = choose;
 table.choose = plots.choose = chooseStream;
 table.goTo = plots.goTo = diagram.goTo = goToValue;
+Object.assign(plots, { go: goByHand, read: (words) => (at("apart").textContent = words) });
 Object.assign(diagram, { choose, learn: asked, go: goByHand });
 at("run").onclick = runTexts;
 at("stop").onclick = () => runner.end(STOPPED);
@@ -39,6 +40,12 @@ at("file").onchange = () => opened(at("file").files).then(() => (at("file").valu
 at("download").onclick = downloadTexts;
 at("copy").onclick = copyLink;
 at("by").onchange = showBy;
+at("nearer").onclick = () => plots.zoom(2);
+at("farther").onclick = () => plots.zoom(0.5);
+at("cursors").onclick = () => {
+  plots.toggleCursors();
+  showCursors();
+};
 at("turns").onchange = takeTurns;
 at("program").onclick = () => chooseAt(at("program").selectionStart);
 at("programInk").onclick = ({ target }) => {

@@ -150,6 +150,12 @@ class Run {
     return this.isCut ? false : this.timeline.learnTimes(MILLISECONDS_TO_LEARN, isWanted);
   }
 
+  // Learns how many values wait on the channels between processes.
+  learnWaits(isWanted) {
+    const inner = this.streams.flatMap((it, i) => (it.role === "inner" ? [i] : []));
+    return this.timeline.learnWaits(inner, MILLISECONDS_TO_LEARN, isWanted);
+  }
+
   // The event by which a value of a stream came: one of the steps, or the end.
   async eventOf(stream, row) {
     return (await this.timeline.firstWith(({ counts }) => counts[stream], row + 1)) ?? this.last;

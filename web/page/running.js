@@ -212,23 +212,29 @@ export async function takeTurns() {
 }
 
 export function showStreams() {
-  const { run } = page, { times } = run.timeline;
-  at("by").querySelector("[value=event]").disabled = run.isCut;
+  const { run } = page;
+  for (const it of ["event", "waits"]) at("by").querySelector(`[value=${it}]`).disabled = run.isCut;
   table.show(run.streams, Boolean(run.end), run.steps);
-  plots.show(run.streams, run.steps, times);
+  plots.show(run);
   diagram.show(run);
   at("by").value = plots.by;
+  showCursors();
 }
 
-// Over the events the plots can be drawn once it is known by which each value came.
+// Over the events the plots can be drawn once it is known by which each value came. How many wait is drawn as far as it is known.
 export async function showBy() {
-  const { run } = page, by = at("by").value;
-  if (by === "event" && !(await asked(run.learnTimes(() => page.run === run)))) {
-    if (page.run === run) toast("To find the events of so many values takes too long.");
+  const { run } = page, by = at("by").value, isWanted = () => page.run === run && at("by").value === by;
+  if (by === "event" && !(await asked(run.learnTimes(isWanted)))) {
+    if (page.run === run && at("by").value === by) toast("To find the events of so many values takes too long.");
     at("by").value = plots.by;
     return;
   }
-  if (page.run !== run) return;
-  Object.assign(plots, { by, times: run.timeline.times });
-  plots.draw();
+  if (!isWanted()) return;
+  plots.showBy(by);
+  showCursors();
+  if (by === "waits" && (await asked(run.learnWaits(isWanted))) !== undefined && isWanted()) plots.draw();
+}
+
+export function showCursors() {
+  at("cursors").setAttribute("aria-pressed", Boolean(plots.cursors));
 }

@@ -23,7 +23,7 @@ export function showTab(name) {
     at(`tab-${it}`).setAttribute("aria-selected", it === name);
     at(`tab-${it}`).tabIndex = it === name ? 0 : -1;
   }
-  at("axis").hidden = name !== "plots";
+  at("tuning").hidden = name !== "plots";
   at("colours").hidden = name !== "table";
   changed("tab");
 }

@@ -3,7 +3,7 @@
 // without a run. Any other gap is halved until time is up.
 
 // In so many parts of a run is learnt who did its events: the strip that shows it has no more points.
-const MOST_PARTS = 1000;
+const MOST_PARTS = 1000, MOST_PARTS_OF_WAITS = 250;
 
 const total = (numbers) => numbers.reduce((sum, it) => sum + it, 0);
 const grownOf = (from, to) => from.flatMap((it, i) => (it === to[i] ? [] : [i]));
@@ -73,6 +73,21 @@ export class Timeline {
   async learnTimes(milliseconds, isWanted) {
     if (!this.times && (await this.close(areTimesOpen, performance.now() + milliseconds, isWanted))) this.times = this.timed();
     return this.times !== undefined;
+  }
+
+  // Learns how many values wait on some streams: coarsely all over the run, and the greatest number exactly, as far as there is time. Where no more can
+  // wait than is known already, nothing is asked.
+  async learnWaits(streams, milliseconds, isWanted) {
+    const end = performance.now() + milliseconds, waits = ({ counts, taken }, i) => counts[i] - taken[i];
+    const isCoarse = (from, to) => streams.some((i) => to.counts[i] - from.taken[i] > 1 + Math.max(waits(from, i), waits(to, i)));
+    if (!(await this.close(isCoarse, end, isWanted, Math.ceil(this.steps / MOST_PARTS_OF_WAITS)))) return false;
+    const greatest = (i) => this.bounds.reduce((most, k) => Math.max(most, waits(this.known.get(k), i)), 0);
+    for (const i of streams) {
+      let most = greatest(i), count = this.known.size;
+      const known = () => (this.known.size === count ? most : ((count = this.known.size), (most = greatest(i))));
+      if (!(await this.close((from, to) => to.counts[i] - from.taken[i] > known(), end, isWanted))) return false;
+    }
+    return true;
   }
 
   timed() {

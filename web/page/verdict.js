@@ -3,7 +3,7 @@
 import { numbered } from "./elements.js";
 import { capital } from "./why.js";
 
-const counted = (count, one, many) => `${numbered(count)} ${count === 1 ? one : many}`;
+export const counted = (count, one, many) => `${numbered(count)} ${count === 1 ? one : many}`;
 const listed = (list) => (list.length > 1 ? `${list.slice(0, -1).join(", ")} and ${list.at(-1)}` : list[0] ?? "");
 const once = (places) => places.filter((it, i) => places.findIndex((other) => other.from === it.from) === i);
 const sentence = (words) => `${capital(words).replace(/[.]$/, "")}.`;
