@@ -1,7 +1,7 @@
-//! The program `kahn` with a gate that doesn't say that it is open: as many workers as are asked for begin at once, over lanes and
-//! the board, however little there is to do.
+//! The program `kahn` with a gate that doesn't say that it is open. As many workers as are asked for begin at once, over lanes and
+//! the board, however little there is to do. It is only for checks, and isn't released.
 //! With `held` before its other words the run is held between parts, and continues after a refusal of memory or of a thread, by a
-//! further call. It is only for checks, and isn't released.
+//! further call.
 #![tactic(auto)]
 
 ghost use Rattle.std.specs.Prelude.{IsTrue};
