@@ -26,7 +26,7 @@ import threading
 
 from common import NAMES, TOP, read, write
 
-TOOLS = ("dot", "gnuplot", "m4", "perl")
+TOOLS = ("dot", "gnuplot", "m4", "perl", "prove")
 SECONDS = 600
 NAMED = re.compile(r"\b(?:docs/[\w/-]+\.md|(?:checks|tests|fuzz|bench|web)/[a-z0-9_/-]+\.(?:py|sh|c|t|txt))\b")
 
