@@ -321,7 +321,11 @@ end
       showTab(tab);
       look(tab);
     }
-    for (const open of [gallery, () => at("sheet").showModal()]) {
+    beginLesson();
+    await until(settled);
+    look("the lesson");
+    endLesson();
+    for (const open of [gallery, () => at("sheet").showModal(), showOrders]) {
       open();
       look("a dialog");
       document.querySelector("dialog[open]").close();
@@ -530,7 +534,11 @@ end
     await go(10);
     choose({ process: 0 });
     for (const it of ["texts", "network", "values"]) found.push((show(it), small()));
-    for (const open of [gallery, () => at("sheet").showModal()]) {
+    beginLesson();
+    await until(settled);
+    found.push(small());
+    endLesson();
+    for (const open of [gallery, () => at("sheet").showModal(), showOrders]) {
       open();
       found.push(small());
       document.querySelector("dialog[open]").close();

@@ -3,17 +3,19 @@
 import { at } from "./elements.js";
 import { FIRST } from "./examples.js";
 import { choose, chooseAt, chooseNothing, chooseStream, go, goToOwn, goToValue, runToLine } from "./moves.js";
+import { beginLesson } from "./lesson.js";
+import { showOrders } from "./orders.js";
 import { divider } from "./panes.js";
 import { STOPPED } from "./run.js";
 import { lacking } from "./runner.js";
 import { runTexts, showBy, showCursors, takeTurns } from "./running.js";
 import { savePicture } from "./saving.js";
-import { show, showSigns, showTab, TABS } from "./showing.js";
+import { show, showAlone, showSigns, showTab, TABS } from "./showing.js";
 import { BOUND, changed, diagram, input, NOTHING, page, picture, plots, program, runner, store, table } from "./state.js";
 import { play, playIcon, showPlay, stopPlaying } from "./steps.js";
 import { carried } from "./store.js";
 import { asked, fail } from "./telling.js";
-import { copyLink, downloadTexts, gallery, opened, put, save, showName } from "./texts.js";
+import { copyLink, downloadTexts, gallery, opened, openLink, save, showName } from "./texts.js";
 import { edited, lineLeft } from "./typing.js";
 
 // Milliseconds after the last change of the window's size until it is drawn again.
@@ -34,6 +36,9 @@ at("run").onclick = runTexts;
 at("stop").onclick = () => runner.end(STOPPED);
 at("examples").onclick = gallery;
 at("savePicture").onclick = savePicture;
+at("present").onclick = () => showAlone(!page.isAlone);
+at("others").onclick = showOrders;
+at("beginLesson").onclick = beginLesson;
 at("help").onclick = () => at("sheet").showModal();
 at("open").onclick = () => at("file").click();
 at("file").onchange = () => opened(at("file").files).then(() => (at("file").value = ""));
@@ -122,6 +127,8 @@ onkeydown = (event) => {
     runTexts();
   } else if (event.key === "Escape" && page.chosen !== NOTHING && !document.querySelector("dialog[open]")) {
     chooseNothing();
+  } else if (event.key === "Escape" && page.isAlone && !document.querySelector("dialog[open]")) {
+    showAlone(false);
   } else if (event.key === "Enter" && event.altKey && event.target === at("program")) {
     event.preventDefault();
     runToLine(program.line);
@@ -144,10 +151,7 @@ ondrop = (event) => {
   event.preventDefault();
   if (event.dataTransfer.files.length) opened(event.dataTransfer.files);
 };
-onhashchange = () => {
-  const given = carried(location.hash);
-  if (given) put(given, "");
-};
+onhashchange = () => openLink(location.hash);
 onpagehide = save;
 onbeforeprint = () => { program.paint(true); input.paint(true); if (page.wiring) entire(); };
 onafterprint = () => { program.paint(); input.paint(); };
@@ -165,6 +169,8 @@ matchMedia("(prefers-color-scheme: dark)").addEventListener("change", () => chan
 function begin() {
   const linked = carried(location.hash), { texts: kept, name = "" } = store, first = linked ?? kept ?? FIRST;
   if (linked && kept) store.keep(kept);
+  page.wanted = linked?.view;
+  if (linked?.view.isAlone) showAlone(true);
   page.name = linked ? "" : kept ? name : FIRST.name;
   [program.text, input.text] = [first.program, first.input ?? ""];
   at("bound").value = first.bound ?? BOUND;

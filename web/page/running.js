@@ -5,7 +5,7 @@ import { at, made, numbered } from "./elements.js";
 import { remark, showProblems } from "./marking.js";
 import { go } from "./moves.js";
 import { QUANTUM, ran, STOPPED } from "./run.js";
-import { showInput, toast } from "./showing.js";
+import { showInput, showTab, TABS, toast } from "./showing.js";
 import { boundOf, changed, diagram, isSame, MOST_BOUND, NOTHING, page, picture, plots, program, runner, table, texts } from "./state.js";
 import { drawPicture, showScore, showSteps, stopPlaying } from "./steps.js";
 import { asked, fail, tell } from "./telling.js";
@@ -54,6 +54,13 @@ function busy(isBusy) {
   document.body.classList.toggle("busy", isBusy);
 }
 
+// The most events of a turn in the next run: those of a link, or those that were chosen for these texts.
+function turnsOfNext() {
+  const { wanted, isOther, turns } = page;
+  if (wanted) page.turns = [...at("turns").options].some((it) => it.value === String(wanted.turns)) ? wanted.turns : QUANTUM;
+  return wanted ? page.turns : isOther ? QUANTUM : turns;
+}
+
 export async function runTexts() {
   if (boundOf() === undefined) {
     at("bound").focus();
@@ -66,7 +73,7 @@ export async function runTexts() {
   busy(true);
   const patience = setTimeout(() => showBusy("Running"), PATIENCE);
   try {
-    const run = await ran(runner, given, page.isOther ? QUANTUM : page.turns, (events, milliseconds) => {
+    const run = await ran(runner, given, turnsOfNext(), (events, milliseconds) => {
       if (isNewest()) showBusy(`Running: ${numbered(events)} events so far`, `${(milliseconds / 1000).toFixed(1)} s. `);
     });
     clearTimeout(patience);
@@ -143,21 +150,27 @@ function shownOf(text) {
   }).join("\n");
 }
 
-// The step and the choice of the run before, as far as this one has them: a process by its name and number, or a channel by its name.
-function keptFor({ wiring: { processes, channels }, last }) {
-  const { run, k, chosen, isOther } = page;
+// A process or a channel as what is chosen.
+function choiceOf({ wiring: { processes, channels } }, isProcess, isChannel) {
+  const process = processes.findIndex(isProcess), channel = channels.find(isChannel);
+  if (process >= 0) return { ...NOTHING, process };
+  return channel ? { channel: channel.number, channels: [channel.number], processes: [channel.writer, channel.reader].filter((it) => it >= 0) } : NOTHING;
+}
+
+// The step and the choice of a link; or those of the run before, as far as this one has them: a process by its name and number, or a channel by its name.
+function keptFor(newer) {
+  const { run, k, chosen, isOther, wanted } = page, { last } = newer;
+  if (wanted) return { k: Math.min(last, wanted.step ?? last), chosen: choiceOf(newer, ({ number }) => number === wanted.process, ({ name }) => name === wanted.channel) };
   if (!run || isOther) return { k: last, chosen: NOTHING };
   const old = run.wiring.processes[chosen.process], name = run.wiring.channels[chosen.channel]?.name;
-  const process = old ? processes.findIndex((it) => it.name === old.name && it.number === old.number) : -1, channel = channels.find((it) => it.name === name);
-  const ends = channel ? [channel.writer, channel.reader].filter((it) => it >= 0) : [];
-  const kept = channel ? { channel: channel.number, channels: [channel.number], processes: ends } : NOTHING;
-  return { k: k < run.last ? Math.min(k, last) : last, chosen: process < 0 ? kept : { ...NOTHING, process } };
+  return { k: k < run.last ? Math.min(k, last) : last, chosen: choiceOf(newer, (it) => it.name === old?.name && it.number === old.number, (it) => it.name === name) };
 }
 
 async function showRun(run, number) {
   const isOld = !isSame(run.texts, texts()), { wiring } = run, { k, chosen } = keptFor(run);
-  if (page.isOther) page.turns = QUANTUM;
-  Object.assign(page, { run, moment: undefined, chosen, isOther: false });
+  if (page.isOther && !page.wanted) page.turns = QUANTUM;
+  if (TABS.includes(page.wanted?.tab)) showTab(page.wanted.tab);
+  Object.assign(page, { run, moment: undefined, chosen, isOther: false, wanted: undefined });
   at("results").dataset.shows = "run";
   showVerdict();
   if (!isOld) showCheck(run);

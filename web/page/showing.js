@@ -28,6 +28,15 @@ export function showTab(name) {
   changed("tab");
 }
 
+// The picture without the rest, in large letters, and the whole page again.
+export function showAlone(isAlone) {
+  page.isAlone = isAlone;
+  document.body.classList.toggle("alone", isAlone);
+  if (isAlone) show("network");
+  at("present").textContent = isAlone ? "End" : "Present";
+  changed("alone");
+}
+
 // What the signs of the picture mean, below it.
 export function showSigns(isShown) {
   at("legend").hidden = !isShown;

@@ -23,10 +23,11 @@ export const diagram = new Diagram(at("diagram"));
 // run: what is shown, isOld: of texts before; moment: at event k; chosen: by a press; check: what is marked; number: of the newest run;
 // typed: the line in which somebody types, and in which text; turns: the most events of a turn that were chosen;
 // width: for which the picture was drawn; name: of the example that the texts are; wiring: of the network that is drawn; isOrdered: whether it
-// is known who did the events; isOther: whether the texts were put in place of others since the run.
+// is known who did the events; isOther: whether the texts were put in place of others since the run; wanted: what a link asks to show of the next run;
+// isAlone: whether the picture is shown without the rest.
 export const page = {
   run: undefined, isOld: false, moment: undefined, k: 0, chosen: NOTHING, typed: undefined, turns: QUANTUM, check: undefined, number: 0, width: undefined,
-  wiring: undefined, isOrdered: false, isOther: false, tab: store.state.tab ?? "table", name: "",
+  wiring: undefined, isOrdered: false, isOther: false, wanted: undefined, isAlone: false, tab: store.state.tab ?? "table", name: "",
 };
 
 // Who is called when something has changed: `moment`, the step and what is chosen; `room`, the sizes of what is shown; `tab`; `marks`.

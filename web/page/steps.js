@@ -2,6 +2,7 @@
 
 import { at, made, numbered, refill, svg } from "./elements.js";
 import { atEnd, eitherButtons, isBad } from "./marking.js";
+import { MOST_SCALE } from "./layout.js";
 import { onlyPlace } from "./moment.js";
 import { go } from "./moves.js";
 import { changed, diagram, follow, page, picture, plots, program, store, table } from "./state.js";
@@ -15,6 +16,8 @@ const SHARED = 0.45;
 const MOST_SPOTS = 3;
 // How many hundredths of the room the network's pane takes.
 const LEAST_NETWORK = 34, MOST_NETWORK = 58;
+// How much larger a picture that is shown alone may be.
+const MOST_ALONE = 3;
 const PLAYS = {
   toStart: "M3 3v12M15 3L6 9l9 6z", back: "M13 3L5 9l8 6z", play: "M4 2l12 7-12 7z", pause: "M5 3h3v12H5zM11 3h3v12h-3z", on: "M5 3l8 6-8 6z",
   toEnd: "M15 3v12M3 3l9 6-9 6z", entire: "M3 7V3h4M11 3h4v4M15 11v4h-4M7 15H3v-4",
@@ -126,6 +129,11 @@ follow("moment", showPicture);
 follow("moment", showEvent);
 follow("moment", showValues);
 follow("moment", () => { if (!page.isOld) revealPlace(); });
+follow("alone", () => {
+  picture.view.mostWhole = page.isAlone ? MOST_ALONE : MOST_SCALE;
+  page.width = undefined;
+  changed("room");
+});
 follow("tab", () => {
   if (page.tab === "plots" && page.run) plots.draw();
   if (page.moment) changed("moment");

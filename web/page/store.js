@@ -72,20 +72,27 @@ export class Store {
   }
 }
 
-// What the address carries behind its #, or none.
+// What is shown of a run, as an address has it: its step and turns, the tab, a process by its number or a channel by its name, and whether the picture is alone.
+function viewIn(words) {
+  const number = (name) => (DIGITS.test(words.get(name) ?? "") ? Number(words.get(name)) : undefined);
+  const view = { step: number("step"), turns: number("turns"), process: number("process"), channel: words.get("channel") ?? undefined, tab: words.get("tab") ?? undefined };
+  return { ...view, isAlone: words.get("view") === "picture" };
+}
+
+// What the address carries after its #, or none.
 export function carried(hash) {
   const words = new URLSearchParams(hash.slice(1)), bound = words.get("bound") ?? "";
   if (!words.has("program")) return undefined;
-  return { program: words.get("program"), input: words.get("input") ?? "", bound: DIGITS.test(bound) ? bound : undefined };
+  return { program: words.get("program"), input: words.get("input") ?? "", bound: DIGITS.test(bound) ? bound : undefined, view: viewIn(words) };
 }
 
 export function clearAddress() {
   if (location.hash) history.replaceState(null, "", location.pathname + location.search);
 }
 
-// The link to the texts. A page that is a file has no address for others; then it is what goes behind the address of theirs.
-export function linkOf(texts) {
-  const hash = `#${new URLSearchParams(texts)}`;
+// The link to the texts, and to what is shown of them. A page that is a file has no address for others; then it is what goes behind the address of theirs.
+export function linkOf(texts, view = {}) {
+  const shown = Object.entries(view).filter(([, it]) => it !== undefined), hash = `#${new URLSearchParams([...Object.entries(texts), ...shown])}`;
   if (hash.length > MOST_LINK) return { fault: "These texts are too long for a link: download them instead." };
   return location.protocol.startsWith("http") ? { link: location.origin + location.pathname + hash } : { link: `kahn.html${hash}`, isPart: true };
 }

@@ -2,10 +2,11 @@
 
 import { at, made } from "./elements.js";
 import { example, groups, isExample } from "./examples.js";
+import { QUANTUM } from "./run.js";
 import { runTexts } from "./running.js";
-import { toast } from "./showing.js";
+import { showAlone, toast } from "./showing.js";
 import { BOUND, input, page, program, store, texts } from "./state.js";
-import { clearAddress, download, linkOf, textsOf } from "./store.js";
+import { carried, clearAddress, download, linkOf, textsOf } from "./store.js";
 
 export function showName() {
   at("caption").textContent = page.name ? "Example" : "Program";
@@ -21,7 +22,8 @@ export function save() {
   isWarned = !isKept;
 }
 
-export function put({ program: text, input: given, bound }, name) {
+// name: of the example that they are; wanted: what is shown of their run, if not its end.
+export function put({ program: text, input: given, bound }, name, wanted) {
   const old = { program: program.text, input: input.text, bound: at("bound").value, name: page.name }, isOwn = old.program.trim() !== "" && !isExample(old);
   if (isOwn && !store.isKept && !confirm("This browser keeps no texts. Replace yours?")) return;
   if (isOwn) store.keep({ program: old.program, input: old.input, bound: old.bound });
@@ -30,7 +32,7 @@ export function put({ program: text, input: given, bound }, name) {
   input.replace(given);
   program.replace(text);
   at("bound").value = bound ?? BOUND;
-  Object.assign(page, { name, isOther: true });
+  Object.assign(page, { name, isOther: true, wanted });
   showName();
   clearAddress();
   save();
@@ -57,8 +59,26 @@ export function gallery() {
   at("gallery").showModal();
 }
 
+// What is shown of the run, as far as it isn't what a run shows by itself.
+export function viewOf() {
+  const { run, k, chosen, tab, turns, isAlone, moment, isOld } = page;
+  if (!moment || isOld) return {};
+  return {
+    step: k < run.last ? k : undefined, turns: run.canTurn && turns !== QUANTUM ? turns : undefined, tab: tab === "table" ? undefined : tab,
+    process: run.wiring.processes[chosen.process]?.number, channel: run.wiring.channels[chosen.channel]?.name, view: isAlone ? "picture" : undefined,
+  };
+}
+
+// Texts that a link carries come in place of those that are there.
+export function openLink(hash) {
+  const linked = carried(hash);
+  if (!linked) return;
+  showAlone(linked.view.isAlone);
+  put({ program: linked.program, input: linked.input, bound: linked.bound }, "", linked.view);
+}
+
 export async function copyLink() {
-  const { link, isPart, fault } = linkOf(texts());
+  const { link, isPart, fault } = linkOf(texts(), viewOf());
   if (fault) {
     toast(fault);
     return;

@@ -21,7 +21,7 @@ let pause;
 // editor: the text in which somebody typed.
 export function edited(editor) {
   clearAddress();
-  page.name = nameOf(texts());
+  Object.assign(page, { name: nameOf(texts()), wanted: undefined });
   showName();
   stale();
   noteTyping(editor);
