@@ -5,6 +5,7 @@
     web.py BROWSER PAGE --tries                       tries the page alone
     web.py BROWSER PAGE --opens                       opens the page, which shows a report at once
     web.py BROWSER PAGE --pictures                    takes the pictures of the page in docs/pictures"""
+import glob
 import json
 import os
 import re
@@ -130,10 +131,25 @@ def try_in(program, path, *words):
     return map(int, counted.groups()) if counted else (0, 1)
 
 
+def try_modules(tried):
+    """The modules that need no browser, in node if that is there."""
+    node = shutil.which("node")
+    if not node:
+        print("the page's modules are not tried by themselves: there is no node")
+        return
+    with tempfile.TemporaryDirectory() as folder:
+        for it in [*glob.glob(f"{TOP}/web/page/*.js"), f"{TOP}/tests/page/modules.mjs"]:
+            shutil.copy(it, folder)
+        common.write(f"{folder}/package.json", '{"type": "module"}')
+        ran = subprocess.run([node, "--test", "modules.mjs"], capture_output=True, timeout=SECONDS, text=True, cwd=folder)
+    tried.same("modules of the page in node", ran.returncode == 0 or ran.stdout[-4000:])
+
+
 def try_browsers():
     """The page in Chromium (Debian's package chromium, or the one that BROWSER names) against the programs; alone in Debian's firefox-esr. What
     isn't there, or isn't of these sources, is said, and counts as one pass."""
     path, chromium, tried = os.environ.get("PAGE", f"{TOP}/release/kahn.html"), shutil.which(os.environ.get("BROWSER", "chromium")), common.Tried()
+    try_modules(tried)
     is_ours = "PAGE" in os.environ or not subprocess.run(["bash", "-c", 'top=$1; source "$top/web/page.sh"; is_page_released', "bash", TOP]).returncode
     runs = [(chromium, path, *map(common.program, ("kahn", "kahn_draw", "kahn_explain")))] if chromium and is_ours else []
     runs += [(it, path, "--tries") for it in [shutil.which("firefox-esr")] if runs and it]
