@@ -89,7 +89,7 @@ A bound, and ten times that.
   $ puts(programs.endless, { bound: "1000" })
   $ told()
   ["stopped", "Stopped by its bound of 1,000 events"]
-  $ click #actions button
+  $ click #actions button:first-child
   $ until(() => at("bound").value === "10000" && settled())
   $ told()[1]
   "Stopped by its bound of 10,000 events"

@@ -10,7 +10,7 @@ const LESSON = [
   ["Waiting", "squares", { step: 13, tab: "diagram", process: 2 },
     "A process that waits on an empty channel stops until a value comes. It can't test whether a value is there. In the diagram each row is a process, and each arrow leads from the event that sends a value to the event that takes it."],
   ["Any order, the same values", "rates", { tab: "table" },
-    "It isn't fixed which process goes first. Choose other turns, at the right below the picture. Then press Other orders. Each run has another order of events, but each channel always has the same values."],
+    "It isn't fixed which process goes first. Choose other turns, at the right below the picture. Then press Other orders, above the picture. Each run has another order of events, but each channel always has the same values."],
   ["Feedback", "hamming", { step: 200, tab: "plots" },
     "A channel may lead back. This network makes all numbers without a prime factor over 5, in order. The first process sends the first 1. Without it no process could begin."],
   ["Deadlock", "control", { tab: "waits" },

@@ -40,7 +40,8 @@ export function showCheck(about) {
 export function showVerdict() {
   const verdict = verdictOf(page.run), isMore = verdict.canGoOn && boundOf() <= MOST_BOUND / 10n;
   stale(false);
-  tell({ ...verdict, actions: isMore ? [made("button", { onclick: goOn }, "Ten times the bound")] : [] });
+  const others = made("button", { id: "others", title: "The run in twenty other orders of its events", onclick: () => changed("orders") }, "Other orders");
+  tell({ ...verdict, actions: [...(isMore ? [made("button", { onclick: goOn }, "Ten times the bound")] : []), others] });
   if (page.run.isLong) at("details").append(" The program is over 32,768 bytes, so it is not explained.");
 }
 

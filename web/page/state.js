@@ -30,7 +30,8 @@ export const page = {
   wiring: undefined, isOrdered: false, isOther: false, wanted: undefined, isAlone: false, tab: store.state.tab ?? "table", name: "",
 };
 
-// Who is called when something has changed: `moment`, the step and what is chosen; `room`, the sizes of what is shown; `tab`; `marks`.
+// Who is called when something has changed: `moment`, the step and what is chosen; `room`, the sizes of what is shown; `tab`; `texts`, those
+// that were run aren't there any more; `run`, one begins; `alone`, the picture; `orders`, they are asked for.
 const followers = {};
 
 export function follow(what, act) {
