@@ -79,9 +79,13 @@ Files that can't be read, and a command that isn't there.
   $ mkdir folder; kahn_build folder
   ! kahn_build: cannot read folder
   [5]
-  $ kahn_build use.kahn -- nothing 2>&1 | sed 's/.*: line [0-9]*: //'; exit ${PIPESTATUS[0]}
-  nothing: command not found
+  $ kahn_build use.kahn -- nothing
+  ! kahn_build: there is no command nothing
   [127]
+  $ kahn_build examples/library/delay.kahn use.kahn; kahn_build use.kahn examples/count.kahn
+  ! kahn_build: examples/library/delay.kahn is a library; the program comes first
+  ! kahn_build: examples/count.kahn is a program; libraries have only declarations
+  [1]
 
 Names of files, and comments, literals and brackets in odd places.
   $ mkdir -p 'a b=c'; printf 'comment begin end; Begin comment; integer output channel A; comment process p(;\nprocess p(integer out\nW; comment integer K; integer N, M; logical L); begin if L then send N + M on W end; p(A, - comment ; 7,8 , false) End ;' > 'a b=c/&\x.kahn'
