@@ -105,6 +105,37 @@ A value that doesn't come within the bound.
   1..2
   [1]
 
+A protocol whose window is too large: it gets nowhere.
+  $ kahn_build examples/go-back-n.kahn --set sender.WINDOW=5 > go-back-n.kahn; cp examples/go-back-n.{input,values} .; kahn_test go-back-n.kahn
+  ok 1 - go-back-n.kahn
+  not ok 2 - go-back-n
+  # DELIVERED:18 doesn't come: 17 values, wanted 20
+  # SENT:1 doesn't come: 0 values, wanted 1
+  # status 3, wanted 0
+  # stopped by the bound: 1 process wants more events
+  # 1 sender wants more, after 348266 events
+  # DELIVERED:18 doesn't come within the bound
+  1..2
+  [1]
+
+A network without a stream that never stops.
+  $ echo 'begin process turn(); begin integer I; repeat I := (I + 1) mod 7 end; turn() end' > turn.kahn; kahn_test --lax --update turn.kahn; cat turn.values; kahn_test --lax turn.kahn; echo status 0 > turn.values; kahn_test --lax turn.kahn
+  ok 1 - turn.kahn
+  # wrote turn.values
+  ok 2 - turn
+  1..2
+  status 3
+  ok 1 - turn.kahn
+  ok 2 - turn
+  1..2
+  ok 1 - turn.kahn
+  not ok 2 - turn
+  # status 3, wanted 0
+  # stopped by the bound: 1 process wants more events
+  # 1 turn wants more, after 1000000 events
+  1..2
+  [1]
+
 A deadlock.
   $ cp examples/control.* .; sed -i /status/d control.values; kahn_test control.kahn
   ok 1 - control.kahn
