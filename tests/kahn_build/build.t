@@ -120,6 +120,10 @@ A program text from a pipe.
   $ kahn_build <(cat use.kahn) $library/{debounce,median,go-back-n}.kahn -- kahn --input use.input | head -n 1
   DELIVERED: 0 0 1 1 1 1 1 9 9 9 9 9 9 9
 
+A link to it, and programs that aren't on the path.
+  $ mkdir alone; cp "$TOP/kahn_build" alone; ln -s "$(command -v kahn)" alone; ln -s alone/kahn_build linked; PATH=/usr/bin:/bin ./linked "${files[@]}" -- kahn --input use.input | head -n 1
+  DELIVERED: 0 0 1 1 1 1 1 9 9 9 9 9 9 9
+
 Lines go out as they come, and a reader may go away.
   $ { echo 1; sleep 3; } | kahn_build examples/double.kahn -- kahn_live --plain A | { read -r line; echo $line $((SECONDS < 3)); }; kahn_build examples/noise.kahn --set 1.SEED=2 -- kahn_live --out NOISE | head -n 3
   2 1
