@@ -51,13 +51,15 @@ The picture alone: larger, with the steps below it, and the page again.
   $ size 1400 900
   $ key Escape
   $ until(() => isShown("#texts"))
-  $ [page.isAlone, Math.abs(picture.scale - before) < 0.3, at("present").textContent]
-  [false, true, "Present"]
+  $ [page.isAlone, Math.abs(picture.scale - before) < 0.3, isShown("#endAlone")]
+  [false, true, false]
   $ open #program=begin+integer+output+channel+O%3B+process+a%28integer+out+W%29%3B+begin+send+1+on+W+end%3B+a%28O%29+end&input=&bound=9&view=picture
   $ until(() => settled() && isShown("#picture .box"))
   $ [isShown("#texts"), isShown("#transport"), pictureFits()]
   [false, true, true]
-  $ showAlone(false)
+  $ click #endAlone
+  $ (until(() => isShown("#texts")), page.isAlone)
+  false
 
 Twenty other orders: a tick for each. (Some runs of few events have the same order.)
   $ shows("squares")

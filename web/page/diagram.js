@@ -267,7 +267,7 @@ export class Diagram {
   // Scrolls to the lifeline of a process.
   reveal(i) {
     const { scrollTop, clientHeight } = this.place, y = this.yOf(Math.max(0, i)), room = clientHeight - TICKS;
-    if (i >= 0 && (y - this.row < scrollTop || y + this.row > scrollTop + room)) this.place.scrollTop = y - room / 2;
+    if (i >= 0 && (y - this.row < scrollTop || y + this.row > scrollTop + room)) this.place.scrollTop = Math.round((y - room / 2) / this.row) * this.row;
   }
 
   click({ clientX, target }) {

@@ -33,7 +33,6 @@ export function showAlone(isAlone) {
   page.isAlone = isAlone;
   document.body.classList.toggle("alone", isAlone);
   if (isAlone) show("network");
-  at("present").textContent = isAlone ? "End" : "Present";
   changed("alone");
 }
 
