@@ -1,10 +1,15 @@
 The pictures of the page: python3 tests/web.py chromium release/kahn.html --pictures
 
 Steps.
-  $ size 1300 840
-  $ shows("hamming").then(() => until(() => !!page.run.timeline.order)).then(() => go(200))
-  $ (choose({ process: 5 }), document.activeElement.blur())
+  $ size 1300 900
+  $ (async () => { await shows("hamming"); while (!(await page.run.learnOrder(() => true))); page.isOrdered = true; showScore(); await go(200); })()
+  $ (showSigns(false), changed("room"), choose({ process: 2 }), document.activeElement.blur())
   $ shot page-steps.png
+
+The diagram.
+  $ size 1300 900
+  $ (showSigns(true), chooseNothing(), showTab("diagram"), go(212)).then(() => until(isLearnt))
+  $ shot page-diagram.png
 
 Plots by night.
   $ size 1200 760 dark
@@ -20,3 +25,10 @@ A deadlock, and a phone.
   $ shot page-deadlock.png
   $ size 390 800 dark
   $ shot page-phone.png
+
+The picture alone.
+  $ size 1024 640
+  $ (showAlone(true), shows("alternating-bit")).then(() => go(20)).then(() => until(() => !!page.run.timeline.order))
+  $ (at("toast").replaceChildren(), document.activeElement.blur())
+  $ shot page-alone.png
+  $ showAlone(false)
