@@ -1,4 +1,6 @@
+mod Boundaries
 mod Counted
 mod Ends
+mod Pieces
 mod Written
 pub mod Common

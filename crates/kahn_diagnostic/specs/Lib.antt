@@ -1,3 +1,4 @@
+pub mod Fixes
 pub mod Marks
 pub mod Near
 pub mod Notes

@@ -1,8 +1,9 @@
-//! A note as data, how it is written, and a text with a change, as an editor makes it.
+//! A note as data, and how it is written as lines.
 
-ghost use Rattle.std.specs.Prelude.{◌≡◌, ◌++◌, IfOk, string_bytes, IfSome};
-ghost use Rattle.kahn_diagnostic.specs.{Marks.carets_of, Marks.heading, Marks.marked_as, Marks.rows_text, Notes.IsFixShown, Notes.IsRendered, Notes.line_below, Notes.sort_words, Notes.IsGap, Notes.IsApplied, Notes.IsPadded};
+ghost use Rattle.std.specs.Prelude.{◌≡◌, ◌++◌, IfOk, string_bytes};
+ghost use Rattle.kahn_diagnostic.specs.{Marks.carets_of, Marks.heading, Marks.marked_as, Marks.rows_text, Notes.IsRendered, Notes.fix_text, Notes.head_text, Notes.line_below, Notes.sort_words};
 
+use crate::fixes::add_fix_words;
 use crate::lines::Lines;
 use crate::rows::{Row, add_row};
 use itoa::Buffer;
@@ -21,14 +22,14 @@ pub enum Sort {
     Note,
 }
 
-/// A change of a text: what stands in a part of it, which may be empty, is replaced by a text, which may be empty.
+/// A change of a text: a part of it, which may be empty, is replaced by a text, which may be empty.
 #[derive(Drop)]
 pub struct Fix {
     /// The part that is replaced.
     pub span: Span,
-    /// What is put there, without blanks round it.
+    /// What replaces it, without the blanks around it.
     pub put: String,
-    /// The lexeme beside it, behind which something is put in, or before which.
+    /// The lexeme next to it, after which something is inserted, or before which.
     pub beside: Span,
 }
 
@@ -158,28 +159,6 @@ fn add_marked(
     add_rows(note, alloc, source, number, text.near(from), part)
 }
 
-/// What stands in a part of a text; nothing where no characters begin and end there.
-pub fn part_of(text: &str, span: Span) -> &str {
-    text.get(span.from..span.to).unwrap_or("")
-}
-
-fn add_change(words: &mut String, text: &str, fix: &Fix) -> Result<(), AllocError> {
-    let (old, put) = (part_of(text, fix.span), fix.put.as_str());
-    if put.is_empty() {
-        return add(words, &["remove `", old, "`"]);
-    }
-    if fix.span.from != fix.span.to {
-        return add(words, &["replace `", old, "` with `", put, "`"]);
-    }
-    let side = if fix.beside.to <= fix.span.from {
-        "` after `"
-    } else {
-        "` before `"
-    };
-    let beside = part_of(text, fix.beside);
-    add(words, &["insert `", put, side, beside, "`"])
-}
-
 /// Adds a line below the carets under a part.
 fn add_remark(
     lines: &mut String,
@@ -199,28 +178,42 @@ fn add_remark(
     lines.push_str("\n")
 }
 
-/// Adds the line of the change, where there is one: with its place, if that isn't where the note is.
+/// Adds the line of the change, if there is one.
 fn add_fix(
     lines: &mut String,
     alloc: Global,
     text: &Lines<'_>,
     note: &Note,
 ) -> Result<(), AllocError>
-    ensures { IfOk result (λ _. IsFixShown text.now note.now.span note.now.fix (string_bytes lines.old) (string_bytes lines.new)) }
+    ensures { IfOk result (λ _. string_bytes lines.new ≡ string_bytes lines.old ++ fix_text text.now note.now.span note.now.fix) }
 {
     let Some(fix) = &note.fix else {
         return Ok(());
     };
-    let mut words = String::from_str(alloc, "fix: ")?;
-    add_change(&mut words, text.text(), fix)?;
-    if fix.span.from != note.span.from {
-        text.add_spot(&mut words, " at ", fix.span.from)?;
-    }
+    let mut words = String::new(alloc);
+    add_fix_words(&mut words, text, note.span, fix)?;
     add_remark(lines, text, note.span, words.as_str())
 }
 
-/// A note on the text of a file whose lines were counted, as lines: `PATH:LINE:COLUMN: error: WORDS`, the source line with carets, the change that mends it and
-/// sentences, and then the other places. What would drive a terminal is shown as U+FFFD. It refuses only where memory was refused.
+/// Adds the place of a note with its words, and the change.
+fn add_head(
+    lines: &mut String,
+    alloc: Global,
+    path: &str,
+    text: &Lines<'_>,
+    note: &Note,
+) -> Result<(), AllocError>
+    ensures { IfOk result (λ _. string_bytes lines.new ≡ string_bytes lines.old ++ head_text path.now text.now note.now) }
+{
+    let sort = sort_words(note.sort);
+    let words = note.words.as_str();
+    add_marked(lines, alloc, sort, path, text, note.span, words)?;
+    add_fix(lines, alloc, text, note)
+}
+
+/// Returns a note on a text whose lines were counted, as lines: `PATH:LINE:COLUMN: SORT: WORDS`, the source line with carets, the
+/// change, the sentences below, and then the other places. What would drive a terminal is shown as U+FFFD. Fails only if memory is
+/// refused.
 pub fn render_in(
     alloc: Global,
     path: &str,
@@ -229,10 +222,8 @@ pub fn render_in(
 ) -> Result<String, AllocError>
     ensures { IfOk result (λ lines. IsRendered path.now text.now note.now (string_bytes lines)) }
 {
-    let (sort, words) = (sort_words(note.sort), note.words.as_str());
     let mut lines = String::new(alloc);
-    add_marked(&mut lines, alloc, sort, path, text, note.span, words)?;
-    add_fix(&mut lines, alloc, text, note)?;
+    add_head(&mut lines, alloc, path, text, note)?;
     for sentence in &note.below {
         add_remark(&mut lines, text, note.span, sentence.as_str())?;
     }
@@ -243,62 +234,10 @@ pub fn render_in(
     Ok(lines)
 }
 
-/// The same of a text whose lines weren't counted. It refuses only where memory was refused.
+/// Returns the same of a text whose lines weren't counted. Fails only if memory is refused.
 pub fn render(alloc: Global, path: &str, text: &str, note: &Note) -> Result<String, AllocError>
     ensures { IfOk result (λ lines. IsRendered path.now text.now note.now (string_bytes lines)) }
 {
     let text = Lines::new(alloc, text)?;
     render_in(alloc, path, &text, note)
-}
-
-/// Whether a byte is a letter, a digit or `_`.
-fn is_of_word(byte: Option<u8>) -> bool {
-    matches!(byte, Some(b'a'..=b'z' | b'A'..=b'Z' | b'0'..=b'9' | b'_'))
-}
-
-/// Whether a blank stands before what is put there: between two words, and before what is put in, if it is no bracket and ends nothing.
-fn is_apart(before: Option<u8>, put: &str, is_insertion: bool) -> bool {
-    let is_free = !matches!(put, ";" | "," | ")" | "(") && !matches!(before, None | Some(b' '));
-    is_insertion && is_free || is_of_word(before) && is_of_word(put.as_bytes().first().copied())
-}
-
-/// A blank, or none.
-fn gap(is_there: bool) -> &'static str
-    ensures { IsGap result.now }
-{
-    if is_there { " " } else { "" }
-}
-
-/// What is put into a text, with blanks where two words would grow together.
-pub fn padded(alloc: Global, text: &str, fix: &Fix) -> Result<String, AllocError>
-    ensures { IfOk result (λ put. IsPadded (string_bytes fix.now.put) (string_bytes put)) }
-{
-    let (bytes, put) = (text.as_bytes(), fix.put.as_str());
-    let before = bytes.get(fix.span.from.wrapping_sub(1)).copied();
-    let behind = bytes.get(fix.span.to).copied();
-    let last = put.as_bytes().last().copied().or(before);
-    let front = gap(is_apart(before, put, fix.span.from == fix.span.to));
-    let back = gap(is_of_word(last) && is_of_word(behind));
-    let mut all = String::new(alloc);
-    all.push_str(front)?;
-    all.push_str(put)?;
-    all.push_str(back)?;
-    Ok(all)
-}
-
-/// A text with a change of it; nothing where no characters begin and end there.
-pub fn applied(alloc: Global, text: &str, fix: &Fix) -> Result<Option<String>, AllocError>
-    ensures { IfOk result (λ new. IfSome new (λ new. IsApplied text.now fix.now (string_bytes new))) }
-{
-    let Some((before, _)) = text.split_at_checked(fix.span.from) else {
-        return Ok(None);
-    };
-    let Some((_, behind)) = text.split_at_checked(fix.span.to) else {
-        return Ok(None);
-    };
-    let put = padded(alloc, text, fix)?;
-    let mut new = String::from_str(alloc, before)?;
-    new.push_str(put.as_str())?;
-    new.push_str(behind)?;
-    Ok(Some(new))
 }

@@ -3,11 +3,7 @@ use Rattle.std.proofs.lemmas.Grind.{common_steps}
 use Rattle.kahn_diagnostic.proofs.rendering.render_in.Goals as goal
 
 pub loop-sentence-preserved : goal.loop-sentence-preserved
-loop-sentence-preserved c =
-    let (headed, shown, is) = c.loop-sentence.invariant in
-    (headed, shown, grind (arith, common_steps, is, c.in_ok-add_remark.ensures))
+loop-sentence-preserved c = grind (arith, common_steps, c.loop-sentence.invariant, c.in_ok-add_remark.ensures)
 
 pub loop-other-preserved : goal.loop-other-preserved
-loop-other-preserved c =
-    let (headed, shown, is) = c.loop-other.invariant in
-    (headed, shown, grind (arith, common_steps, is, c.in_ok-add_marked-2.ensures))
+loop-other-preserved c = grind (arith, common_steps, c.loop-other.invariant, c.in_ok-add_marked.ensures)
