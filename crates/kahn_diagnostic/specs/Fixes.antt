@@ -20,12 +20,12 @@ part_text text s = if is_part text s then slice_range text s.from s.to else []
 
 -- ---- what an editor puts there
 
-abbrev pub is_word_byte : ℕ → Bool
-is_word_byte b = is_ascii_alphanumeric b || b == 95
+abbrev pub is_word_letter : ℕ → Bool
+is_word_letter b = is_ascii_alphanumeric b || b == 95
 
 abbrev pub is_of_word : Option ℕ → Bool
 is_of_word None = false
-is_of_word (Some b) = is_word_byte b
+is_of_word (Some b) = is_word_letter b
 
 abbrev pub is_dark : Option ℕ → Bool
 is_dark None = false

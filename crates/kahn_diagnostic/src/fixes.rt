@@ -1,8 +1,9 @@
 //! Changes of a text: what an editor puts there, how a change is reported, and the text with it.
 
 ghost use Rattle.std.specs.Prelude.{◌≡◌, ◌++◌, IfOk, IfSome, string_bytes};
-ghost use Rattle.kahn_diagnostic.specs.{Fixes.blank_if, Fixes.byte_before, Fixes.change_words, Fixes.fix_words, Fixes.is_apart, Fixes.is_boundary, Fixes.is_dark, Fixes.is_followed, Fixes.is_mark, Fixes.is_of_word, Fixes.is_part};
-ghost use Rattle.kahn_diagnostic.specs.{Fixes.is_word_byte, Fixes.part_text, Fixes.place_words, Fixes.put_text, Fixes.side_words, Notes.IsApplied};
+ghost use Rattle.kahn_diagnostic.specs.{Fixes.blank_if, Fixes.byte_before, Fixes.change_words, Fixes.fix_words, Fixes.is_apart, Fixes.is_boundary};
+ghost use Rattle.kahn_diagnostic.specs.Fixes.{is_dark, is_followed, is_mark, is_of_word, is_part};
+ghost use Rattle.kahn_diagnostic.specs.{Fixes.is_word_letter, Fixes.part_text, Fixes.place_words, Fixes.put_text, Fixes.side_words, Notes.IsApplied};
 
 use crate::lines::Lines;
 use crate::rendering::Fix;
@@ -35,8 +36,8 @@ pub fn part_of(text: &str, span: Span) -> &str
     ""
 }
 
-fn is_word_byte(byte: u8) -> bool
-    ensures { result ≡ is_word_byte byte }
+fn is_word_letter(byte: u8) -> bool
+    ensures { result ≡ is_word_letter byte }
 {
     byte.is_ascii_alphanumeric() || byte == b'_'
 }
@@ -46,7 +47,7 @@ fn is_of_word(byte: Option<u8>) -> bool
     ensures { result ≡ is_of_word byte }
 {
     match byte {
-        Some(byte) => is_word_byte(byte),
+        Some(byte) => is_word_letter(byte),
         None => false,
     }
 }
