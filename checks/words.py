@@ -55,7 +55,8 @@ def comments(text):
 
 
 def literals(text):
-    """The string literals of a source that have a blank; of a row of a table its longest cell."""
+    """The string literals of a source that have a blank, without the keys at the front of rows of tables; of a row with bars its longest cell."""
+    text = re.sub(r'^ *"(?:\\.|[^"\\])*" (?==>|\[)', "", text, flags=re.M)
     text = re.sub(r"^ *(?://|ghost |requires |ensures |#\[).*$", "", text, flags=re.M)
     text = re.sub(r"b?'(?:\\.|[^\\'])'", "", text)
     rows = (row for one in re.findall(r'"((?:\\.|[^"\\])*)"', text, flags=re.S) for row in one.replace("\\\n", "").split("\n"))

@@ -2,57 +2,67 @@
 
 use kahn_streams::Kind;
 
-// A row of a table has keys, and behind a `~` what is said of a word that is like one of them. In a key a `9` stands for digits, and a `*` at
-// either end for whatever comes before or behind.
+/// Words for what is like a key: `9` in a key matches digits, and `*` at either end matches anything. Keys have blanks between.
+#[derive(Clone, Copy)]
+pub(crate) struct WordRow {
+    keys: &'static str,
+    says: &'static str,
+}
+
+macro_rules! words {
+    ($($keys:literal => $says:literal;)+) => {
+        [$(WordRow { keys: $keys, says: $says }),+]
+    };
+}
 
 /// Characters that look like blanks and other signs and are none, and the mark of byte order.
-const CHARACTERS: [&str; 4] = [
-    "*\u{FEFF}*~; in it stands a byte order mark (EF BB BF)",
-    "*\u{00A0}*~; in it stands a no-break space (U+00A0)",
-    "*\r*~; in it stands a carriage return (U+000D)",
-    "*\u{2212}* *\u{2010}* *\u{2011}* *\u{2013}* *\u{2014}*~; in it stands a minus sign or a dash, which is no `-`",
-];
+static CHARACTERS: [WordRow; 4] = words! {
+    "*\u{FEFF}*" => "; in it stands a byte order mark (EF BB BF)";
+    "*\u{00A0}*" => "; in it stands a no-break space (U+00A0)";
+    "*\r*" => "; in it stands a carriage return (U+000D)";
+    "*\u{2212}* *\u{2010}* *\u{2011}* *\u{2013}* *\u{2014}*" => "; in it stands a minus sign or a dash, which is no `-`";
+};
 
 /// Words of letters that are no values.
-const WORDS: [&str; 5] = [
-    "to until through~; there are no ranges: each value stands there itself",
-    "nan nil null none na missing~; a missing value is left out",
-    "eof end stop quit done~; an input ends with its last line: no word says so",
-    "is~; each name stands at the front of its line, with one `:` behind",
-    "and~; blanks stand between values, and no commas, brackets or quotation marks",
-];
+static WORDS: [WordRow; 5] = words! {
+    "to until through" => "; there are no ranges: each value stands there itself";
+    "nan nil null none na missing" => "; a missing value is left out";
+    "eof end stop quit done" => "; an input ends with its last line: no word says so";
+    "is" => "; each name stands at the front of its line, with one `:` behind";
+    "and" => "; blanks stand between values, and no commas, brackets or quotation marks";
+};
 
 /// Other words that are no values.
-const VALUES: [&str; 14] = [
-    "#* /* -- %*~; an input has no comments",
-    "9,9 -9,9~; blanks stand between values, and a number has no `,`: 1200 for 1,200, and 185 tenths for 18,5",
-    "9:9*~; a time is a number, as 1230 for 12:30",
-    "9.9 -9.9 .9 -.9 9. 9/9~; numbers are whole: count tenths or hundredths, as 185 for 18.5",
-    "9-9-9* 9/9/9*~; a date is a number, as 20240105 for 2024-01-05",
-    "*..* 9-9~; there are no ranges: each value stands there itself",
-    "9 -9~; it is past 64 bits",
-    "0x* 0b* 0o*~; numbers are decimal",
-    "+*~; a number has no `+`",
-    "- --* 9-~; a `-` stands right before its digits; a missing value is left out",
-    "? _ n/a~; a missing value is left out",
-    "=* :* *: ->*~; each name stands at the front of its line, with one `:` behind",
-    "*,* *;* *[* *]* *(* *)* *{* *}* *<* *|* *\"* *'* *`*~; blanks stand between values, and no commas, brackets or quotation marks",
-    "*\\*~; all values of a channel stand on one line",
-];
+static VALUES: [WordRow; 14] = words! {
+    "#* /* -- %*" => "; an input has no comments";
+    "9,9 -9,9" => "; blanks stand between values, and a number has no `,`: 1200 for 1,200, and 185 tenths for 18,5";
+    "9:9*" => "; a time is a number, as 1230 for 12:30";
+    "9.9 -9.9 .9 -.9 9. 9/9" => "; numbers are whole: count tenths or hundredths, as 185 for 18.5";
+    "9-9-9* 9/9/9*" => "; a date is a number, as 20240105 for 2024-01-05";
+    "*..* 9-9" => "; there are no ranges: each value stands there itself";
+    "9 -9" => "; it is past 64 bits";
+    "0x* 0b* 0o*" => "; numbers are decimal";
+    "+*" => "; a number has no `+`";
+    "- --* 9-" => "; a `-` stands right before its digits; a missing value is left out";
+    "? _ n/a" => "; a missing value is left out";
+    "=* :* *: ->*" => "; each name stands at the front of its line, with one `:` behind";
+    "*,* *;* *[* *]* *(* *)* *{* *}* *<* *|* *\"* *'* *`*" => "; blanks stand between values, and no commas, brackets or quotation marks";
+    "*\\*" => "; all values of a channel stand on one line";
+};
 
 /// What a line begins with in the place of the name of a channel.
-const HEADS: [&str; 3] = [
-    "9* -9* true false~; all values of a channel stand on one line, behind its name",
-    "integer logical int bool boolean channel input inputs in out~; no kind stands before the name",
-    "begin send print let var set put export const echo~; an input has no statements: values stand behind the name of their channel",
-];
+static HEADS: [WordRow; 3] = words! {
+    "9* -9* true false" => "; all values of a channel stand on one line, behind its name";
+    "integer logical int bool boolean channel input inputs in out" => "; no kind stands before the name";
+    "begin send print let var set put export const echo" => "; an input has no statements: values stand behind the name of their channel";
+};
 
 /// What stands in the place of a name or a colon.
-pub(crate) const PARTS: [&str; 3] = [
-    "#* /* -- %* ;* !*~; an input has no comments",
-    ",* :*~; each channel has a line, with all of its values behind the `:`",
-    "*:~; a name has no blanks, and no signs but `_`",
-];
+pub(crate) static PARTS: [WordRow; 3] = words! {
+    "#* /* -- %* ;* !*" => "; an input has no comments";
+    ",* :*" => "; each channel has a line, with all of its values behind the `:`";
+    "*:" => "; a name has no blanks, and no signs but `_`";
+};
 
 /// How many bytes of a word are looked at.
 const MOST_SHOWN: usize = 64;
@@ -84,13 +94,12 @@ fn is_like(key: &str, word: &[u8]) -> bool {
     }
 }
 
-/// What a table says of a word.
-pub(crate) fn words_of(table: &[&'static str], word: &[u8]) -> &'static str {
+/// Returns the words of the first row with a key like `word`, or nothing.
+pub(crate) fn words_of(rows: &[WordRow], word: &[u8]) -> &'static str {
     let part = word.get(..MOST_SHOWN).unwrap_or(word);
-    for row in table {
-        let (keys, words) = row.split_once('~').unwrap_or(("", ""));
-        if keys.split(' ').any(|key| is_like(key, part)) {
-            return words;
+    for row in rows {
+        if row.keys.split(' ').any(|key| is_like(key, part)) {
+            return row.says;
         }
     }
     ""
