@@ -1,8 +1,10 @@
--- Believed. The kinds of steps on the words of a board: who may make them, and what becomes of the words.
-use Rattle.std.specs.Prelude.{◌≡◌, ◌≢◌, ◌⊎◌, ℕ, ◌*◌, ◌<◌, List, length, slice_index, slice_set}
+-- Believed. The kinds of steps on the words of a board: who may make them, and what becomes of the words. And what no step at all does to a
+-- quiet run.
+use Rattle.std.specs.Prelude.{◌≡◌, ◌≢◌, ◌⊎◌, ℕ, ◌+◌, ◌*◌, ◌<◌, ◌≤◌, List, Option, length, slice_index, slice_set}
 use mathlib.Core.Option.{some}
 use lib.ListN.{get_elem?}
-use Rattle.kahn_board.specs.{Plays.IsIn, Rule.St, Rule.budget_at, Rule.channel_at, Rule.count_at, Rule.halted_at, Rule.wired, Wires.Wires, declared.board.Terms.Terms, declared.view.SeatView.SeatView}
+use Rattle.atomic_table.specs.Table.{Act, stepped}
+use Rattle.kahn_board.specs.{Plays.IsIn, Rule.St, Rule.budget_at, Rule.channel_at, Rule.count_at, Rule.halted_at, Rule.holds, Rule.total, Rule.up_count, Rule.wired, Wires.Summary, Wires.Wires, declared.board.Terms.Terms, declared.view.SeatView.SeatView}
 
 pub data StepKind : Type 0 where
   -- `looks_ready`, `look`, `report_done`, and all that finds another number than it wants
@@ -46,3 +48,14 @@ abbrev pub StepsQuietly : {T : Type 0} → Terms T → St T → Type 0
 StepsQuietly key s =
     (j : ℕ) (v : SeatView) (k : StepKind) → get_elem? s.views j ≡ some v → MayMake (wired key) v s.words k →
     StaysQuiet (wired key) s.words (words_after (wired key) s.words k)
+
+-- how many instances a seat has in its hands
+abbrev pub in_hands : SeatView → ℕ
+in_hands v = total (λ k. k) v.hands
+
+-- Whichever seat makes a step, on whichever word, and whatever it takes, gives and knows then: if the rule holds after it, and the seat owes
+-- at most one count down more for each instance that was in its hands, the count is 0.
+abbrev pub CountStaysZero : {T : Type 0} → (T → Option Summary) → (T → T → Type 0) → Terms T → St T → Type 0
+CountStaysZero {T} told after key s =
+    (j : ℕ) (v u : SeatView) (i n : ℕ) (slots : List (ℕ × Option T)) (a : Act (Option T)) → get_elem? s.views j ≡ some v →
+    u.down ≤ v.down + in_hands v → holds told after key (stepped s i n j slots u a) → up_count (wired key) (stepped s i n j slots u a).words ≡ 0

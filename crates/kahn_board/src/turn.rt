@@ -2,7 +2,7 @@
 //! instance until it is set down; and what a board keeps of its network.
 
 ghost use Rattle.std.specs.Prelude.{◌≡◌, ◌≢◌, ℕ, ◌+◌, ◌-◌, ◌*◌, ◌^◌, ◌<◌, slice_index, true, false, Option, Some, ◌≤◌, List, length, [], IfOk, map, All, IfErr};
-ghost use Rattle.kahn_board.specs.{Rule.wired, Wires.TellsEnd, Wires.TellsWait, Calls.IsAtBoard, Calls.Was, Calls.Looks, declared.seat.Look.Look, declared.seat.Look.TheVariants.Go, inner.Turn.DrawsAgain, inner.Turn.FitsDraw, inner.Turn.drawn_of, inner.Turn.BeginsTurn, inner.Turn.EndsTurn, inner.Turn.IsBetween, inner.Turn.IsBetweenTurns, inner.Turn.IsSeatOf, inner.Turn.HoldsInTurn, inner.Turn.Knows, inner.Turn.HasPublished, inner.Turn.SetsLate, inner.Turn.SetsReady, inner.Turn.SetsStill, inner.Turn.AreFirstWords, inner.Turn.IsWiringOf, Wires.wires, Rule.all_parts, inner.Turn.AddUp, inner.Turn.IsDoneAt, inner.Turn.IsLoneSeat, inner.Turn.SitsAt, inner.Turn.parts_of, inner.Turn.done_of, inner.Turn.raised_of, Final.StepsQuietly, Rule.St, Rule.holds, Rule.up_count, declared.board.Terms.Terms};
+ghost use Rattle.kahn_board.specs.{Rule.wired, Wires.TellsEnd, Wires.TellsWait, Calls.IsAtBoard, Calls.Was, Calls.Looks, declared.seat.Look.Look, declared.seat.Look.TheVariants.Go, inner.Turn.DrawsAgain, inner.Turn.FitsDraw, inner.Turn.drawn_of, inner.Turn.BeginsTurn, inner.Turn.EndsTurn, inner.Turn.IsBetween, inner.Turn.IsBetweenTurns, inner.Turn.IsSeatOf, inner.Turn.HoldsInTurn, inner.Turn.Knows, inner.Turn.HasPublished, inner.Turn.SetsLate, inner.Turn.SetsReady, inner.Turn.SetsStill, inner.Turn.AreFirstWords, inner.Turn.IsWiringOf, Wires.wires, Rule.all_parts, inner.Turn.AddUp, inner.Turn.IsDoneAt, inner.Turn.IsLoneSeat, inner.Turn.SitsAt, inner.Turn.parts_of, inner.Turn.done_of, inner.Turn.raised_of, Final.CountStaysZero, Final.StepsQuietly, Rule.St, Rule.holds, Rule.up_count, declared.board.Terms.Terms};
 ghost use Rattle.std.specs.{Vec.vec_capacity, VecDeque.deque_capacity};
 
 use crate::board::{Board, Reports};
@@ -341,7 +341,8 @@ pub fn join_all<T: Reports>(board: &Board<T>, mut seats: Vec<Seat<T>, Global>) -
 }
 
 /// A quiet run stays so: while the count is 0, no kind of step changes another word than those of the budget and of the halt, whichever seat
-/// makes it.
+/// makes it; and after any step that keeps the rule the count is 0.
 pub fn quiet_is_final<T: Reports>()
-    ensures { (key : Terms T) (s : St T) → holds T.told T.after key s → up_count (wired key) s.words ≡ 0 → StepsQuietly key s }
+    ensures steps { (key : Terms T) (s : St T) → holds T.told T.after key s → up_count (wired key) s.words ≡ 0 → StepsQuietly key s }
+    ensures stays { (key : Terms T) (s : St T) → holds T.told T.after key s → up_count (wired key) s.words ≡ 0 → CountStaysZero T.told T.after key s }
 {}
