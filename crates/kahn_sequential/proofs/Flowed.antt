@@ -1,6 +1,6 @@
 -- A flow: what its parts, more input and letting go make of it.
-use Rattle.kahn_sequential.proofs.Common.{vec_capacity, sum_by, arith, ◌≡◌, ◌⊎◌, inl, inr, true, ℕ, suc, ◌+◌, ◌-◌, ◌<◌, ◌≤◌, ◌^◌, List, [], ◌∷◌, ◌++◌, length, map, replicate, take, refl, sym, ap, ◌∙◌, subst, append-nil, Option, Some, slice_get, slice_index_or, length-map, map-append, take_all, take_at, Source, Given, Written, Nobody, Writes, channel_source, network_of, instance_at, actual_at, role_at, Token, Value, Line, Channel, Print, AreInputsExtended, source, Lists, inputs_of, none_of, prefix_refl, View, token_value, IsPoured, tokens, told_view, Gone, nothing_gone, poured_grown, GoesOn, IsLineOf, HeldRun, given_so_far, seen_at, seen_of, so_far, writing, stream_lines, Verdict, all_events, IsConcluded, AreEnded, AreNew, HasLetGo, IsRunOn, AreLent, IsFlowOf, flow_of, let_go_by, let_go_of, run_of_bench, no_view, AreAllGiven, AllStandBy, AreWhole, HasEmptied, HasTakenIn, HasWorked, IsLaid, IsVerdict, Table, sight_of, writes, HaveRisen, Plan, Program, seen_events, length-append, End, PartEnd, Woken, IsPartEnd, AreNoted, AreSpent, IsWoken, NumberRange, IsStale, HoldNumbers, IsNumberOf, IsSpent}
-use Rattle.kahn_sequential.proofs.{Benched.mapped, Giving.input_role, Going_on.Grows, Going_on.goes_on, Going_on.grows_not, Going_on.seen_grows, Once_written.input_watched, Once_written.written_once, Named.HasLine, Named.has_line, Righted.events_seen, Righted.settled_by}
+use Rattle.kahn_sequential.proofs.Common.{vec_capacity, sum_by, arith, ◌≡◌, ◌⊎◌, inl, inr, true, ℕ, suc, ◌+◌, ◌-◌, ◌<◌, ◌≤◌, ◌^◌, List, [], ◌∷◌, ◌++◌, length, map, replicate, take, refl, sym, ap, ◌∙◌, subst, append-nil, Option, Some, slice_get, slice_index_or, there, length-map, map-append, take_all, take_at, Source, Given, Written, Nobody, Writes, channel_source, network_of, instance_at, actual_at, role_at, Token, Value, Line, Channel, Print, AreInputsExtended, source, Lists, inputs_of, none_of, prefix_refl, View, token_value, IsPoured, tokens, told_view, Gone, nothing_gone, poured_grown, GoesOn, IsLineOf, HeldRun, given_so_far, seen_at, seen_of, so_far, writing, stream_lines, Verdict, all_events, IsConcluded, AreEnded, AreNew, HasLetGo, IsRunOn, AreLent, IsFlowOf, flow_of, let_go_by, let_go_of, run_of_bench, no_view, AreAllGiven, AllStandBy, AreWhole, HasEmptied, HasTakenIn, HasWorked, IsLaid, IsVerdict, Table, sight_of, writes, HaveRisen, Plan, Program, seen_events, length-append, End, PartEnd, Woken, IsPartEnd, AreNoted, AreSpent, IsWoken, NumberRange, IsStale, HoldNumbers, IsNumberOf, IsSpent}
+use Rattle.kahn_sequential.proofs.{Benched.mapped, Giving.input_role, Going_on.Grows, Going_on.goes_on, Going_on.grows_not, Going_on.seen_grows, Once_written.input_watched, Once_written.written_once, Named.HasLine, Named.has_line, Lacking.wants_more, Righted.events_seen, Righted.right_with, Righted.settled_by}
 
 -- ---- it goes on
 
@@ -246,7 +246,20 @@ module _ {t : Program} {plan : Plan} {b : Table} {budget room : ℕ} {last : Lis
       settled_by part_ended.1,
     ),
     let_go_same b d h.network h.input h.watch b.gone h.gone n,
-    λ e. let lacks = (c.2 (subst (λ v. IsVerdict c.0 r.ends.items v) e c.1.rule)).0 in let l = c.1.last.total in let s = events_seen d.cells in omega (arith, lacks, l, s, whole),
+    λ e.
+        let lacks = c.2 (subst (λ v. IsVerdict c.0 r.ends.items v) e c.1.rule) in
+        let some_left = lacks.0 in
+        let last = c.1.last in
+        let l = last.total in
+        let s = events_seen d.cells in
+        let x = there r.ends.items lacks.1.0 (omega (arith, lacks.1.1, last.size, last.known)) in (
+          omega (arith, some_left, l, s, whole),
+          (
+            r.ends.items,
+            right_with d.network d.input d.watch after d.cells (Some r.verdict) part_ended.1,
+            (lacks.1.0, x.0, x.1, wants_more (sight_of d) lacks.1.0 x.0 lacks.1.2 (last.ends lacks.1.0 x.0 x.1).0),
+          ),
+        ),
   )
 
 -- a line of its streams

@@ -22,7 +22,7 @@ next_told s p o (Waits c) cut (q, r, dry, all) = let e : Cut ≡ script.Dry q = 
 next_told s p o More cut h = refl
 
 -- one that is paused for want of memory has a next event, so its end says so
-wants_more : (s : RunState) (p : ℕ) (x : End) → PausedAt s p pause.NoMemory → HasEndIn s p x → x.outcome ≡ More
+pub wants_more : (s : RunState) (p : ℕ) (x : End) → PausedAt s p pause.NoMemory → HasEndIn s p x → x.outcome ≡ More
 wants_more s p x paused rests =
     next_told s p (exec_on s.network (events_at s p) p rests.stood.tapes).outcome x.outcome
     (ap (λ (T : Tapes). (exec_on s.network (events_at s p) p T).outcome) (one_tapes s.network s.input s.watch p (view_at s.cells p) rests.stood paused.stood)

@@ -1,9 +1,9 @@
 -- Believed. A run that is fed as it goes, and that lets go of what it kept: what contracts see of it, and what its calls make of it (this
 -- project's profile).
 use Rattle.std.specs.Prelude.{◌≡◌, ◌⊎◌, ℕ, ◌+◌, ◌<◌, ◌≤◌, ◌^◌, List, [], ◌++◌, length, map, replicate, sum_by, None, Some, slice_get, slice_index_or}
-use Rattle.kahn_sequential.specs.inner.Below.{Config, Entry, FeedFault, IsMeant, IsNotMeant, IsPoured, Line, Lists, Memory, Program, Token, TooMany, Value, Verdict, channel_of, most_values, network_of, stream_lines, token_value, total_after}
+use Rattle.kahn_sequential.specs.inner.Below.{Config, End, Entry, FeedFault, IsMeant, IsNotMeant, IsPoured, Line, Lists, Memory, More, Program, Token, TooMany, Value, Verdict, channel_of, most_values, network_of, stream_lines, token_value, total_after}
 use Rattle.kahn_streams.specs.declared.{feeds.FeedFault.TheVariants.NoMemory}
-use Rattle.kahn_sequential.specs.HeldRuns.{GoesOn, HasStarted, HeldRun, IsResumed, seen_events, so_far}
+use Rattle.kahn_sequential.specs.HeldRuns.{GoesOn, HasStarted, HeldRun, IsResumed, IsRightSoFar, seen_events, so_far}
 use Rattle.kahn_sequential.specs.declared.{flow.HeldFault.HeldFault, flow.HeldFault.TheVariants.BadMore}
 
 pub record Flowing : Type 0 where
@@ -25,9 +25,13 @@ pub record HasFlowed (t : Program) (lists : Lists) (config : Config) (f : Flowin
 
 -- ---- a part of the run
 
--- refused memory stops it only before the last event of the bound
+-- some instance has a next event, as the right ends of a run so far say
+abbrev pub HasNextEvent : HeldRun → Verdict → Type 0
+HasNextEvent h v = (ends : List End) × IsRightSoFar h v ends × ((p : ℕ) × (x : End) × (slice_get ends p ≡ Some x) × (x.outcome ≡ More))
+
+-- refused memory stops it only before the last event of the bound, and only if some instance has a next event
 abbrev pub IsStoppedShort : HeldRun → Verdict → Type 0
-IsStoppedShort h v = v ≡ Memory → sum_by seen_events h.cells < h.bound
+IsStoppedShort h v = v ≡ Memory → (sum_by seen_events h.cells < h.bound) × HasNextEvent h v
 
 -- so many events more are allowed, as of a held run; what was let go of stays
 abbrev pub IsRunOn : ℕ → Flowing → Flowing → Verdict → Type 0

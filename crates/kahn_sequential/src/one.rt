@@ -1,7 +1,7 @@
 //! A run on the caller's thread, and the plan of a run.
 
 ghost use Rattle.kahn_sequential.specs.{inner.Bench.all_events, inner.Recording.HasRecorded, inner.Recording.IsRecording, inner.Workbench.HasWorked, inner.Workbench.MayGoOn, inner.Workbench.sight_of, inner.Below.IsCutShort, inner.Below.IsRight, inner.Below.Settles, inner.Below.inputs_of, inner.Below.network_of, HeldRuns.IsRefusedRun, inner.FlowBench.IsPartEnd, inner.Workbench.AreStreamsReady, inner.Workbench.AreWhole, inner.Workbench.IsRightAlone, inner.Workbench.IsWide, inner.Below.IsAllowed, inner.Below.IsUndeclared, inner.Below.IsUnrun, inner.Below.IsWatched, inner.Below.UnknownWatch, HeldRuns.IsUnstarted, inner.Below.Reads, inner.Below.actual_at, inner.Below.instance_at};
-ghost use Rattle.std.specs.Prelude.{◌≡◌, ◌≤◌, ◌+◌, true, ◌<◌, ◌^◌, length, IfOk, IfErr, None, vec_capacity, MatchResult, ℕ, Some};
+ghost use Rattle.std.specs.Prelude.{◌≡◌, ◌≤◌, ◌+◌, false, true, ◌<◌, ◌^◌, length, IfOk, IfErr, None, vec_capacity, MatchResult, ℕ, Some};
 
 use crate::bench::Sequential;
 use crate::laws;
@@ -39,6 +39,7 @@ pub fn run_until_wide<G: Gate, L: Ledger>(
     requires recorded { IsRecording bench.old plan.quantum recording.old }
     ensures concluded { IfOk result (IsPartEnd bench.new (all_events (sight_of bench.old) + plan.bound)) }
     ensures wide { IfErr result (λ r. (may_leave ≡ true) × MayGoOn bench.old bench.new plan.bound r) }
+    ensures calm { IfErr result (λ r. r.memory ≡ false) }
     ensures room { IfOk result (λ r. length (sight_of bench.new).network.instances ≤ vec_capacity r.ends) }
     ensures worked { HasWorked bench.old bench.new }
     ensures recorded { HasRecorded bench.new recording.new }

@@ -7,7 +7,7 @@
 ghost use Rattle.kahn_sequential.specs.inner.Bench.{HasRunCell, IsVerdict, all_events, events_at};
 ghost use Rattle.kahn_sequential.specs.{inner.FlowBench.IsPartEnd, inner.Recording.HasRecorded, inner.Recording.IsRecording};
 ghost use Rattle.kahn_sequential.specs.inner.Workbench.{HasAdvanced, HasTakenTurn, HasVisited, HasWorked, IsInRound, IsMarked, MayRun, sight_of, turn_of, weight};
-ghost use Rattle.std.specs.Prelude.{◌≡◌, ◌<◌, ◌≤◌, ◌+◌, ◌-◌, ◌^◌, length, true, vec_capacity, IfErr, IfOk};
+ghost use Rattle.std.specs.Prelude.{◌≡◌, ◌<◌, ◌≤◌, ◌+◌, ◌-◌, ◌^◌, length, false, true, vec_capacity, IfErr, IfOk};
 
 use crate::bench::Sequential;
 use crate::counted::keep_sent;
@@ -443,6 +443,8 @@ impl<'g, L: Ledger, G: Gate> Driver<'g, L, G> {
         requires recorded { IsRecording bench.old first.quantum recording.old }
         ensures ended { IfOk result (IsPartEnd bench.new (all_events (sight_of bench.old) + first.left)) }
         ensures wide { IfErr result (λ r. (self.old.may_leave ≡ true) × HasAdvanced bench.old bench.new first r) }
+        // A run to which memory was refused stays.
+        ensures calm { IfErr result (λ r. r.memory ≡ false) }
         ensures room { IfOk result (λ r. length (sight_of bench.new).network.instances ≤ vec_capacity r.ends) }
         ensures worked { HasWorked bench.old bench.new }
         ensures recorded { HasRecorded bench.new recording.new }
@@ -464,7 +466,7 @@ impl<'g, L: Ledger, G: Gate> Driver<'g, L, G> {
             }
             rounds = rounds.saturating_add(1);
             round = self.between_rounds(bench, round, rounds <= NOTED_ROUNDS, recording);
-            if may_leave && bench.wide() > 0 {
+            if may_leave && !round.memory && bench.wide() > 0 {
                 return Err(round);
             }
         }
