@@ -99,4 +99,4 @@ As a file it stands alone: colours and letters are in it, and nothing leads out.
   $ (({ isRead, others, leadsOut, texts }) => [isRead, others, leadsOut, texts.filter((it) => it.includes("count"))])(pictureIn(svgFile([picture.svg], paper())))
   [true, [], false, ["1count"]]
   $ [eachText("#saving button"), (showTab("table"), eachText("#saving button"))]
-  [["SVG"], []]
+  [["SVG"], ["CSV"]]

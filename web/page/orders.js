@@ -20,7 +20,7 @@ export function agree(one, other, isFinished) {
 }
 
 // How far each process was at some places of a run, by which two orders differ.
-const orderOf = (reports) => JSON.stringify(reports.map(({ ends }) => ends.map((it) => it.events)));
+const progressOf = (reports) => JSON.stringify(reports.map(({ ends }) => ends.map((it) => it.events)));
 
 // Makes the runs one after the other. `told` is called with the turns of each, whether it agrees, and how many orders there are for certain.
 export async function compareOrders(run, told, isWanted) {
@@ -29,7 +29,7 @@ export async function compareOrders(run, told, isWanted) {
   const looks = async (quantum) => {
     const found = [];
     for (const part of LOOKED_AT) found.push(await at(quantum, Math.floor(part * bound)));
-    return orderOf(found);
+    return progressOf(found);
   };
   const first = await at(run.quantum, bound);
   orders.add(await looks(run.quantum));
