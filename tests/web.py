@@ -111,7 +111,7 @@ def compare_steps(page, tried, kahn, explain):
     for name in STEPPED:
         path = f"{TOP}/examples/{name}"
         text = common.text_of(f"{path}.input") if os.path.exists(f"{path}.input") else ""
-        steps = page.value(f"stepsOf(...{json.dumps([common.text_of(f'{path}.kahn'), text])})")
+        steps = page.value(f"momentsOf(...{json.dumps([common.text_of(f'{path}.kahn'), text])})")
         texts = [f"{path}.kahn", *(["--input", f"{path}.input"] if text else [])]
         for k, (processes, streams) in enumerate(steps):
             ran = subprocess.run([kahn, "--workers", "1", "--bound", str(k), *texts], capture_output=True, timeout=60, text=True)

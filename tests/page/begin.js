@@ -485,7 +485,7 @@ end
     return answers;
   },
   // What the page shows at each bound of a slider: how each process stands, and the values of each stream.
-  async stepsOf(program, input) {
+  async momentsOf(program, input) {
     const about = await ran(checker, { program, input, bound: "1000000" }, QUANTUM, () => {}), steps = [];
     for (let k = 0; k <= about.last; k += 1) {
       const { processes, streams } = await about.momentAt(k);
