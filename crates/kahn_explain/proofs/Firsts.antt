@@ -15,7 +15,7 @@ not_less a b more = by (cases_lt a b)
 module _ (N : Schema) (I : Inputs) (c : Line) (j k : ℕ) where
   not_here : (d : Line) (f : Found) → source N d ≡ Given → AreNeedsFound N I c k f → (EndsSearch d j f → ⊥) → NeedsNot N I c d j k
   not_here (Channel d) (found.Needs y) given h goes = λ v x g.
-      let e : x ≡ cut_told N y.values.items y.events.items = one_cut N I c k v y.value x _ g h in
+      let e : x ≡ cut_told N y.values.items y.events.items = one_cut N I c k v y.value x _ g h.0 in
       let values : x.values d ≡ slice_index_or y.values.items d 0 =
       ap (λ (z : Cut). z.values d) e ∙ ap (λ s. of_input s (slice_index_or y.values.items d 0)) given in
       let l = not_less j (slice_index_or y.values.items d 0) goes in
@@ -48,8 +48,8 @@ module _ (N : Schema) (I : Inputs) (c : Line) (j k : ℕ) where
 
   pub first_is : (d : Line) (f : Found) → AreNeedsFound N I c k f → EndsSearch d j f → ((i : ℕ) → i < k → NeedsNot N I c d j i) → IsFirstNeeding N I c d j k f
   first_is d (found.Needs y) h ends before = (h, ends, before)
-  first_is d found.Never h ends before = none_behind d h before
-  first_is d found.Ring h ends before = none_behind d h before
+  first_is d found.Never h ends before = none_behind d h.0 before
+  first_is d found.Ring h ends before = none_behind d h.0 before
   first_is d found.Bound h ends before = tt
 
 -- what holds for a network, an input and a line holds for the same ones

@@ -1,5 +1,5 @@
 -- Cells that stand where their queues stand.
-use Rattle.kahn_needs.proofs.Common.{arith, ◌≡◌, ℕ, ◌+◌, ◌<◌, ◌≤◌, List, [], ◌∷◌, ◌++◌, length, replicate, refl, sym, ap, ◌∙◌, subst, Option, Some, slice_get, slice_set, slice_index_or, length-set, slice_get_read, writes, is_output, Lists, inputs_of, Store, Schema, Writes, actual_at, instance_at, network_of, role_at, play_zero, ScriptOutcome, empty, Line, Token, Inputs, values_at, goes_to, Program, Channel, Print, script_at, kept_none, one_first, given_zero, set_each, taken_zero, AreKeptTokens, StoodBy, View, exec_on, sent_on, AreFirst, AreQueued, Lines, actual_here, next_at, place_at, queue_of, waiting_of, IsAt, IsPause, Paused, CellView, site_of, told_view, LeavesOthers, Site, count, Pause, AreUnmoved, HasActed, IsUnmoved, HaveSeats, HasItsSeat, IsStopped, Seats, seats_of}
+use Rattle.kahn_needs.proofs.Common.{arith, ◌≡◌, ℕ, zero, ◌+◌, ◌<◌, ◌≤◌, List, [], ◌∷◌, ◌++◌, length, replicate, refl, sym, ap, ◌∙◌, subst, Option, Some, slice_get, slice_set, slice_index_or, length-set, slice_get_read, writes, is_output, Lists, inputs_of, Store, Schema, Writes, actual_at, instance_at, network_of, role_at, play_zero, ScriptOutcome, empty, Line, Token, Inputs, values_at, goes_to, Program, Channel, Print, script_at, kept_none, one_first, given_zero, set_each, taken_zero, AreKeptTokens, StoodBy, View, exec_on, sent_on, AreFirst, Lines, actual_here, next_at, place_at, queue_of, waiting_of, IsAt, IsPause, Paused, CellView, site_of, told_view, LeavesOthers, Site, count, Pause, AreUnmoved, HasActed, IsTally, IsUnmoved, HaveSeats, HasItsSeat, IsStopped, Seats, Tallied, cell_events, events_seen, map, map-set, seats_of, suc}
 use Rattle.kahn_streams.proofs.{Entered.none_of, Dry.dry_reads}
 use Rattle.kahn_streams.specs.Wiring.{IsWellWired}
 use Rattle.kahn_code.specs.declared.progress.Pause.TheVariants as pause
@@ -55,21 +55,27 @@ fresh_one t lists watch n k x names none lists' = record {
     sent : (q : ℕ) → count x.sent q ≡ 0
     sent q = ap (λ l. count l q) lists'.1 ∙ none_of k q 0
 
+-- they have done no events
+unmoved_events : (cells : List CellView) → ((p : ℕ) (x : CellView) → slice_get cells p ≡ Some x → x.events ≡ 0) → map cell_events cells ≡ replicate (length cells) 0
+unmoved_events [] h = refl
+unmoved_events (x ∷ cells) h = λ i. h 0 x refl i ∷ unmoved_events cells (λ p y at. h (suc p) y at) i
+
 -- cells at their openings over queues from which nothing was taken
-pub laid_first : (t code : Program) (lists : Lists) (watch : Option ℕ) (cells : List CellView) (q : Lines) → IsWellWired t → code ≡ t →
-    AreUnmoved t lists watch cells (length (network_of t).instances) → (q.network ≡ t) × (q.input ≡ lists) → AreFirst t lists q.queues → AreQueued q →
-    HaveSeats (seats_of t lists watch code cells q)
-laid_first t code lists watch cells q wired same fresh names first queued = record {
+pub laid_first : (t code : Program) (lists : Lists) (watch : Option ℕ) (cells : List CellView) (ports : Tallied) (done : List ℕ) → IsWellWired t → code ≡ t →
+    AreUnmoved t lists watch cells (length (network_of t).instances) → (ports.lines.network ≡ t) × (ports.lines.input ≡ lists) → AreFirst t lists ports.lines.queues →
+    IsTally ports.lines ports.taken → done ≡ replicate (length (network_of t).instances) 0 → HaveSeats (seats_of t lists watch code cells ports done)
+laid_first t code lists watch cells ports done wired same fresh names first tally idle = record {
   wired = wired;
   code = same;
   count = fresh.count;
   each = each;
   network = names.0;
   input = names.1;
-  queued = queued;
+  tally = tally;
+  done = idle ∙ ap (λ n. replicate n 0) (sym fresh.count) ∙ sym (unmoved_events cells (λ p x at. (fresh.each p x at).events));
 }
   where
-    each : (p : ℕ) (x : CellView) → slice_get cells p ≡ Some x → HasItsSeat (seats_of t lists watch code cells q) p x
+    each : (p : ℕ) (x : CellView) → slice_get cells p ≡ Some x → HasItsSeat (seats_of t lists watch code cells ports done) p x
     each p x at =
         let o : IsUnmoved t lists watch p x = fresh.each p x at in
         record {
@@ -81,21 +87,27 @@ laid_first t code lists watch cells q wired same fresh names first queued = reco
           stood = o.stood;
         }
       where
-        own : IsUnmoved t lists watch p x → (r : ℕ) → actual_at (instance_at (network_of q.network) p) r ≡ actual_at (instance_at (network_of x.network) x.instance) r
+        own : IsUnmoved t lists watch p x → (r : ℕ) → actual_at (instance_at (network_of ports.lines.network) p) r ≡ actual_at (instance_at (network_of x.network) x.instance) r
         own o r =
             ap (λ k. actual_at (instance_at (network_of k) p) r) (names.0 ∙ sym o.network) ∙
             ap (λ k. actual_at (instance_at (network_of x.network) k) r) (sym o.instance)
 
-        stands : IsUnmoved t lists watch p x → IsAt x (place_at q p)
+        stands : IsUnmoved t lists watch p x → IsAt x (place_at ports.lines p)
         stands o = record {
-          reads = λ r d e. ap (next_at q.queues) (own o r ∙ e) ∙ taken_zero t lists q.queues first d _ refl ∙ sym (o.taken r);
+          reads = λ r d e. ap (next_at ports.lines.queues) (own o r ∙ e) ∙ taken_zero t lists ports.lines.queues first d _ refl ∙ sym (o.taken r);
           writes = λ r d e inner.
               let here : actual_at (instance_at (network_of t) p) r ≡ Writes d =
               ap (λ k. actual_at (instance_at (network_of k) p) r) (sym names.0) ∙ own o r ∙ e in
-              ap (next_at q.queues) (own o r ∙ e) ∙
-              given_zero t lists q.queues first d _ (ap (λ k. is_output (role_at (network_of k) d)) (sym o.network) ∙ inner) (writes t wired p r d here).1 refl ∙
+              ap (next_at ports.lines.queues) (own o r ∙ e) ∙
+              given_zero t lists ports.lines.queues first d _ (ap (λ k. is_output (role_at (network_of k) d)) (sym o.network) ∙ inner) (writes t wired p r d here).1 refl ∙
               sym (o.sent r);
         }
+
+-- the events that are counted are those of the cells
+pub events_at : (cells : List CellView) (p : ℕ) → count (map cell_events cells) p ≡ events_seen (slice_get cells p)
+events_at [] p = refl
+events_at (x ∷ cells) zero = refl
+events_at (x ∷ cells) (suc p) = events_at cells p
 
 -- ---- a cell runs
 
@@ -103,8 +115,17 @@ laid_first t code lists watch cells q wired same fresh names first queued = reco
 abbrev pub IsSame : CellView → CellView → Type 0
 IsSame old new = (new.network ≡ old.network) × (new.input ≡ old.input) × (new.instance ≡ old.instance) × (new.watch ≡ old.watch)
 
-abbrev pub ran : Seats → ℕ → CellView → Lines → Seats
-ran b p x q = record { network = b.network; input = b.input; watch = b.watch; code = b.code; cells = slice_set b.cells p x; queues = q }
+abbrev pub ran : Seats → ℕ → CellView → Tallied → ℕ → Seats
+ran b p x q n = record {
+  network = b.network;
+  input = b.input;
+  watch = b.watch;
+  code = b.code;
+  cells = slice_set b.cells p x;
+  queues = q.lines;
+  taken = q.taken;
+  done = slice_set b.done p n;
+}
 
 -- the queues as the ports of instance p
 abbrev pub ports_of : Lines → Site
@@ -132,22 +153,22 @@ module _ {b : Seats} (laid : HaveSeats b) (p : ℕ) {x : CellView} (at : slice_g
   pub at_is : (q : Lines) → q ≡ lent → IsAt x (λ r. next_at q.queues (actual_here q r))
   at_is q is = subst (λ (z : Lines). IsAt x (λ r. next_at z.queues (actual_here z r))) (sym is) seated.at
 
-  module _ (x' : CellView) (q q' : Lines) (is : q ≡ lent) (same : IsSame x x') (site : ports_of q' ≡ site_of x')
-      (stands : IsAt x' (λ r. next_at q'.queues (actual_here q' r))) (leaves : LeavesOthers (ports_of q) (place_at q) (place_at q')) (queued : AreQueued q')
+  module _ (x' : CellView) (n : ℕ) (counted : n ≡ x'.events) (q : Lines) (t : Tallied) (is : q ≡ lent) (same : IsSame x x') (site : ports_of t.lines ≡ site_of x')
+      (stands : IsAt x' (λ r. next_at t.lines.queues (actual_here t.lines r))) (leaves : LeavesOthers (ports_of q) (place_at q) (place_at t.lines)) (tally : IsTally t.lines t.taken)
       (quantum : ℕ) (z : Pause)
       (paused : code.Paused (network_of x'.network) (inputs_of x'.input) x'.watch x'.instance (told_view x')
       (IsPause (network_of x'.network) x'.instance
-      (λ r. waiting_of (queue_of q'.queues (actual_here q' r)) ≡ 0)
-      (λ r. 0 < waiting_of (queue_of q'.queues (actual_here q' r)))
+      (λ r. waiting_of (queue_of t.lines.queues (actual_here t.lines r)) ≡ 0)
+      (λ r. 0 < waiting_of (queue_of t.lines.queues (actual_here t.lines r)))
       (x'.events ≡ x.events + quantum) z)) where
     abbrev now : Seats
-    now = ran b p x' q'
+    now = ran b p x' t n
 
     abbrev dry : ℕ → Type 0
-    dry r = waiting_of (queue_of q'.queues (actual_here q' r)) ≡ 0
+    dry r = waiting_of (queue_of t.lines.queues (actual_here t.lines r)) ≡ 0
 
     abbrev ready : ℕ → Type 0
-    ready r = 0 < waiting_of (queue_of q'.queues (actual_here q' r))
+    ready r = 0 < waiting_of (queue_of t.lines.queues (actual_here t.lines r))
 
     network_is : x'.network ≡ b.network
     network_is = same.0 ∙ seated.network
@@ -173,12 +194,12 @@ module _ {b : Seats} (laid : HaveSeats b) (p : ℕ) {x : CellView} (at : slice_g
       input = input_is;
       instance = instance_is;
       watch = watch_is;
-      at = subst (λ i. IsAt x' (λ r. next_at q'.queues (actual_at (instance_at (network_of q'.network) i) r))) (ap (λ (s : Site). s.instance) site ∙ instance_is) stands;
+      at = subst (λ i. IsAt x' (λ r. next_at t.lines.queues (actual_at (instance_at (network_of t.lines.network) i) r))) (ap (λ (s : Site). s.instance) site ∙ instance_is) stands;
       stood = paused_here.stood;
     }
 
-    leaves_here : LeavesOthers (record { network = b.queues.network; input = b.queues.input; instance = p }) (place_at b.queues) (place_at q')
-    leaves_here = subst (λ (y : Lines). LeavesOthers (ports_of y) (place_at y) (place_at q')) is leaves
+    leaves_here : LeavesOthers (record { network = b.queues.network; input = b.queues.input; instance = p }) (place_at b.queues) (place_at t.lines)
+    leaves_here = subst (λ (y : Lines). LeavesOthers (ports_of y) (place_at y) (place_at t.lines)) is leaves
 
     others : (o : ℕ) (d : CellView) → (o ≡ p → ⊥) → slice_get b.cells o ≡ Some d → HasItsSeat now o d
     others o d n e =
@@ -203,10 +224,11 @@ module _ {b : Seats} (laid : HaveSeats b) (p : ℕ) {x : CellView} (at : slice_g
       each = set_each (HasItsSeat now) b.cells p x' others mine;
       network = ap (λ (s : Site). s.network) site ∙ network_is;
       input = ap (λ (s : Site). s.input) site ∙ input_is;
-      queued = queued;
+      tally = tally;
+      done = ap (λ l. slice_set l p n) laid.done ∙ ap (λ k. slice_set (map cell_events b.cells) p k) counted ∙ sym (map-set cell_events b.cells p x');
     }
 
-    own_actual : (r : ℕ) → actual_here q' r ≡ actual_at (instance_at (network_of b.network) p) r
+    own_actual : (r : ℕ) → actual_here t.lines r ≡ actual_at (instance_at (network_of b.network) p) r
     own_actual r =
         ap (λ (s : Site). actual_at (instance_at (network_of s.network) s.instance) r) site ∙
         ap (λ t. actual_at (instance_at (network_of t) x'.instance) r) network_is ∙
@@ -220,7 +242,7 @@ module _ {b : Seats} (laid : HaveSeats b) (p : ℕ) {x : CellView} (at : slice_g
     is_stopped pause.NoMemory h = tt
     is_stopped (pause.Dry r) h =
         let d = dry_reads b.network laid.wired x'.events p r paused_here.stood.tapes h.0 in
-        (d.0, d.1, h.0, subst (λ a. waiting_of (queue_of q'.queues a) ≡ 0) (own_actual r ∙ d.1) (h.1 d.0 d.1))
+        (d.0, d.1, h.0, subst (λ a. waiting_of (queue_of t.lines.queues a) ≡ 0) (own_actual r ∙ d.1) (h.1 d.0 d.1))
     is_stopped z h = h
 
     pub acted : (x.events ≤ x'.events) × (x'.events ≤ x.events + quantum) → quantum ≡ 1 → HasActed b now p z
@@ -230,6 +252,8 @@ module _ {b : Seats} (laid : HaveSeats b) (p : ℕ) {x : CellView} (at : slice_g
       was = at;
       new = x';
       cells = refl;
+      done = ap (slice_set b.done p) counted;
       events = let a = events.0 in let c = events.1 in (a, omega (arith, c, one));
+      spent = λ e. (subst (λ z. IsPause (network_of b.network) p dry ready (x'.events ≡ x.events + quantum) z o) e paused_here.is).0 ∙ ap (λ n. x.events + n) one;
       paused = record { stood = paused_here.stood; is = is_stopped z paused_here.is };
     }

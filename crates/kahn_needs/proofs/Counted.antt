@@ -1,15 +1,7 @@
--- Numbers that are told one after another, and the value that was sent at a place.
-use Rattle.kahn_needs.proofs.Common.{arith, ◌≡◌, ℕ, ◌+◌, ◌<◌, ◌||◌, Bool, true, false, List, [], ◌∷◌, ◌++◌, length, map, refl, sym, ap, ◌∙◌, subst, Some, slice_get, slice_index_or, length-map, same_Some, there, mapped, is_output, is_watched, IsWriter, Writes, Written, actual_at, channel_source, instance_at, network_of, role_at, Side, Token, Line, Channel, Print, Value, none_first, one_first, is_streamed, sent_on, CellView, tokens, AreCounted, HaveSeats, Stood, Seats, HasCome, HasValue, or_right}
+-- The value that was sent at a place.
+use Rattle.kahn_needs.proofs.Common.{arith, ◌≡◌, ℕ, ◌<◌, List, length, map, refl, sym, ap, ◌∙◌, subst, Some, slice_get, slice_index_or, length-map, same_Some, there, mapped, is_output, is_watched, IsWriter, Writes, Written, actual_at, channel_source, instance_at, network_of, role_at, Side, Token, Line, Channel, Print, Value, sent_on, CellView, tokens, HaveSeats, Stood, Seats, HasCome, HasValue, or_right}
 use Rattle.kahn_streams.specs.Tokens.{token_value}
 use Rattle.kahn_needs.proofs.{Benched.found, Common.eqb_refl, Searching.same_writer}
-
-pub counted_none : (f : ℕ → ℕ) (xs : List ℕ) → xs ≡ [] → AreCounted f xs 0
-counted_none f xs e = let r = none_first (λ d x. x ≡ f d) xs e in record { count = r.count; each = r.each }
-
-pub counted_more : (f : ℕ → ℕ) (xs all : List ℕ) (n x : ℕ) → AreCounted f xs n → x ≡ f n → all ≡ xs ++ x ∷ [] → AreCounted f all (n + 1)
-counted_more f xs all n x h e is =
-    let r = one_first (λ d y. y ≡ f d) xs all x n (record { count = h.count; each = h.each }) is e in
-    record { count = r.count; each = r.each }
 
 -- ---- the value at a place
 

@@ -1,9 +1,9 @@
 -- A search that goes on from one place to a later one.
-use Rattle.kahn_needs.proofs.Common.{arith, ◌≡◌, ℕ, ◌≤◌, sym, ap, ◌∙◌, subst, Lists, Program, Line, Seeking, AreSeatsOf, Seats, AreForced, IsDemand, IsSearchState, seeking_of, HaveNotMoved}
+use Rattle.kahn_needs.proofs.Common.{arith, ◌≡◌, ℕ, ◌≤◌, sym, ap, ◌∙◌, subst, Lists, Program, Line, Seeking, AreSeatsOf, Seats, AreForced, IsDemand, IsSearchState, seeking_of, HaveNotMoved, stays}
 
 -- the value that is sought is a demand
 pub root_there : (b : Seats) (c : Line) (k n : ℕ) → IsSearchState b c n → IsDemand b c k c k
-root_there b c k n s = record { listed = s.listed; wanted = λ y h. h; given = λ e. absurd (s.written e) }
+root_there b c k n s = record { listed = s.listed; wanted = λ y h. h; given = λ e. absurd (s.written e); led = stays }
 
 pub forced_later : (b : Seats) (c : Line) (n k : ℕ) → n ≤ k → AreForced b c n → AreForced b c k
 forced_later b c n k le forced y h = let l = h.1 in forced y (h.0, omega (arith, l, le))

@@ -1,18 +1,22 @@
 -- What all cells did for a value, and nothing more, is what it needs.
-use Rattle.kahn_needs.proofs.Common.{fun_ext, arith, ◌≡◌, ◌⊎◌, inl, inr, ℕ, zero, suc, ◌≤◌, ◌<◌, List, [], ◌∷◌, length, refl, sym, ap, ◌∙◌, subst, le_refl, Option, Some, None, false, slice_get, slice_index_or, length-take, cases_lt, get_or_past, get_or_from_slice_get, slice_get_within, there, grows_play, values_append, script_at, outputs, reads, reads_listed, is_output, Lists, inputs_of, IsServed, Schema, Reads, Writes, Given, Written, Nobody, Source, actual_at, instance_at, network_of, role_at, Tapes, play, Histories, Inputs, fed, goes_to, IsPrefix, out, source, tape_of, tapes_of, values_at, Stands, empty, Program, Inner, Input, Output, Line, Channel, Value, IsFed, sent_stands, stand_in, AllStand, exec_on, sent_on, given_of, next_at, taken_of, CellView, count, AreNeeds, Cut, Suffices, first_values, held_in, IsMadeIn, cut_told, of_input, AreCounted, HaveSeats, Seats, events_in, events_seen, taken_in, AreForced, HasCome, HasValue, HoldsIn, HoldsAt, play_zero, slice_get_past}
+use Rattle.kahn_needs.proofs.Common.{fun_ext, arith, ◌≡◌, ◌⊎◌, inl, inr, ℕ, zero, suc, ◌≤◌, ◌<◌, List, length, refl, sym, ap, ◌∙◌, subst, le_refl, Option, Some, None, false, slice_get, slice_index_or, length-take, cases_lt, get_or_past, slice_get_within, there, grows_play, values_append, script_at, outputs, reads, reads_listed, is_output, Lists, inputs_of, IsServed, Schema, Reads, Writes, Given, Written, Nobody, Source, actual_at, instance_at, network_of, role_at, Tapes, play, Histories, Inputs, fed, goes_to, IsPrefix, out, source, tape_of, tapes_of, values_at, Stands, empty, Program, Inner, Input, Output, Line, Channel, Value, IsFed, sent_stands, stand_in, AllStand, exec_on, sent_on, given_of, next_at, taken_of, CellView, count, NeedsCounts, AreOfDone, AreTapes, IsFoundBy, Seeking, Reaches, length-map, AreNeeds, Cut, Suffices, first_values, held_in, IsMadeIn, cut_told, of_input, HaveSeats, Seats, cell_events, events_seen, AreForced, HasCome, HasValue, HoldsIn, HoldsAt, play_zero}
 use Rattle.kahn_streams.proofs.Sided.{channel_served}
 use Rattle.kahn_streams.specs.declared.tree.Role.{Role}
+use Rattle.std.specs.Prelude.{Err, IfOk, Ok, Result}
+use Rattle.kahn_code.specs.declared.code.CodeFault.{CodeFault}
+use Rattle.kahn_needs.specs.declared.needs.Found.{Found}
+use Rattle.kahn_needs.specs.declared.needs.Found.TheVariants as found
 use Rattle.kahn_code.proofs.Readers.{joins_within}
 use Rattle.kahn_code.specs.Lines.{Waiting}
-use Rattle.kahn_needs.proofs.{Ways.AreTapes, Ways.both_stand, Ways.reads_or, Needing.fed_stands, Needing.held_given, Needing.take_below, Needing.take_length, Searching.given_there, Searching.taken_there, Told.have_needs, Told.runs}
+use Rattle.kahn_needs.proofs.{Ways.both_stand, Ways.reads_or, Needing.fed_stands, Needing.held_given, Needing.take_below, Needing.take_length, Searching.given_there, Searching.counted_there, Benched.events_at, Told.have_needs, Told.runs}
 
--- a number that was told, and none beyond the last
-pub counted_at : (f : ℕ → ℕ) (xs : List ℕ) (n : ℕ) → AreCounted f xs n → ((d : ℕ) → n ≤ d → f d ≡ 0) → (d : ℕ) → slice_index_or xs d 0 ≡ f d
-counted_at f xs n h none d = by (cases_lt d (length xs))
-  where
-    by : (d < length xs) ⊎ (length xs ≤ d) → slice_index_or xs d 0 ≡ f d
-    by (inl l) = let g = there xs d l in get_or_from_slice_get xs d g.0 0 g.1 ∙ h.each d g.0 g.1
-    by (inr l) = let e = h.count in get_or_past xs d 0 l ∙ sym (none d (omega (arith, l, e)))
+-- of each channel how many values were taken
+abbrev pub taken_in : Seats → ℕ → ℕ
+taken_in b d = count b.taken d
+
+-- of each instance how many events were done
+abbrev pub events_in : Seats → ℕ → ℕ
+events_in b p = events_seen (slice_get b.cells p)
 
 -- ---- what each instance did
 
@@ -60,7 +64,7 @@ module _ (b : Seats) (laid : HaveSeats b) where
         all = s.all;
         are = record { stand = s.stand; none = s.none };
         same = sym (ap events_seen at);
-        took = λ q d r. s.took q ∙ sym (taken_there b laid p q d x at r);
+        took = λ q d r. s.took q ∙ sym (counted_there b laid p q d x at r);
         gave = λ q d w inner. s.gave q d w ∙ sym (sent_there p q d x at w inner);
       }
   did_by p None at = record {
@@ -77,18 +81,35 @@ module _ (b : Seats) (laid : HaveSeats b) where
   did : (p : ℕ) → Did b p
   did p = did_by p (slice_get b.cells p) refl
 
-  module _ (values events : List ℕ) (of_values : AreCounted (taken_in b) values (length N.channels)) (of_events : AreCounted (events_in b) events (length N.instances)) where
+  module _ (values events : List ℕ) (of_values : values ≡ b.taken) (of_events : events ≡ b.done) where
     abbrev x : Cut
     x = cut_told N values events
 
     value_is : (d : ℕ) → slice_index_or values d 0 ≡ taken_in b d
-    value_is = counted_at (taken_in b) values (length N.channels) of_values (λ d l. ap taken_of (slice_get_past b.queues.queues d (let n = laid.queued.count ∙ ap (λ t. length (network_of t).channels) laid.network in omega (arith, l, n))))
+    value_is d = ap (λ l. slice_index_or l d 0) of_values
 
     event_is : (p : ℕ) → x.events p ≡ events_in b p
-    event_is = counted_at (events_in b) events (length N.instances) of_events (λ p l. ap events_seen (slice_get_past b.cells p (let n = laid.count in omega (arith, l, n))))
+    event_is p = ap (λ l. slice_index_or l p 0) (of_events ∙ laid.done) ∙ events_at b.cells p
+
+    -- of what is read the queue says the same
+    queue_is : (p q d : ℕ) → actual_at (instance_at N p) q ≡ Reads d → taken_in b d ≡ taken_of (slice_get b.queues.queues d)
+    queue_is p q d r = laid.tally.read p q d (ap (λ t. actual_at (instance_at (network_of t) p) q) laid.network ∙ r)
 
     given_is : (d : ℕ) → source N (Channel d) ≡ Given → x.values d ≡ taken_in b d
     given_is d s = ap (λ o. of_input o (slice_index_or values d 0)) s ∙ value_is d
+
+    -- a number for each channel and instance, and what it is
+    pub are_counts : NeedsCounts N I values events
+    are_counts = record {
+      channels = ap length of_values ∙ laid.tally.size ∙ ap (λ t. length (network_of t).channels) laid.network;
+      instances = ap length (of_events ∙ laid.done) ∙ length-map b.cells cell_events ∙ laid.count;
+      read = λ p q d r. (
+        (did p).tapes,
+        subst (λ n. Reaches N I p n (did p).tapes) ((did p).same ∙ sym (event_is p)) (record { tapes = (did p).are; does = (did p).does; all = (did p).all }),
+        (did p).took q d r ∙ sym (value_is d),
+      );
+      unread = λ d none. value_is d ∙ laid.tally.unread d (λ p q r. none p q (ap (λ t. actual_at (instance_at (network_of t) p) q) (sym laid.network) ∙ r));
+    }
 
     -- ---- the histories that it made
 
@@ -108,13 +129,13 @@ module _ (b : Seats) (laid : HaveSeats b) where
         w : (w : Waiting) × (slice_get b.queues.queues d ≡ Some w)
         w =
             let l = reads_listed b.network laid.wired p q d r in
-            there b.queues.queues d (let n = laid.queued.count ∙ ap (λ t. length (network_of t).channels) laid.network in omega (arith, l, n))
+            there b.queues.queues d (let n = laid.tally.queued.count ∙ ap (λ t. length (network_of t).channels) laid.network in omega (arith, l, n))
 
         by : IsFed N d → taken_in b d ≤ length (A (Channel d))
         by (inl (s, role)) =
-            omega (arith, ap length (A_is (Channel d) Given s), length-take (x.values d) (I d), given_is d s, given_there b laid d w.0 w.1 role, ap taken_of w.1)
+            omega (arith, ap length (A_is (Channel d) Given s), length-take (x.values d) (I d), given_is d s, given_there b laid d w.0 w.1 role, queue_is p q d r ∙ ap taken_of w.1)
         by (inr (o, r', s, wr, role)) =
-            omega (arith, ap length (A_is (Channel d) (Written o) s), (did o).gave r' d wr (ap is_output role), ap taken_of w.1, ap given_of w.1)
+            omega (arith, ap length (A_is (Channel d) (Written o) s), (did o).gave r' d wr (ap is_output role), queue_is p q d r ∙ ap taken_of w.1, ap given_of w.1)
 
     begins : (p q : ℕ) → IsPrefix ((did p).tapes q) (tapes_of (instance_at N p) A q)
     begins p q = by (reads_or (actual_at (instance_at N p) q))
@@ -173,10 +194,10 @@ module _ (b : Seats) (laid : HaveSeats b) where
               by' (inl l) =
                   let r = read_of d s l in
                   let z = there b.cells r.0 (let n = laid.count in let m = r.3 in omega (arith, n, m)) in
-                  let held = (forced y h r.0 z.0 z.1).1 r.1 d j r.2 (omega (arith, taken_there b laid r.0 r.1 d z.0 z.1 r.2, e)) in
+                  let held = (forced y h r.0 z.0 z.1).1 r.1 d j r.2 (omega (arith, counted_there b laid r.0 r.1 d z.0 z.1 r.2, e)) in
                   omega (arith, ap length (held_given N I y held.0 (Channel d) s), take_length (y.values d) (I d), held.1)
               by' (inr l) =
-                  let z = ap taken_of (slice_get_past b.queues.queues d (let n = laid.queued.count ∙ ap (λ t. length (network_of t).channels) laid.network in omega (arith, l, n))) in
+                  let z = get_or_past b.taken d 0 (let n = laid.tally.size ∙ ap (λ t. length (network_of t).channels) laid.network in omega (arith, l, n)) in
                   absurd (omega (arith, z, e))
 
           by : (src : Source) → source N (Channel d) ≡ src → x.values d ≤ y.values d
@@ -198,6 +219,14 @@ module _ (b : Seats) (laid : HaveSeats b) where
             enough = enough y.0 y.1;
             least = λ z s. let h : HoldsAt N I z c k = (s.0, slice_get_within (held_in N I z s.0 c) k v s.1) in (within_values z h, within_events z h);
           }
+
+-- needs that were found are of all events that were done
+pub found_all : (s : Seeking) (r : Result Found CodeFault) → IfOk r (AreOfDone s.done) → IfOk r (IsFoundBy s)
+found_all s (Ok (found.Needs x)) h = h
+found_all s (Ok found.Never) h = absurd h
+found_all s (Ok found.Ring) h = absurd h
+found_all s (Ok found.Bound) h = absurd h
+found_all s (Err f) h = tt
 
 -- ---- where no cut has a value, none stands
 

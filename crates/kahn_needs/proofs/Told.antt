@@ -1,5 +1,5 @@
 -- The laws of needs, proved.
-use Rattle.kahn_needs.proofs.Common.{fun_ext, arith, ◌≡◌, ◌⊎◌, inl, inr, ℕ, zero, suc, ◌≤◌, ◌<◌, List, [], ◌∷◌, ◌++◌, length, take, refl, sym, ap, ◌∙◌, subst, le_refl, eq-or-lt_of_le, le_trans, Option, Some, None, slice_get, slice_index_or, get_or_past, take-append-le, slice_get_within, Value, Line, Channel, Schema, idle, instance_at, Given, Written, Histories, Inputs, out, source, iterate, IsPrefix, Stands, AreInputsExtended, AreRight, prefix_refl, prefix_trans, prefix_get, feeds, out_grows, chain, one_value, inputs_grow, stand_in, Cut, first_values, held_in, Suffices, IsCutWithin, AreNeeds, AreInOrder, AreParts, HaveNeeds, AreOneCut, AreEnough, AreExact, IsMadeIn, AreRunsNeeds, AreDone, AreSameNeeds, IsTight, AreTight}
+use Rattle.kahn_needs.proofs.Common.{fun_ext, arith, ◌≡◌, ℕ, zero, suc, ◌≤◌, ◌<◌, List, [], ◌∷◌, ◌++◌, length, take, refl, sym, ap, ◌∙◌, subst, le_refl, le_trans, Option, Some, None, slice_get, slice_index_or, get_or_past, take-append-le, slice_get_within, Value, Line, Channel, Schema, idle, instance_at, Given, Written, Histories, Inputs, out, source, iterate, IsPrefix, Stands, AreInputsExtended, AreRight, prefix_refl, prefix_trans, prefix_get, feeds, out_grows, chain, one_value, inputs_grow, stand_in, Cut, first_values, held_in, Suffices, IsCutWithin, AreNeeds, AreInOrder, AreParts, HaveNeeds, AreOneCut, AreEnough, AreExact, IsMadeIn, AreRunsNeeds, AreDone, AreSameNeeds, IsTight, AreTight}
 use Rattle.std.proofs.Math.Nat.{le_antisymm}
 use Rattle.kahn_streams.specs.{declared.answer.End.End, declared.answer.Verdict.Verdict}
 use Rattle.kahn_needs.proofs.{Needing.take_below, Needing.held_all, Needing.held_made, Needing.held_more, Needing.held_stands, Needing.held_within, Needing.Found, Needing.found, Ways.get_there}

@@ -1,5 +1,5 @@
 -- What the process of an instance does, step by step: on tapes whose values stand all its runs go the same way.
-use Rattle.kahn_needs.proofs.Common.{eqb_refl, fun_ext, arith, ◌≡◌, ◌⊎◌, inl, inr, ℕ, zero, suc, ◌+◌, ◌≤◌, ◌<◌, ◌==◌, max, Bool, true, false, if◌then◌else◌, List, [], ◌∷◌, ◌++◌, length, refl, sym, ap, ◌∙◌, subst, le_refl, Option, Some, get_or, slice_get, length-append, le-max_left, le-max_right, cases_lt, slice_get_within, slice_get-get_or, Failure, Value, Line, Channel, Port, Tapes, Script, Give, Fail, Waits, ScriptOutcome, Got, Dry, Fault, Reached, play, Store, Schema, Actual, Reads, Writes, Hands, instance_at, actual_at, Histories, Inputs, IsPrefix, Ending, Waiting, ending, exec_at, goes_to, out, tape_of, tapes_of, values_at, Step, Took, Sent, Turned, Follows, here, took, sent, turned, values_taken, sends_of, and_then, since, RanBy, StoppedAt, and_more, counted, exec_alike, one_value, prefix_get, script_at, play_on, ran, found_in, AllStand, StoodBy, View, exec_on, sent_on, IsShortest, values_append}
+use Rattle.kahn_needs.proofs.Common.{eqb_refl, fun_ext, arith, ◌≡◌, ◌⊎◌, inl, inr, ℕ, zero, suc, ◌+◌, ◌≤◌, ◌<◌, ◌==◌, max, Bool, true, false, if◌then◌else◌, List, [], ◌∷◌, ◌++◌, length, refl, sym, ap, ◌∙◌, subst, le_refl, Option, Some, get_or, slice_get, length-append, le-max_left, le-max_right, cases_lt, slice_get_within, slice_get-get_or, Failure, Value, Line, Channel, Port, Tapes, Script, Give, Fail, Waits, ScriptOutcome, Got, Dry, Fault, Reached, play, Store, Schema, Actual, Reads, Writes, Hands, instance_at, actual_at, Histories, Inputs, IsPrefix, Ending, Waiting, ending, exec_at, goes_to, out, tape_of, tapes_of, values_at, Step, Took, Sent, Turned, Follows, here, took, sent, turned, values_taken, sends_of, and_then, since, RanBy, StoppedAt, and_more, counted, exec_alike, one_value, prefix_get, script_at, play_on, ran, found_in, AllStand, AreTapes, StoodBy, View, exec_on, sent_on, IsShortest, values_append}
 use Rattle.kahn_streams.specs.Script.{Cut as Unended}
 use Rattle.kahn_streams.proofs.Fuel.{play_alike}
 
@@ -12,11 +12,6 @@ pub both_stand : (N : Schema) (I : Inputs) (c : Line) (xs ys : List Value) → A
 both_stand N I c xs ys h g le = found_in xs ys (λ k v e.
     let w = get_there ys k v (omega (arith, slice_get_within xs k v e, le)) in
     w.1 ∙ ap Some (one_value N I c k w.0 v (g k w.0 w.1) (h k v e)))
-
--- the values of a tape stand on the channel that is handed over; there are none where none is read
-pub record AreTapes (N : Schema) (I : Inputs) (p : ℕ) (T : Tapes) : Type 0 where
-  pub stand : (q d : ℕ) → actual_at (instance_at N p) q ≡ Reads d → AllStand N I (Channel d) (T q)
-  pub none : (q : ℕ) → ((d : ℕ) → actual_at (instance_at N p) q ≡ Reads d → ⊥) → T q ≡ []
 
 pub reads_or : (a : Actual) → ((d : ℕ) × (a ≡ Reads d)) ⊎ ((d : ℕ) → a ≡ Reads d → ⊥)
 reads_or (Reads d) = inl (d, refl)

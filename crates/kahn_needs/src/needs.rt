@@ -1,10 +1,14 @@
 //! What a value needs.
 
-ghost use Rattle.std.specs.Prelude.{◌≡◌, ◌≤◌, IfOk, Some, length, slice_get};
+ghost use Rattle.std.specs.Prelude.{◌≡◌, ◌≤◌, ◌+◌, IfOk, Some, slice_get};
 ghost use Rattle.kahn_streams.specs.{Inputs.inputs_of, Network.Given, Network.network_of, Solution.source, Network.Schema, Solution.Inputs, declared.token.Token.Token};
-ghost use Rattle.kahn_needs.specs.{Finding.AreNeedsFound, Finding.IsNetworkLine, Finding.IsSeeking, inner.Bench.AreCounted, inner.Bench.events_in, inner.Bench.taken_in, inner.Finding.AreForced, inner.Finding.HasCome, inner.Finding.watch_of, Laws.AreDone, Laws.AreEnough, Laws.AreExact, Laws.AreInOrder, Laws.AreOneCut, Laws.AreParts, Laws.AreRunsNeeds, Laws.AreSameNeeds, Laws.AreTight, Laws.GoBack, Laws.HaveNeeds, Example.SecondDoubled};
+ghost use Rattle.kahn_needs.specs.Example.{SecondDoubled};
+ghost use Rattle.kahn_needs.specs.Finding.{AreNeedsFound, IsFoundBy, IsNetworkLine, IsSeeking, events_total};
+ghost use Rattle.kahn_needs.specs.Laws.{AreDone, AreEnough, AreExact, AreInOrder, AreOneCut, AreParts, AreRunsNeeds, AreSameNeeds, AreTight, GoBack, HaveNeeds};
+ghost use Rattle.kahn_needs.specs.inner.Finding.{AreForced, AreOfDone, HasCome, watch_of};
 
-use crate::search::{Bench, Demand, Sought, search};
+use crate::bench::Bench;
+use crate::search::{Demand, Sought, search};
 use kahn_code::CodeFault;
 use kahn_streams::{Input, Line, Network, Tokens, Value};
 use std::alloc::Global;
@@ -20,28 +24,12 @@ fn kept_of(line: Line) -> Option<usize>
     }
 }
 
-/// Of each channel, how many values were taken.
-#[tactic(auto, using(crate::proofs::Counted::counted_none, crate::proofs::Counted::counted_more))]
-fn all_taken(alloc: Global, bench: &Bench<'_>) -> Result<Vec<u64>, CodeFault>
-    ensures { IfOk result (λ v. AreCounted (taken_in bench.now) v.items (length (network_of bench.now.network).channels)) }
+fn copied(alloc: Global, counts: &Vec<u64>) -> Result<Vec<u64>, CodeFault>
+    ensures { IfOk result (λ v. v.items ≡ counts.now.items) }
 {
-    let mut counts = Vec::with_capacity(alloc, bench.channels())?;
-    for channel in 0..bench.channels() {
-        counts.push(bench.taken(channel))?;
-    }
-    Ok(counts)
-}
-
-/// Of each instance, how many events were done.
-#[tactic(auto, using(crate::proofs::Counted::counted_none, crate::proofs::Counted::counted_more))]
-fn all_events(alloc: Global, bench: &Bench<'_>) -> Result<Vec<u64>, CodeFault>
-    ensures { IfOk result (λ v. AreCounted (events_in bench.now) v.items (length (network_of bench.now.network).instances)) }
-{
-    let mut counts = Vec::with_capacity(alloc, bench.instances())?;
-    for instance in 0..bench.instances() {
-        counts.push(bench.events(instance))?;
-    }
-    Ok(counts)
+    let mut list = Vec::with_capacity(alloc, counts.len())?;
+    list.extend_from_slice(counts)?;
+    Ok(list)
 }
 
 pub(crate) fn value_at(tokens: &Tokens, place: u64) -> Value
@@ -58,12 +46,13 @@ fn told(alloc: Global, bench: &Bench<'_>, line: Line, place: u64) -> Result<Foun
     requires watch { bench.now.watch ≡ watch_of line }
     requires come { HasCome bench.now line place }
     requires forced { AreForced bench.now line place }
-    ensures { IfOk result (AreNeedsFound (network_of bench.now.network) (inputs_of bench.now.input) line place) }
+    ensures found { IfOk result (AreNeedsFound (network_of bench.now.network) (inputs_of bench.now.input) line place) }
+    ensures needs { IfOk result (AreOfDone bench.now.done) }
 {
     bench.laid();
     let value = bench.value(line, place);
-    let values = all_taken(alloc, bench)?;
-    let events = all_events(alloc, bench)?;
+    let values = copied(alloc, bench.taken())?;
+    let events = copied(alloc, bench.done())?;
     Ok(Found::Needs(Needs {
         value,
         values,
@@ -109,6 +98,7 @@ impl<'n> Seeker<'n> {
         requires written { source (network_of network.now) line ≡ Given → ⊥ }
         ensures seeking { IfOk result (IsSeeking network.now input.now line 0) }
         ensures left { IfOk result (λ s. s.left ≡ bound) }
+        ensures none { IfOk result (λ s. events_total s.done ≡ 0) }
     {
         let bench = Bench::new(alloc, network, input, kept_of(line))?;
         Ok(Seeker {
@@ -125,6 +115,7 @@ impl<'n> Seeker<'n> {
         requires written { source (network_of self.network) line ≡ Given → ⊥ }
         ensures seeking { IfOk result (IsSeeking self.entry.network self.entry.input line 0) }
         ensures left { IfOk result (λ s. s.left ≡ self.entry.left) }
+        ensures none { IfOk result (λ s. events_total s.done ≡ 0) }
     {
         let left = self.left;
         let bench = self.bench.reopened(alloc, kept_of(line))?;
@@ -136,12 +127,14 @@ impl<'n> Seeker<'n> {
         })
     }
 
-    /// What the value at a place needs, counted from 0, or that there is none. No place comes before that of the last call. All calls together
+    /// What the value at a place needs, counted from 0, or that there is none. No place is before the last call's. All calls together
     /// do at most the events that the search may do, and none that isn't needed. It refuses only if memory was refused.
     pub fn find(&mut self, alloc: Global, place: u64) -> Result<Found, CodeFault>
         requires { self.old.next ≤ place }
         ensures same { IsSeeking self.old.network self.old.input self.old.line place self.new }
         ensures left { self.new.left ≤ self.old.left }
+        ensures counted { self.new.left + events_total self.new.done ≡ self.old.left + events_total self.old.done }
+        ensures by { IfOk result (IsFoundBy self.new) }
         ensures found { IfOk result (AreNeedsFound (network_of self.old.network) (inputs_of self.old.input) self.old.line place) }
     {
         self.next = place;
@@ -153,6 +146,7 @@ impl<'n> Seeker<'n> {
             Sought::Never => Ok(Found::Never),
             Sought::Ring => Ok(Found::Ring),
             Sought::Bound => Ok(Found::Bound),
+            Sought::Spent => Ok(Found::Bound),
             Sought::NoMemory => Err(CodeFault::NoMemory),
         }
     }
@@ -181,11 +175,11 @@ pub struct Needs {
 pub enum Found {
     /// The value stands, and has these needs.
     Needs(Needs),
-    /// No value ever stands there.
+    /// No value ever stands there: waits lead from it to a value that an input hasn't, or whose writer has ended or has a fault.
     Never,
-    /// No value ever stands there, since processes that it waits for wait on one another.
+    /// No value ever stands there: waits lead from it to one that waits for itself.
     Ring,
-    /// The bound was used up before.
+    /// The bound was used up before, or an instance has done as many events as one may.
     Bound,
 }
 

@@ -1,12 +1,25 @@
 -- Inner. The cells of a network over its plain queues, run by single events.
-use Rattle.std.specs.Prelude.{◌≡◌, ℕ, ◌+◌, ◌≤◌, List, length, Option, Some, None, slice_get, slice_set}
+use Rattle.std.specs.Prelude.{◌≡◌, ℕ, ◌+◌, ◌≤◌, List, length, map, Option, Some, None, slice_get, slice_set}
 use Rattle.kahn_streams.specs.Script as script
 use Rattle.kahn_streams.specs.Solution as end
 use Rattle.kahn_streams.specs.{Meaning.Store, Network.Reads, Network.actual_at, Network.instance_at, Network.network_of, Inputs.Lists, Inputs.inputs_of, Solution.ending, Wiring.IsWellWired, declared.tree.Program.Program}
 use Rattle.kahn_code.specs.{Cells.StoodBy, Lines.AreQueued, Lines.Lines, Lines.place_at, Lines.taken_of, Lines.waiting_of, Progress.IsAt, Progress.Paused, Progress.CellView, Progress.told_view, Standing.count, declared.progress.Pause.Pause}
 use Rattle.kahn_code.specs.declared.progress.Pause.TheVariants as pause
 
--- the program and the input, the channel of which what is sent is kept, the program of the code, the cells and the queues
+-- the queues, and how many values were taken from each channel
+pub record Tallied : Type 0 where
+  pub lines : Lines
+  pub taken : List ℕ
+
+-- so many were taken from each channel: from one that nobody reads none
+pub record IsTally (s : Lines) (taken : List ℕ) : Type 0 where
+  pub queued : AreQueued s
+  pub size : length taken ≡ length (network_of s.network).channels
+  pub read : (p q d : ℕ) → actual_at (instance_at (network_of s.network) p) q ≡ Reads d → count taken d ≡ taken_of (slice_get s.queues d)
+  pub unread : (d : ℕ) → ((p q : ℕ) → actual_at (instance_at (network_of s.network) p) q ≡ Reads d → ⊥) → count taken d ≡ 0
+
+-- the program and the input, the channel of which what is sent is kept, the program of the code, the cells and the queues, and how many values
+-- were taken from each channel and how many events each instance did
 pub record Seats : Type 0 where
   pub network : Program
   pub input : Lists
@@ -14,10 +27,17 @@ pub record Seats : Type 0 where
   pub code : Program
   pub cells : List CellView
   pub queues : Lines
+  pub taken : List ℕ
+  pub done : List ℕ
 
 -- what contracts see of these cells over these queues
-abbrev pub seats_of : Program → Lists → Option ℕ → Program → List CellView → Lines → Seats
-seats_of t lists watch code cells queues = record { network = t; input = lists; watch = watch; code = code; cells = cells; queues = queues }
+abbrev pub seats_of : Program → Lists → Option ℕ → Program → List CellView → Tallied → List ℕ → Seats
+seats_of t lists watch code cells ports done =
+    record { network = t; input = lists; watch = watch; code = code; cells = cells; queues = ports.lines; taken = ports.taken; done = done }
+
+-- the events of a cell
+abbrev pub cell_events : CellView → ℕ
+cell_events x = x.events
 
 -- what the cell of instance p of the table says of its process is true
 abbrev pub Stood : Seats → ℕ → CellView → Type 0
@@ -40,7 +60,8 @@ pub record HaveSeats (b : Seats) : Type 0 where
   pub each : (p : ℕ) (x : CellView) → slice_get b.cells p ≡ Some x → HasItsSeat b p x
   pub network : b.queues.network ≡ b.network
   pub input : b.queues.input ≡ b.input
-  pub queued : AreQueued b.queues
+  pub tally : IsTally b.queues b.taken
+  pub done : b.done ≡ map cell_events b.cells
 
 -- it is of this network, for this input, and what is sent on that channel is kept
 abbrev pub AreSeatsOf : Program → Lists → Option ℕ → Seats → Type 0
@@ -82,23 +103,12 @@ pub record HasActed (b d : Seats) (p : ℕ) (z : Pause) : Type 0 where
   pub was : slice_get b.cells p ≡ Some old
   pub new : CellView
   pub cells : d.cells ≡ slice_set b.cells p new
+  pub done : d.done ≡ slice_set b.done p new.events
   pub events : (old.events ≤ new.events) × (new.events ≤ old.events + 1)
+  pub spent : z ≡ pause.Spent → new.events ≡ old.events + 1
   pub paused : Paused (network_of d.network) (inputs_of d.input) d.watch p (told_view new) (IsStopped d p z)
 
 -- the events of a cell
 abbrev pub events_seen : Option CellView → ℕ
 events_seen None = 0
 events_seen (Some x) = x.events
-
--- the numbers of the first n, each by what it is
-pub record AreCounted (f : ℕ → ℕ) (xs : List ℕ) (n : ℕ) : Type 0 where
-  pub count : length xs ≡ n
-  pub each : (d x : ℕ) → slice_get xs d ≡ Some x → x ≡ f d
-
--- of each channel how many values were taken
-abbrev pub taken_in : Seats → ℕ → ℕ
-taken_in b d = taken_of (slice_get b.queues.queues d)
-
--- of each instance how many events were done
-abbrev pub events_in : Seats → ℕ → ℕ
-events_in b p = events_seen (slice_get b.cells p)

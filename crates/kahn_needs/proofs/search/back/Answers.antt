@@ -1,4 +1,4 @@
-use Rattle.std.proofs.lemmas.List.Elements.{All-pop}
-use Rattle.kahn_needs.proofs.Common.{IsDemand}
-use Rattle.kahn_needs.specs.declared.search.Demand.{Demand}
 use Rattle.kahn_needs.proofs.search.back.Goals as goal
+
+pub has_come-requires : goal.has_come-requires
+has_come-requires c = c.requires.root.listed

@@ -1,4 +1,4 @@
-use Rattle.kahn_needs.proofs.Common.{◌≤◌, AreSeatsOf, AreForced, AreDemands, IsWaitChain, IsDemand}
+use Rattle.kahn_needs.proofs.Common.{◌≡◌, ◌+◌, ◌≤◌, events_total, AreSeatsOf, AreForced, AreDemands, IsWaitChain, IsDemand}
 use Rattle.kahn_needs.proofs.search.search.Given as goal
 
 abbrev pub invariant-loop : goal.invariant-loop
@@ -9,4 +9,5 @@ invariant-loop g l = record {
   chain : IsWaitChain l.bench l.root.line l.root.place l.chain;
   waiting : AreDemands l.bench l.root.line l.root.place l.waiting.items;
   left : l.left ≤ l.fn.left;
+  counted : l.left + events_total l.bench.done ≡ l.fn.left + events_total l.fn.bench.done;
 }

@@ -1,6 +1,6 @@
 use Rattle.kahn_needs.proofs.Common.{◌∙◌, length, instance_at, network_of}
 use Rattle.kahn_needs.proofs.Benched.{fresh_more, fresh_one}
-use Rattle.kahn_needs.proofs.search.named_cells.Goals as goal
+use Rattle.kahn_needs.proofs.bench.named_cells.Goals as goal
 
 pub loop-instance-preserved : goal.loop-instance-preserved
 loop-instance-preserved g c =

@@ -1,5 +1,5 @@
 use Rattle.kahn_needs.specs.inner.Bench.{AreUnmoved}
-use Rattle.kahn_needs.proofs.search.named_cells.Given as goal
+use Rattle.kahn_needs.proofs.bench.named_cells.Given as goal
 
 abbrev pub ghost-new : goal.ghost-new
 ghost-new g a = g.input

@@ -2,7 +2,7 @@ use Rattle.std.proofs.Common.{arith}
 use Rattle.kahn_needs.proofs.Common.{◌∙◌, ap, sym, subst, Line, HasCome, HasValue, network_of}
 use Rattle.kahn_needs.specs.{Finding.IsNetworkLine, inner.Finding.watch_of}
 use Rattle.kahn_needs.proofs.{Counted.printed_value, Counted.value_there, Searching.parameter_there}
-use Rattle.kahn_needs.proofs.search.Bench.value.Goals as goal
+use Rattle.kahn_needs.proofs.bench.Bench.value.Goals as goal
 
 pub kept-requires : goal.kept-requires
 kept-requires c =
