@@ -20,6 +20,9 @@ use std::random::RandomSource;
 use std::rt::Runtime;
 use std::{env, io};
 
+/// How many bytes are written at once: tables are long, and a call costs as much as thousands of bytes.
+const AT_ONCE: usize = 65536;
+
 /// What the program text and the input text are called in notes.
 fn paths_of(alloc: Global, options: &ExplainOptions) -> Result<(String, String), AllocError> {
     let program = options.program.as_deref().unwrap_or("<stdin>");
@@ -65,7 +68,7 @@ fn answered<R: Runtime + AllocGlobal + RandomSource, W: Write>(
         all,
     };
     let (stream, clock) = (io::writer(rt), rt);
-    match BufWriter::new(rt.alloc(), Patient { stream, clock }) {
+    match BufWriter::with_capacity(rt.alloc(), AT_ONCE, Patient { stream, clock }) {
         Ok(output) => {
             let mut out = Pipe {
                 writer: output,

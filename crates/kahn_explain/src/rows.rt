@@ -12,6 +12,9 @@ use kahn_texts::{WriteFault, flush, put_line, uncounted};
 use std::alloc::{AllocError, Global};
 use std::io::Write;
 
+/// How many numbers of a row are compared at once with those of the row before.
+const BLOCK: usize = 64;
+
 /// Writes pieces of a table. Never allocates.
 pub(crate) fn put<W: Write>(out: &mut W, pieces: &[&[u8]]) -> Result<(), WriteFault>
     ensures { HasPut (W.contents out.old) (W.contents out.new) result }
@@ -105,19 +108,46 @@ impl Numbers {
         true
     }
 
+    // Rewrites the numbers from a place on, if each has as many digits as the one before it there.
+    fn renewed(&mut self, start: usize, block: &[u64]) -> bool {
+        if has_block(&self.numbers, start, block) {
+            return true;
+        }
+        for (index, number) in block.iter().enumerate() {
+            let place = start.saturating_add(index);
+            let is_same = self.numbers.get(place) == Some(number);
+            if !is_same && !self.replaced(place, *number) {
+                return false;
+            }
+        }
+        true
+    }
+
     /// Makes the text the text of these numbers.
     fn renew(&mut self, numbers: &[u64]) -> Result<(), AllocError> {
         if self.numbers.len() != numbers.len() {
             return self.write(numbers);
         }
-        for (index, number) in numbers.iter().enumerate() {
-            let is_same = self.numbers.get(index) == Some(number);
-            if !is_same && !self.replaced(index, *number) {
+        for (number, block) in numbers.chunks(BLOCK).enumerate() {
+            if !self.renewed(number.saturating_mul(BLOCK), block) {
                 return self.write(numbers);
             }
         }
         Ok(())
     }
+}
+
+/// Whether a block of numbers is in the list from a place on. All are looked at, so that a processor compares several at once.
+fn has_block(numbers: &[u64], start: usize, block: &[u64]) -> bool {
+    if start > numbers.len() || numbers.len() - start < block.len() {
+        return false;
+    }
+    let there = &numbers[start..];
+    let mut differs = 0;
+    for place in 0..block.len() {
+        differs |= there[place] ^ block[place];
+    }
+    differs == 0
 }
 
 /// The numbers of a row of a table of needs.
